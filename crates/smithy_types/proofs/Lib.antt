@@ -1,0 +1,15 @@
+pub mod CalendarLaws
+pub mod Coefficients
+pub mod DateLaws
+pub mod DecimalLaws
+pub mod DigitLaws
+pub mod EpochReading
+pub mod Lookups
+pub mod MapLemmas
+pub mod OnLiterals
+pub mod Positions
+pub mod ReadBack
+pub mod Readings
+pub mod Rows
+pub mod StreamSteps
+pub mod Views

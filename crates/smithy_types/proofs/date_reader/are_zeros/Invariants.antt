@@ -1,0 +1,6 @@
+use Rattle.std.proofs.Common.{◌≡◌, ◌==◌, drop}
+use Rattle.std.specs.List.{list_all}
+use Rattle.smithy_types.proofs.date_reader.are_zeros.Given as goal
+
+abbrev pub invariant-loop-b : goal.invariant-loop-b
+invariant-loop-b l = list_all (λ b. b == 48) (drop l.b-index l.text) ≡ list_all (λ b. b == 48) l.text

@@ -1,0 +1,81 @@
+// Reading a source to its end, and writing all of a text.
+ghost use Rattle.std.specs.Prelude.{◌≡◌, ◌≤◌, length, IfOk, OnOk, OnErr, Err};
+ghost use Rattle.smithy_types.specs.Causes.{Rose};
+ghost use Rattle.smithy_types.specs.Streams.{IsWhole, IsTooLong, Gained, GainedPart, IsFull};
+
+use crate::sink::Sink;
+use crate::source::{Failed, Source};
+use std::alloc::{AllocError, Global};
+
+/// The most bytes that an input may have.
+pub const MOST: usize = 16_777_216;
+
+// how many bytes a read asks for at most
+const PIECE: usize = 4096;
+
+/// Why a source was not read to its end.
+#[derive(Clone, Copy, Debug, PartialEq, Eq, Drop)]
+pub enum ReadError {
+    /// The source failed.
+    Failed,
+    /// It has more than `MOST` bytes.
+    TooLong,
+    /// Memory was wanted and not there.
+    OutOfMemory,
+}
+
+impl From<AllocError> for ReadError {
+    ghost use Rattle.smithy_types.specs.declared.streams.ReadError.TheVariants.{OutOfMemory};
+
+    ghost from_gives = { λ _ e. e ≡ OutOfMemory };
+
+    fn from(_error: AllocError) -> ReadError {
+        ReadError::OutOfMemory
+    }
+}
+
+/// All bytes that the source has, at most `MOST`. `TooLong` comes where it has more: `MOST` and one byte were then read.
+/// `Failed` comes where the source failed. Each read asks for no byte past the first that is too many. Takes memory.
+pub fn read_all<S: Source>(alloc: Global, source: &mut S) -> Result<Vec<u8>, ReadError>
+    ensures whole { IfOk result (λ bytes. IsWhole (S.left source.old) bytes.items (S.left source.new)) }
+    ensures short { IfOk result (λ bytes. length bytes.items ≤ MOST) }
+    ensures too_long { result ≡ Err ReadError.TooLong → IsTooLong MOST (S.left source.old) (S.left source.new) }
+    ensures failed { result ≡ Err ReadError.Failed → Rose (S.faults source.old) (S.faults source.new) }
+    ensures count { S.faults source.old ≤ S.faults source.new }
+{
+    let mut bytes = Vec::new(alloc);
+    let mut piece = [0u8; PIECE];
+    while bytes.len() <= MOST {
+        let want = PIECE.min(MOST + 1 - bytes.len());
+        let n = match source.read(&mut piece[..want]) {
+            Ok(n) => n,
+            Err(_) => return Err(ReadError::Failed),
+        };
+        if n == 0 {
+            return Ok(bytes);
+        }
+        bytes.extend_from_slice(&piece[..n])?;
+    }
+    Err(ReadError::TooLong)
+}
+
+/// Writes all of these bytes, in as many pieces as it takes. `Failed` comes only where the sink failed; some of the bytes, from
+/// their start on and not all, may then be written. Takes no memory of its own.
+pub fn write_all<K: Sink>(sink: &mut K, bytes: &[u8]) -> Result<(), Failed>
+    ensures whole { OnOk result (Gained (K.written sink.old) bytes.now (K.written sink.new)) }
+    ensures part { OnErr result (GainedPart (K.written sink.old) bytes.now (K.written sink.new)) }
+    ensures cause { OnErr result (Rose (K.faults sink.old) (K.faults sink.new)) }
+    ensures count { K.faults sink.old ≤ K.faults sink.new }
+    ensures room { K.room sink.new ≡ K.room sink.old }
+    ensures sure { OnErr result (IsFull (K.room sink.new) (K.written sink.new)) }
+{
+    let mut done = 0;
+    while done < bytes.len() {
+        let n = sink.write(&bytes[done..])?;
+        done += n;
+    }
+    Ok(())
+}
+
+#[cfg(test)]
+mod tests;
