@@ -1,0 +1,4 @@
+pub mod Kinds
+pub mod ShapeIds
+pub mod ShapeIdParts
+pub mod Traits

@@ -1,0 +1,27 @@
+// Identifiers and kinds of shapes, and the traits that a schema carries.
+#![tactic(auto)]
+
+pub mod laws;
+mod marker_traits;
+mod payload_hint;
+mod shape_id;
+mod shape_type;
+mod text_traits;
+mod traits;
+
+pub use marker_traits::{
+    EventHeaderTrait, EventPayloadTrait, HostLabelTrait, HttpLabelTrait, HttpPayloadTrait,
+    HttpQueryParamsTrait, HttpResponseCodeTrait, SensitiveTrait, StreamingTrait, XmlAttributeTrait,
+    XmlFlattenedTrait,
+};
+pub use payload_hint::PayloadHint;
+pub use shape_id::ShapeId;
+pub use shape_type::ShapeType;
+pub use text_traits::{
+    HttpHeaderTrait, HttpPrefixHeadersTrait, HttpQueryTrait, JsonNameTrait, MediaTypeTrait,
+    XmlNameTrait,
+};
+pub use traits::{HttpTrait, TimestampFormat, TimestampFormatTrait, XmlNamespaceTrait};
+
+#[cfg(test)]
+mod tests;
