@@ -1,0 +1,9 @@
+pub mod SpellingLaws
+pub mod PutLemmas
+pub mod PlaceLemmas
+pub mod HeaderValueLaws
+pub mod ValueLemmas
+pub mod ItemLemmas
+pub mod Gathering
+pub mod DateLemmas
+pub mod QuoteLemmas

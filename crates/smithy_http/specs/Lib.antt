@@ -1,0 +1,12 @@
+pub mod Requests
+pub mod Spelling
+pub mod Facts
+pub mod Headers
+pub mod Pairs
+pub mod Lends
+pub mod Refusals
+pub mod ListTexts
+pub mod HeaderValues
+pub mod DateLists
+pub mod Quoting
+pub mod ItemReading

@@ -1,0 +1,36 @@
+-- How headers are kept: as pairs, with the place of each name as long as each stands once.
+use Rattle.std.specs.Prelude.{◌≡◌, ℕ, Bool, not, List, [], ◌∷◌, Option, None, filter, position, String, string_bytes}
+use Rattle.std.specs.Global.{Global}
+use Rattle.std.specs.BTreeMap.{BTreeMap, get_by_text}
+use Rattle.smithy_types.specs.Texts.{same_text}
+use Rattle.smithy_http.specs.declared.pairs.Pair.{Pair}
+
+-- the name and the value
+abbrev pub pair_of : Pair → List ℕ × List ℕ
+pair_of p = (string_bytes p.name, p.value)
+
+-- the name
+abbrev pub name_of : Pair → List ℕ
+name_of p = string_bytes p.name
+
+-- the pair has this name
+abbrev pub is_named : List ℕ → Pair → Bool
+is_named name p = same_text (string_bytes p.name) name
+
+-- the pairs of other names
+abbrev pub named_otherwise : List ℕ → List Pair → List Pair
+named_otherwise name pairs = filter (λ p. not (is_named name p)) pairs
+
+-- the first place of a name among names
+abbrev pub place_of : List ℕ → List (List ℕ) → Option ℕ
+place_of name names = position (λ n. same_text n name) names
+
+-- each name stands once
+abbrev pub AreApart : List (List ℕ) → Type 0
+AreApart [] = Unit {0}
+AreApart (name ∷ names) = (place_of name names ≡ None) × AreApart names
+
+-- the map has the place of each name, and each stands once
+pub record IsIndex (places : BTreeMap (String Global) ℕ) (names : List (List ℕ)) : Type 0 where
+  pub at : (name : List ℕ) → get_by_text places name ≡ place_of name names
+  pub apart : AreApart names

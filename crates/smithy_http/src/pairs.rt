@@ -1,0 +1,296 @@
+// Pairs of a name and a value, in order, and the place of each name among them.
+ghost use Rattle.std.specs.Prelude.{◌≡◌, ◌∷◌, ◌++◌, [], map, position, string_bytes, false, true, ◌↔◌, IfOk, OnOk, OnErr, IsErrOf, MatchOption, vec_capacity};
+ghost use Rattle.std.specs.Bool.{OnTrue};
+ghost use Rattle.std.specs.Option.{ForSome};
+ghost use Rattle.std.specs.Str.{str_to_ascii_lowercase};
+ghost use Rattle.smithy_types.specs.Grammars as grammar;
+ghost use Rattle.smithy_types.specs.Texts.{same_text};
+ghost use Rattle.smithy_http.specs.Facts.{values_at};
+ghost use Rattle.smithy_http.specs.Headers.{put, without};
+ghost use Rattle.smithy_http.specs.Pairs.{pair_of, name_of, is_named, named_otherwise, place_of as place_of_name, AreApart, IsIndex};
+
+use crate::error::HttpError;
+use smithy_types::{Blob, OutOfMemory, is_header_value, is_token};
+use std::alloc::Global;
+use std::collections::BTreeMap;
+
+// A field, its name in lower case.
+#[derive(Drop)]
+pub(crate) struct Pair {
+    pub(crate) name: String,
+    pub(crate) value: Blob,
+}
+
+// The place of each name.
+pub(crate) type Places = BTreeMap<String, usize>;
+
+// The pair of a name in lower case and a value, once both are tested.
+pub(crate) fn tested_pair(alloc: Global, name: &str, value: &[u8]) -> Result<Pair, HttpError>
+    ensures ok { IfOk result (λ p. pair_of p ≡ (str_to_ascii_lowercase name.now, value.now)) }
+    ensures name { IsErrOf result HttpError.Name ↔ (grammar.is_token name.now ≡ false) }
+    ensures value { IsErrOf result HttpError.Value ↔ (grammar.is_token name.now ≡ true) × (grammar.is_header_value value.now ≡ false) }
+{
+    if !is_token(name) {
+        return Err(HttpError::Name);
+    }
+    if !is_header_value(value) {
+        return Err(HttpError::Value);
+    }
+    let mut lower = String::from_str(alloc, name)?;
+    lower.make_ascii_lowercase();
+    Ok(Pair {
+        name: lower,
+        value: Blob::new(alloc, value)?,
+    })
+}
+
+// The first place of a name, by a search.
+fn first_place(pairs: &[Pair], name: &str) -> Option<usize>
+    ensures { result ≡ position (is_named name.now) pairs.now }
+{
+    pairs.iter().position(|pair| pair.name.as_str() == name)
+}
+
+// The first place of a name.
+fn place_of(pairs: &[Pair], places: &Option<Places>, name: &str) -> Option<usize>
+    requires { ForSome places.now (λ m. IsIndex m (map name_of pairs.now)) }
+    ensures { result ≡ position (is_named name.now) pairs.now }
+{
+    match places {
+        Some(places) => places.get(name).copied(),
+        None => first_place(pairs, name),
+    }
+}
+
+// Whether no letter of a name is a capital one.
+fn is_in_lower_case(name: &str) -> bool
+    ensures { OnTrue result (str_to_ascii_lowercase name.now ≡ name.now) }
+{
+    for b in name.as_bytes() {
+        if b.is_ascii_uppercase() {
+            return false;
+        }
+    }
+    true
+}
+
+// Whether a name in lower case is this name, which may be in any case.
+fn is_lower_of(lower: &str, name: &str) -> bool
+    ensures { result ≡ same_text lower.now (str_to_ascii_lowercase name.now) }
+{
+    let (lower, name) = (lower.as_bytes(), name.as_bytes());
+    if lower.len() != name.len() {
+        return false;
+    }
+    for (place, b) in name.iter().enumerate() {
+        if lower[place] != b.to_ascii_lowercase() {
+            return false;
+        }
+    }
+    true
+}
+
+// The first place of a name in any case, by a search.
+fn first_place_of(pairs: &[Pair], name: &str) -> Option<usize>
+    ensures { result ≡ position (is_named (str_to_ascii_lowercase name.now)) pairs.now }
+{
+    pairs
+        .iter()
+        .position(|pair| is_lower_of(pair.name.as_str(), name))
+}
+
+// The first place of a name in any case. There is no search where places are kept and no letter is a capital one.
+fn find(pairs: &[Pair], places: &Option<Places>, name: &str) -> Option<usize>
+    requires { ForSome places.now (λ m. IsIndex m (map name_of pairs.now)) }
+    ensures { result ≡ position (is_named (str_to_ascii_lowercase name.now)) pairs.now }
+{
+    if is_in_lower_case(name) {
+        return place_of(pairs, places, name);
+    }
+    first_place_of(pairs, name)
+}
+
+// The part with the pairs of a name: the one pair, where each name stands once, or all from the first on.
+pub(crate) fn named_part<'p>(pairs: &'p [Pair], places: &Option<Places>, name: &str) -> &'p [Pair]
+    requires { ForSome places.now (λ m. IsIndex m (map name_of pairs.now)) }
+    ensures { values_at (str_to_ascii_lowercase name.now) (map pair_of result.now) ≡ values_at (str_to_ascii_lowercase name.now) (map pair_of pairs.now) }
+{
+    let Some(place) = find(pairs, places, name) else {
+        return &[];
+    };
+    match places {
+        Some(_) => &pairs[place..=place],
+        None => &pairs[place..],
+    }
+}
+
+// The first value of a name in any case, and the pairs behind it.
+pub(crate) fn next_value<'p>(pairs: &'p [Pair], name: &str) -> Option<(&'p [u8], &'p [Pair])>
+    ensures { MatchOption result (values_at (str_to_ascii_lowercase name.now) (map pair_of pairs.now) ≡ []) (λ found. values_at (str_to_ascii_lowercase name.now) (map pair_of pairs.now) ≡ found.0.now ∷ values_at (str_to_ascii_lowercase name.now) (map pair_of found.1.now)) }
+{
+    let place = first_place_of(pairs, name)?;
+    Some((pairs[place].value.as_slice(), &pairs[place + 1..]))
+}
+
+// Drops the pairs of a name in any case.
+fn drop_all_named(pairs: &mut Vec<Pair>, name: &str)
+    ensures { pairs.new.items ≡ named_otherwise (str_to_ascii_lowercase name.now) pairs.old.items }
+{
+    pairs.retain(|pair| !is_lower_of(pair.name.as_str(), name));
+}
+
+// Drops the pairs of a name in any case, where it stands. That ends the keeping of places.
+#[tactic(auto, using(crate::proofs::PutLemmas::removing))]
+pub(crate) fn remove_named(pairs: &mut Vec<Pair>, places: &mut Option<Places>, name: &str)
+    requires { ForSome places.old (λ m. IsIndex m (map name_of pairs.old.items)) }
+    ensures pairs { map pair_of pairs.new.items ≡ without (str_to_ascii_lowercase name.now) (map pair_of pairs.old.items) }
+    ensures index { ForSome places.new (λ m. IsIndex m (map name_of pairs.new.items)) }
+{
+    match find(pairs, places, name) {
+        None => {}
+        Some(_) => {
+            drop_all_named(pairs, name);
+            *places = None;
+        }
+    }
+}
+
+// A copy of a pair.
+pub(crate) fn copy_pair(alloc: Global, pair: &Pair) -> Result<Pair, OutOfMemory>
+    ensures { IfOk result (λ p. pair_of p ≡ pair_of pair.now) }
+{
+    Ok(Pair {
+        name: String::from_str(alloc, pair.name.as_str())?,
+        value: Blob::new(alloc, pair.value.as_slice())?,
+    })
+}
+
+// Drops the pairs of a name.
+fn drop_named(pairs: &mut Vec<Pair>, name: &str)
+    ensures others { pairs.new.items ≡ named_otherwise name.now pairs.old.items }
+    ensures capacity { vec_capacity pairs.new ≡ vec_capacity pairs.old }
+{
+    pairs.retain(|pair| pair.name.as_str() != name);
+}
+
+// Puts the pair at the first place of its name, and its other values go.
+fn replace(pairs: &mut Vec<Pair>, place: usize, pair: Pair)
+    requires { position (is_named (name_of pair)) pairs.old.items ≡ Some place }
+    ensures { map pair_of pairs.new.items ≡ put (map pair_of pairs.old.items) (pair_of pair) }
+{
+    drop_named(pairs, pair.name.as_str());
+    pairs.insert(place, pair).unwrap();
+}
+
+// Sets the value of a name that stands once.
+#[tactic(auto, using(crate::proofs::PlaceLemmas::placing))]
+fn set_value(pairs: &mut Vec<Pair>, place: usize, pair: Pair)
+    requires apart { AreApart (map name_of pairs.old.items) }
+    requires found { position (is_named (name_of pair)) pairs.old.items ≡ Some place }
+    ensures value { map pair_of pairs.new.items ≡ put (map pair_of pairs.old.items) (pair_of pair) }
+    ensures names { map name_of pairs.new.items ≡ map name_of pairs.old.items }
+{
+    let Pair { name: _, value } = pair;
+    pairs[place].value = value;
+}
+
+// Puts the pair at the first place of its name.
+fn put_at(pairs: &mut Vec<Pair>, places: &Option<Places>, place: usize, pair: Pair)
+    requires index { ForSome places.now (λ m. IsIndex m (map name_of pairs.old.items)) }
+    requires found { position (is_named (name_of pair)) pairs.old.items ≡ Some place }
+    ensures value { map pair_of pairs.new.items ≡ put (map pair_of pairs.old.items) (pair_of pair) }
+    ensures index { ForSome places.now (λ m. IsIndex m (map name_of pairs.new.items)) }
+{
+    match places {
+        Some(_) => set_value(pairs, place, pair),
+        None => replace(pairs, place, pair),
+    }
+}
+
+// Adds the place of a new name, which goes last.
+fn insert_place(places: &mut Places, pairs: &[Pair], name: String) -> Result<(), OutOfMemory>
+    requires new { place_of_name (string_bytes name) (map name_of pairs.now) ≡ None }
+    requires index { IsIndex places.old (map name_of pairs.now) }
+    ensures ok { OnOk result (IsIndex places.new (map name_of pairs.now ++ string_bytes name ∷ [])) }
+    ensures err { OnErr result (IsIndex places.new (map name_of pairs.now)) }
+{
+    places.insert(name, pairs.len())?;
+    Ok(())
+}
+
+// Adds the place of a new name, where places are kept.
+fn add_place(
+    alloc: Global,
+    places: &mut Option<Places>,
+    pairs: &[Pair],
+    name: &str,
+) -> Result<(), OutOfMemory>
+    requires new { position (is_named name.now) pairs.now ≡ None }
+    requires index { ForSome places.old (λ m. IsIndex m (map name_of pairs.now)) }
+    ensures ok { OnOk result (ForSome places.new (λ m. IsIndex m (map name_of pairs.now ++ name.now ∷ []))) }
+    ensures err { OnErr result (ForSome places.new (λ m. IsIndex m (map name_of pairs.now))) }
+{
+    let name = String::from_str(alloc, name)?;
+    match places {
+        Some(places) => insert_place(places, pairs, name),
+        None => Ok(()),
+    }
+}
+
+// Adds a pair of a new name at the end.
+fn push_new(
+    pairs: &mut Vec<Pair>,
+    places: &mut Option<Places>,
+    pair: Pair,
+) -> Result<(), OutOfMemory>
+    requires new { position (is_named (name_of pair)) pairs.old.items ≡ None }
+    requires index { ForSome places.old (λ m. IsIndex m (map name_of pairs.old.items)) }
+    ensures ok { OnOk result (pairs.new.items ≡ pairs.old.items ++ pair ∷ []) }
+    ensures err { OnErr result (pairs.new.items ≡ pairs.old.items) }
+    ensures index { ForSome places.new (λ m. IsIndex m (map name_of pairs.new.items)) }
+{
+    pairs.reserve(1)?;
+    add_place(*pairs.allocator(), places, pairs, pair.name.as_str())?;
+    pairs.push(pair).unwrap();
+    Ok(())
+}
+
+// Puts the pair at the first place of its name, or at the end.
+#[tactic(auto, using(crate::proofs::PutLemmas::putting))]
+pub(crate) fn put_pair(
+    pairs: &mut Vec<Pair>,
+    places: &mut Option<Places>,
+    pair: Pair,
+) -> Result<(), OutOfMemory>
+    requires { ForSome places.old (λ m. IsIndex m (map name_of pairs.old.items)) }
+    ensures ok { OnOk result (map pair_of pairs.new.items ≡ put (map pair_of pairs.old.items) (pair_of pair)) }
+    ensures err { OnErr result (map pair_of pairs.new.items ≡ map pair_of pairs.old.items) }
+    ensures index { ForSome places.new (λ m. IsIndex m (map name_of pairs.new.items)) }
+{
+    match place_of(pairs, places, pair.name.as_str()) {
+        None => push_new(pairs, places, pair)?,
+        Some(place) => put_at(pairs, places, place, pair),
+    }
+    Ok(())
+}
+
+// Adds the pair at the end. A name that stands already ends the keeping of places.
+pub(crate) fn add_pair(
+    pairs: &mut Vec<Pair>,
+    places: &mut Option<Places>,
+    pair: Pair,
+) -> Result<(), OutOfMemory>
+    requires { ForSome places.old (λ m. IsIndex m (map name_of pairs.old.items)) }
+    ensures ok { OnOk result (pairs.new.items ≡ pairs.old.items ++ pair ∷ []) }
+    ensures err { OnErr result (pairs.new.items ≡ pairs.old.items) }
+    ensures index { ForSome places.new (λ m. IsIndex m (map name_of pairs.new.items)) }
+{
+    match place_of(pairs, places, pair.name.as_str()) {
+        None => push_new(pairs, places, pair),
+        Some(_) => {
+            pairs.push(pair)?;
+            *places = None;
+            Ok(())
+        }
+    }
+}

@@ -1,0 +1,155 @@
+use crate::{Headers, HttpError, ListFault, Request, dates, one_text, quote_header_value, tokens};
+use smithy_types::{Blob, Format};
+use std::alloc::Global;
+use std::test::Fail;
+
+// Whether the headers are this one pair.
+fn is_alone(headers: &Headers, name: &str, value: &[u8]) -> bool {
+    let mut pairs = headers.iter_bytes();
+    pairs.next() == Some((name, value)) && pairs.next() == None
+}
+
+// Whether the values of the name are these two.
+fn are_bytes(headers: &Headers, name: &str, first: &[u8], second: &[u8]) -> bool {
+    let mut values = headers.get_all_bytes(name);
+    values.next() == Some(first) && values.next() == Some(second) && values.next() == None
+}
+
+// Whether the one value of the name that is UTF-8 is this one.
+fn is_text(headers: &Headers, name: &str, text: &str) -> bool {
+    let mut texts = headers.get_all(name);
+    texts.next() == Some(text) && texts.next() == None
+}
+
+// Headers with these two values under the name `a`.
+fn two_values(alloc: Global, first: &[u8], second: &[u8]) -> Result<Headers, HttpError> {
+    let mut headers = Headers::new(alloc);
+    headers.append("A", first)?;
+    headers.append("a", second)?;
+    Ok(headers)
+}
+
+#[test]
+fn a_value_is_put_in_place(rt: HostRuntime) -> Result<(), Fail> {
+    let mut headers = Headers::new(rt.alloc());
+    headers.try_insert("X-A", "1")?;
+    headers.append("x-a", b"2")?;
+    headers.try_insert("x-A", "3")?;
+    assert!(rt; is_alone(&headers, "x-a", b"3"));
+    assert_eq!(rt; headers.try_insert("a b", "1"), Err(HttpError::Name));
+    assert_eq!(rt; headers.append("a", b"\n"), Err(HttpError::Value));
+    assert!(rt; is_alone(&headers, "x-a", b"3"));
+    Ok(())
+}
+
+#[test]
+fn values_are_looked_up_without_case(rt: HostRuntime) -> Result<(), Fail> {
+    let headers = two_values(rt.alloc(), b"\xFF", b"2")?;
+    assert_eq!(rt; headers.get("A"), None);
+    assert!(rt; are_bytes(&headers, "a", b"\xFF", b"2"));
+    assert!(rt; is_text(&headers, "A", "2"));
+    Ok(())
+}
+
+#[test]
+fn a_name_is_removed(rt: HostRuntime) -> Result<(), Fail> {
+    let mut headers = two_values(rt.alloc(), b"1", b"2")?;
+    headers.append("b", b"3")?;
+    let copy = headers.copy(rt.alloc())?;
+    headers.remove("A");
+    assert!(rt; is_alone(&headers, "b", b"3"));
+    assert_eq!(rt; copy.get("a"), Some("1"));
+    Ok(())
+}
+
+#[test]
+fn lists_are_read(rt: HostRuntime) -> Result<(), Fail> {
+    let headers = two_values(rt.alloc(), b"a, \"b\\\"c\" ,", b"")?;
+    let words = tokens(rt.alloc(), &headers, "A")?;
+    assert_eq!(rt; words.len(), 2);
+    assert_eq!(rt; words.get(0), Some("a"));
+    assert_eq!(rt; words.get(1), Some("b\"c"));
+    Ok(())
+}
+
+#[test]
+fn faults_of_lists_are_told(rt: HostRuntime) -> Result<(), Fail> {
+    let unended = two_values(rt.alloc(), b"\"a", b"\xFF")?;
+    assert!(rt;
+        tokens(rt.alloc(), &unended, "a").is_err_and(|e| e == HttpError::List(ListFault::Unended))
+    );
+    let trailing = two_values(rt.alloc(), b"\"a\"b", b"")?;
+    assert!(rt;
+        tokens(rt.alloc(), &trailing, "a").is_err_and(|e| e == HttpError::List(ListFault::Trailing))
+    );
+    let other = two_values(rt.alloc(), b"\xFF", b"\"a")?;
+    assert!(rt; tokens(rt.alloc(), &other, "a").is_err_and(|e| e == HttpError::NotUtf8));
+    Ok(())
+}
+
+#[test]
+fn dates_are_read(rt: HostRuntime) -> Result<(), Fail> {
+    let list = b"Thu, 01 Jan 1970 00:00:00 GMT, Tue, 09 Jan 2018 18:47:00 GMT";
+    let headers = two_values(rt.alloc(), list, b"")?;
+    let seconds = dates(rt.alloc(), &headers, "a", Format::HttpDate)?;
+    assert_eq!(rt; seconds.as_slice(), [0, 1_515_523_620].as_slice());
+    let number = two_values(rt.alloc(), b"0,", b"")?;
+    assert!(rt;
+        dates(rt.alloc(), &number, "a", Format::EpochSeconds).is_err_and(|e| e
+            == HttpError::List(ListFault::Item))
+    );
+    Ok(())
+}
+
+#[test]
+fn one_text_is_read(rt: HostRuntime) -> Result<(), Fail> {
+    let mut headers = Headers::new(rt.alloc());
+    assert!(rt; one_text(rt.alloc(), &headers, "a")?.is_none());
+    headers.append("a", b" a, b ")?;
+    assert!(rt; one_text(rt.alloc(), &headers, "A")?.is_some_and(|text| text.as_str() == "a, b"));
+    headers.append("a", b"")?;
+    assert!(rt;
+        one_text(rt.alloc(), &headers, "a").is_err_and(|e| e == HttpError::List(ListFault::TooMany))
+    );
+    Ok(())
+}
+
+#[test]
+fn texts_are_quoted(rt: HostRuntime) -> Result<(), Fail> {
+    let plain = quote_header_value(rt.alloc(), "a b")?;
+    assert_eq!(rt; plain.as_str(), "a b");
+    let quoted = quote_header_value(rt.alloc(), "d\"e")?;
+    assert_eq!(rt; quoted.as_str(), "\"d\\\"e\"");
+    let blank = quote_header_value(rt.alloc(), " c")?;
+    assert_eq!(rt; blank.as_str(), "\" c\"");
+    Ok(())
+}
+
+#[test]
+fn a_request_is_set(rt: HostRuntime) -> Result<(), Fail> {
+    let mut request = Request::new(rt.alloc(), Blob::new(rt.alloc(), b"a")?)?;
+    assert_eq!(rt; request.method(), "GET");
+    assert_eq!(rt; request.uri(), "/");
+    request.set_method("PUT")?;
+    request.set_uri("/a?b=c")?;
+    assert_eq!(rt; request.set_uri("a"), Err(HttpError::Target));
+    request.headers_mut().append("a", b"\xFF")?;
+    assert_eq!(rt; request.method(), "PUT");
+    assert_eq!(rt; request.uri(), "/a?b=c");
+    assert!(rt; is_alone(request.headers(), "a", b"\xFF"));
+    assert_eq!(rt; request.body().as_slice(), b"a".as_slice());
+    request.set_body(Blob::new(rt.alloc(), b"")?);
+    assert_eq!(rt; request.body().as_slice(), b"".as_slice());
+    Ok(())
+}
+
+#[test]
+fn refusals_are_written(rt: HostRuntime) -> Result<(), Fail> {
+    let unended = HttpError::List(ListFault::Unended);
+    let text = format!(in rt.alloc(); "{}, {unended}", HttpError::Name)?;
+    assert_eq!(rt;
+        text.as_str(),
+        "invalid header name, header list: unended quote"
+    );
+    Ok(())
+}
