@@ -1,0 +1,15 @@
+pub mod MarksOf
+pub mod Nodes
+pub mod Defining
+pub mod Described
+pub mod Formats
+pub mod Kept
+pub mod MemberNames
+pub mod Outlines
+pub mod Places
+pub mod PreludeNodes
+pub mod PreludePlaces
+pub mod References
+pub mod Routing
+pub mod Stored
+pub mod Templates

@@ -1,0 +1,33 @@
+-- Where the names of a node's members stand, as the code keeps it.
+use Rattle.std.specs.Prelude.{◌≡◌, ℕ, Bool, true, false, List, position, String, Option, Some, None}
+use Rattle.std.specs.Option.{option_map_or, option_or}
+use Rattle.std.specs.Global.{Global}
+use Rattle.std.specs.BTreeMap.{BTreeMap, get_by_text}
+use Rattle.smithy_types.specs.Texts.{same_text}
+use Rattle.smithy_schema.specs.Nodes.{Node, Table, at_place, has_name}
+
+-- the place holds a node with this name
+abbrev pub is_named_at : Table → List ℕ → ℕ → Bool
+is_named_at table name place = option_map_or (has_name name) (at_place table place) false
+
+-- the map has the first position of each name among the members at these places, and no other name
+pub record HasPositions (table : Table) (places : List ℕ) (positions : BTreeMap (String Global) ℕ) : Type 0 where
+  pub at : (name : List ℕ) → get_by_text positions name ≡ position (is_named_at table name) places
+
+-- a place that holds no node has no name
+abbrev pub name_held : Option Node → Option (List ℕ)
+name_held None = None
+name_held (Some node) = node.member_name
+
+-- the position, where the test passes
+abbrev pub position_if : Bool → ℕ → Option ℕ
+position_if true position = Some position
+position_if false position = None
+
+-- the position, where its name is the one that is looked for
+abbrev pub position_for : List ℕ → Option (List ℕ) → ℕ → Option ℕ
+position_for name own position = position_if (option_map_or (same_text name) own false) position
+
+-- one more member behind the others, with this name if any: a name that stands keeps its position
+abbrev pub HasOneMore : BTreeMap (String Global) ℕ → Option (List ℕ) → ℕ → BTreeMap (String Global) ℕ → Type 0
+HasOneMore old own position new = (name : List ℕ) → get_by_text new name ≡ option_or (get_by_text old name) (position_for name own position)

@@ -1,0 +1,72 @@
+-- The node that a stored one is.
+use Rattle.std.specs.Prelude.{ℕ, List, map, Option, Some, None, option_map}
+use Rattle.smithy_schema.specs.declared.stored.StoredMember.{StoredMember}
+use Rattle.smithy_schema.specs.declared.stored.StoredMember.TheVariants.{Shape, Named, Indexed}
+use Rattle.smithy_schema.specs.declared.stored.StoredHttp.{StoredHttp}
+use Rattle.smithy_schema.specs.declared.stored.StoredNamespace.{StoredNamespace}
+use Rattle.smithy_schema.specs.declared.stored.StoredTraits.{StoredTraits}
+use Rattle.smithy_schema.specs.declared.stored.StoredNode.{StoredNode}
+use Rattle.smithy_schema.specs.Places.{place_of, places_of}
+use Rattle.smithy_schema.specs.Nodes.{Http, Namespace, Traits, Node, Table}
+
+abbrev pub name_stored : StoredMember → Option (List ℕ)
+name_stored Shape = None
+name_stored (Named name) = Some name
+name_stored (Indexed name index) = Some name
+
+abbrev pub index_stored : StoredMember → Option ℕ
+index_stored Shape = None
+index_stored (Named name) = None
+index_stored (Indexed name index) = Some index
+
+abbrev pub http_stored : StoredHttp → Http
+http_stored h = record { method = h.method; uri = h.uri; code = h.code }
+
+abbrev pub namespace_stored : StoredNamespace → Namespace
+namespace_stored n = record { uri = n.uri; prefix = n.prefix }
+
+abbrev pub traits_stored : StoredTraits → Traits
+traits_stored t = record {
+  http = option_map http_stored t.http;
+  http_header = t.http_header;
+  http_prefix_headers = t.http_prefix_headers;
+  http_query = t.http_query;
+  http_query_params = t.marks.http_query_params;
+  http_label = t.marks.http_label;
+  http_payload = t.marks.http_payload;
+  http_response_code = t.marks.http_response_code;
+  media_type = t.media_type;
+  timestamp_format = t.timestamp_format;
+  streaming = t.marks.streaming;
+  json_name = t.json_name;
+  xml_name = t.xml_name;
+  xml_namespace = option_map namespace_stored t.xml_namespace;
+  xml_attribute = t.marks.xml_attribute;
+  xml_flattened = t.marks.xml_flattened;
+  xml_unwrapped_output = t.marks.xml_unwrapped_output;
+  sensitive = t.marks.sensitive;
+  host_label = t.marks.host_label;
+  event_header = t.marks.event_header;
+  event_payload = t.marks.event_payload;
+  others = None;
+}
+
+abbrev pub node_stored : StoredNode → Node
+node_stored n = record {
+  full_name = n.full_name;
+  kind = n.shape_type;
+  member_name = name_stored n.membership;
+  original_name = n.original_name;
+  member_index = index_stored n.membership;
+  target = place_of n.places.target;
+  members = places_of n.members.items;
+  element = place_of n.places.element;
+  key = place_of n.places.key;
+  value = place_of n.places.value;
+  traits = traits_stored n.traits;
+  has_no_body_members = n.no_body_members;
+  hint = n.hint;
+}
+
+abbrev pub table_stored : List (Option StoredNode) → Table
+table_stored nodes = map (option_map node_stored) nodes

@@ -1,0 +1,27 @@
+// Schemas: a table of nodes, each with its traits, and references into it.
+#![tactic(auto)]
+
+mod cited_nodes;
+mod defining;
+mod error;
+mod member_names;
+mod outline;
+mod parts;
+pub mod prelude;
+mod schema;
+mod schema_ref;
+mod schemas;
+mod shape_id_buf;
+mod stored;
+mod trait_getters;
+
+pub use error::SchemaError;
+pub use parts::SchemaIndex;
+pub use prelude::Prelude;
+pub use schema::Schema;
+pub use schema_ref::SchemaRef;
+pub use schemas::Schemas;
+pub use shape_id_buf::ShapeIdBuf;
+
+#[cfg(test)]
+mod tests;

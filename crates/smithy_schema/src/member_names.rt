@@ -1,0 +1,73 @@
+// The names of a node's members, each with its first position.
+ghost use Rattle.std.specs.Prelude.{◌≡◌, Some, IfOk, OnOk, option_map};
+ghost use Rattle.smithy_schema.specs.Nodes.{node_at};
+ghost use Rattle.smithy_schema.specs.Places.{places_of};
+ghost use Rattle.smithy_schema.specs.Stored.{table_stored};
+ghost use Rattle.smithy_schema.specs.MemberNames.{HasOneMore, HasPositions, name_held};
+
+use crate::defining::stored_at;
+use crate::parts::SchemaIndex;
+use crate::stored::{StoredMember, StoredNode};
+use smithy_types::OutOfMemory;
+use std::alloc::Global;
+use std::collections::BTreeMap;
+
+// The first position of each name.
+pub(crate) type Positions = BTreeMap<String, usize>;
+
+// The name of the member at a place.
+fn name_at(nodes: &[Option<StoredNode>], place: usize) -> Option<&str>
+    ensures { option_map (λ t. t.now) result ≡ name_held (node_at (table_stored nodes.now) place) }
+{
+    match &stored_at(nodes, place)?.membership {
+        StoredMember::Shape => None,
+        StoredMember::Named(name) => Some(name.as_str()),
+        StoredMember::Indexed(name, _) => Some(name.as_str()),
+    }
+}
+
+// Adds a name with its position, unless an earlier member has it.
+fn add_name(
+    alloc: Global,
+    positions: &mut Positions,
+    name: &str,
+    position: usize,
+) -> Result<(), OutOfMemory>
+    ensures { OnOk result (HasOneMore positions.old (Some name.now) position positions.new) }
+{
+    if positions.contains_key(name) {
+        return Ok(());
+    }
+    positions.insert(String::from_str(alloc, name)?, position)?;
+    Ok(())
+}
+
+// Adds the position of a member, which may have no name.
+fn add_member(
+    alloc: Global,
+    positions: &mut Positions,
+    name: Option<&str>,
+    position: usize,
+) -> Result<(), OutOfMemory>
+    ensures { OnOk result (HasOneMore positions.old (option_map (λ t. t.now) name.entry) position positions.new) }
+{
+    match name {
+        Some(name) => add_name(alloc, positions, name, position),
+        None => Ok(()),
+    }
+}
+
+/// The first position of each name among the members at these places.
+pub(crate) fn first_positions(
+    alloc: Global,
+    nodes: &[Option<StoredNode>],
+    members: &[SchemaIndex],
+) -> Result<Positions, OutOfMemory>
+    ensures { IfOk result (HasPositions (table_stored nodes.now) (places_of members.now)) }
+{
+    let mut positions = BTreeMap::new(alloc);
+    for (position, member) in members.iter().enumerate() {
+        add_member(alloc, &mut positions, name_at(nodes, member.0), position)?;
+    }
+    Ok(positions)
+}

@@ -1,0 +1,267 @@
+// A node of a table, and what it has.
+ghost use Rattle.std.specs.Prelude.{◌≡◌, true, Some, option_map};
+ghost use Rattle.std.specs.Option.{is_some};
+ghost use Rattle.smithy_ids.specs.ShapeIds.{parts_in};
+ghost use Rattle.smithy_ids.specs.ShapeIdParts.{parts_of};
+ghost use Rattle.smithy_schema.specs.Nodes.{node_at};
+ghost use Rattle.smithy_schema.specs.PreludeNodes.{prelude_name};
+
+use crate::defining::stored_at;
+use crate::parts::SchemaIndex;
+use crate::schemas::Schemas;
+use crate::stored::{StoredMember, StoredNode};
+use smithy_ids::{PayloadHint, ShapeId, ShapeType};
+use smithy_types::Text;
+
+// A defined place of a table.
+#[derive(Clone, Copy)]
+pub(crate) struct TableRef<'t> {
+    pub(crate) table: &'t Schemas,
+    pub(crate) index: SchemaIndex,
+    ghost defined: { is_some (node_at table.now index.0) ≡ true },
+}
+
+// A defined place of a table, or the prelude's node of a kind.
+#[derive(Clone, Copy)]
+pub(crate) enum Spot<'t> {
+    Table(TableRef<'t>),
+    Prelude(ShapeType),
+}
+
+/// A node of a table, or a node of the prelude, which cites nothing and has no traits.
+/// A place that is only declared counts as none wherever a getter gives a node.
+#[derive(Clone, Copy)]
+pub struct SchemaRef<'t> {
+    pub(crate) spot: Spot<'t>,
+}
+
+impl<'t> TableRef<'t> {
+    ghost use Rattle.smithy_schema.specs.Stored.{node_stored};
+    ghost use Rattle.smithy_schema.specs.References.{node_in};
+    ghost use Rattle.smithy_schema.specs.Defining.{is_whole, IsSound};
+    ghost use Rattle.smithy_schema.specs.MemberNames.{HasPositions};
+    ghost use Rattle.smithy_schema.specs.Nodes.{position_of_name};
+
+    fn stored(self) -> &'t StoredNode
+        ensures node { node_stored result.now ≡ node_in self.entry.table.now self.entry.index.0 }
+        ensures whole { is_whole (node_stored result.now) ≡ true }
+        ensures place { node_at self.entry.table.now self.entry.index.0 ≡ Some (node_stored result.now) }
+        ensures sound { IsSound self.entry.table.now }
+        ensures names { HasPositions self.entry.table.now (node_stored result.now).members result.now.positions }
+    {
+        let table = self.table;
+        let Some(node) = stored_at(table.nodes.as_slice(), self.index.0) else {
+            unreachable!()
+        };
+        node
+    }
+
+    // The first position of a member with this name.
+    fn position_of(self, name: &str) -> Option<usize>
+        ensures { result ≡ position_of_name (record { table = self.entry.table.now; node = node_in self.entry.table.now self.entry.index.0 }) name.now }
+    {
+        self.stored().positions.get(name).copied()
+    }
+
+    fn shape_id(self) -> ShapeId<'t>
+        ensures { Some (parts_of result) ≡ parts_in (node_in self.entry.table.now self.entry.index.0).full_name }
+    {
+        match ShapeId::parse(self.stored().full_name.as_str()) {
+            Some(id) => id,
+            None => unreachable!(),
+        }
+    }
+}
+
+impl<'t> SchemaRef<'t> {
+    ghost use Rattle.std.specs.Prelude.{[], not, Some, None, IfSome, MatchOption, option_map};
+    ghost use Rattle.smithy_ids.specs.Kinds.{is_simple};
+    ghost use Rattle.smithy_ids.specs.ShapeIds.{parts_in};
+    ghost use Rattle.smithy_ids.specs.ShapeIdParts.{parts_of};
+    ghost use Rattle.smithy_schema.specs.Nodes.{at_place, position_of_name};
+    ghost use Rattle.smithy_schema.specs.Places.{place_of, places_of};
+    ghost use Rattle.smithy_schema.specs.PreludeNodes.{prelude_node, IsBare};
+    ghost use Rattle.smithy_schema.specs.Defining.{HasMembersInPlace, IsSound};
+    ghost use Rattle.smithy_schema.specs.References.{schema_of, index_of};
+    ghost use Rattle.smithy_schema.specs.Stored.{node_stored};
+
+    // The node at a place of a table.
+    pub(crate) fn at(table: &'t Schemas, index: SchemaIndex) -> Option<SchemaRef<'t>>
+        ensures node { option_map schema_of result ≡ at_place table.now index.0 }
+        ensures place { IfSome result (λ s. index_of s ≡ Some index.0) }
+    {
+        match stored_at(table.nodes.as_slice(), index.0) {
+            Some(_) => Some(SchemaRef {
+                spot: Spot::Table(TableRef { table, index }),
+            }),
+            None => None,
+        }
+    }
+
+    // The node as the table keeps it, None for the prelude's.
+    pub(crate) fn stored(&self) -> Option<&'t StoredNode>
+        ensures { MatchOption result (IsBare (schema_of self.now).node) (λ n. (schema_of self.now).node ≡ node_stored n.now) }
+    {
+        match self.spot {
+            Spot::Table(place) => Some(place.stored()),
+            Spot::Prelude(_) => None,
+        }
+    }
+
+    /// The prelude's node of this kind, which cites nothing and has no traits: `smithy.api#String` for a string.
+    pub fn prelude(kind: ShapeType) -> SchemaRef<'static>
+        requires { is_simple kind ≡ true }
+        ensures node { schema_of result ≡ record { table = []; node = prelude_node kind } }
+        ensures place { index_of result ≡ None }
+    {
+        SchemaRef {
+            spot: Spot::Prelude(kind),
+        }
+    }
+
+    /// The place in its table, None for the prelude's node.
+    pub fn index(&self) -> Option<SchemaIndex>
+        ensures place { place_of result ≡ index_of self.now }
+        ensures node { IfSome result (λ i. at_place (schema_of self.now).table i.0 ≡ Some (schema_of self.now)) }
+    {
+        match self.spot {
+            Spot::Table(place) => Some(place.index),
+            Spot::Prelude(_) => None,
+        }
+    }
+
+    /// The identifier: the parts of the full name.
+    pub fn shape_id(&self) -> ShapeId<'t>
+        ensures { parts_in (schema_of self.now).node.full_name ≡ Some (parts_of result) }
+    {
+        match self.spot {
+            Spot::Table(place) => place.shape_id(),
+            Spot::Prelude(shape_type) => prelude_id(shape_type),
+        }
+    }
+
+    /// The kind.
+    pub fn shape_type(&self) -> ShapeType
+        ensures { result ≡ (schema_of self.now).node.kind }
+    {
+        match self.spot {
+            Spot::Table(place) => place.stored().shape_type,
+            Spot::Prelude(shape_type) => shape_type,
+        }
+    }
+
+    /// What is known of the payload.
+    pub fn payload_hint(&self) -> PayloadHint
+        ensures { result ≡ (schema_of self.now).node.hint }
+    {
+        match self.stored() {
+            Some(node) => node.hint,
+            None => PayloadHint::Unknown,
+        }
+    }
+
+    /// The name of the member, None where the node is none.
+    pub fn member_name(&self) -> Option<&'t str>
+        ensures { option_map (λ t. t.now) result ≡ (schema_of self.now).node.member_name }
+    {
+        match &self.stored()?.membership {
+            StoredMember::Shape => None,
+            StoredMember::Named(name) => Some(name.as_str()),
+            StoredMember::Indexed(name, _) => Some(name.as_str()),
+        }
+    }
+
+    /// The position of the member among its structure's, None where it has none.
+    pub fn member_index(&self) -> Option<usize>
+        ensures { result ≡ (schema_of self.now).node.member_index }
+    {
+        match &self.stored()?.membership {
+            StoredMember::Indexed(_, index) => Some(*index),
+            _ => None,
+        }
+    }
+
+    /// The name before the shape was renamed, where it was.
+    pub fn original_name(&self) -> Option<&'t str>
+        ensures { option_map (λ t. t.now) result ≡ (schema_of self.now).node.original_name }
+    {
+        as_str(&self.stored()?.original_name)
+    }
+
+    /// The places of the members, in order. At each position stands a member with that index and a name.
+    pub fn members(&self) -> &'t [SchemaIndex]
+        ensures places { places_of result.now ≡ (schema_of self.now).node.members }
+        ensures in_place { HasMembersInPlace (schema_of self.now) }
+        ensures sound { IsSound (schema_of self.now).table }
+    {
+        match self.spot {
+            Spot::Table(place) => place.stored().members.as_slice(),
+            Spot::Prelude(_) => &[],
+        }
+    }
+
+    // The first position of a member with this name.
+    pub(crate) fn position_of(&self, name: &str) -> Option<usize>
+        ensures { result ≡ position_of_name (schema_of self.now) name.now }
+    {
+        match self.spot {
+            Spot::Table(place) => place.position_of(name),
+            Spot::Prelude(_) => None,
+        }
+    }
+
+    /// False exactly with the flag that no member stands in the body.
+    pub fn has_body_members(&self) -> bool
+        ensures { result ≡ not (schema_of self.now).node.has_no_body_members }
+    {
+        match self.stored() {
+            Some(node) => !node.no_body_members,
+            None => true,
+        }
+    }
+}
+
+// The text, where there is one.
+pub(crate) fn as_str(text: &Option<Text>) -> Option<&str>
+    ensures { option_map (λ t. t.now) result ≡ text.now }
+{
+    match text {
+        Some(text) => Some(text.as_str()),
+        None => None,
+    }
+}
+
+/// The identifier of the prelude's node of a kind, of the unit structure where the kind isn't simple.
+pub(crate) fn prelude_id(kind: ShapeType) -> ShapeId<'static>
+    ensures parts { Some (parts_of result) ≡ parts_in (prelude_name kind) }
+    ensures name { (parts_of result).full_name ≡ prelude_name kind }
+{
+    match kind {
+        ShapeType::Boolean => ShapeId::from_parts("smithy.api#Boolean", "smithy.api", "Boolean"),
+        ShapeType::Byte => ShapeId::from_parts("smithy.api#Byte", "smithy.api", "Byte"),
+        ShapeType::Short => ShapeId::from_parts("smithy.api#Short", "smithy.api", "Short"),
+        ShapeType::Integer => ShapeId::from_parts("smithy.api#Integer", "smithy.api", "Integer"),
+        ShapeType::Long => ShapeId::from_parts("smithy.api#Long", "smithy.api", "Long"),
+        ShapeType::Float => ShapeId::from_parts("smithy.api#Float", "smithy.api", "Float"),
+        ShapeType::Double => ShapeId::from_parts("smithy.api#Double", "smithy.api", "Double"),
+        ShapeType::BigInteger => ShapeId::from_parts(
+            "smithy.api#BigInteger",
+            "smithy.api",
+            "BigInteger",
+        ),
+        ShapeType::BigDecimal => ShapeId::from_parts(
+            "smithy.api#BigDecimal",
+            "smithy.api",
+            "BigDecimal",
+        ),
+        ShapeType::String => ShapeId::from_parts("smithy.api#String", "smithy.api", "String"),
+        ShapeType::Blob => ShapeId::from_parts("smithy.api#Blob", "smithy.api", "Blob"),
+        ShapeType::Timestamp => ShapeId::from_parts(
+            "smithy.api#Timestamp",
+            "smithy.api",
+            "Timestamp",
+        ),
+        ShapeType::Document => ShapeId::from_parts("smithy.api#Document", "smithy.api", "Document"),
+        _ => ShapeId::from_parts("smithy.api#Unit", "smithy.api", "Unit"),
+    }
+}

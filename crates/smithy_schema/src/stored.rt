@@ -1,0 +1,160 @@
+// A node as a table keeps it: with texts of its own.
+ghost use Rattle.std.specs.Prelude.{◌≡◌, true, IfOk, option_map};
+ghost use Rattle.smithy_schema.specs.Stored.{http_stored, namespace_stored, name_stored, index_stored, node_stored, table_stored, traits_stored};
+ghost use Rattle.smithy_schema.specs.MemberNames.{HasPositions};
+ghost use Rattle.smithy_schema.specs.Defining.{is_whole};
+ghost use Rattle.smithy_schema.specs.Described.{name_in, index_in};
+
+use crate::member_names::{Positions, first_positions};
+use crate::parts::{Marks, Places, SchemaIndex};
+use crate::schema::{Membership, Schema};
+use smithy_ids::{HttpTrait, PayloadHint, ShapeType, TimestampFormat, XmlNamespaceTrait};
+use smithy_types::{OutOfMemory, Text};
+use std::alloc::Global;
+
+// Whether a node is a member: by name, or by name and index.
+#[derive(Debug, Drop)]
+pub(crate) enum StoredMember {
+    Shape,
+    Named(Text),
+    Indexed(Text, usize),
+}
+
+#[derive(Debug, Drop)]
+pub(crate) struct StoredHttp {
+    pub(crate) method: Text,
+    pub(crate) uri: Text,
+    pub(crate) code: u16,
+}
+
+#[derive(Debug, Drop)]
+pub(crate) struct StoredNamespace {
+    pub(crate) uri: Text,
+    pub(crate) prefix: Option<Text>,
+}
+
+#[derive(Debug, Drop)]
+pub(crate) struct StoredTraits {
+    pub(crate) marks: Marks,
+    pub(crate) http: Option<StoredHttp>,
+    pub(crate) json_name: Option<Text>,
+    pub(crate) xml_name: Option<Text>,
+    pub(crate) xml_namespace: Option<StoredNamespace>,
+    pub(crate) http_header: Option<Text>,
+    pub(crate) http_prefix_headers: Option<Text>,
+    pub(crate) http_query: Option<Text>,
+    pub(crate) media_type: Option<Text>,
+    pub(crate) timestamp_format: Option<TimestampFormat>,
+}
+
+#[derive(Debug, Drop)]
+pub(crate) struct StoredNode {
+    pub(crate) full_name: Text,
+    pub(crate) shape_type: ShapeType,
+    pub(crate) membership: StoredMember,
+    pub(crate) original_name: Option<Text>,
+    pub(crate) places: Places,
+    pub(crate) members: Vec<SchemaIndex>,
+    pub(crate) positions: Positions,
+    pub(crate) traits: StoredTraits,
+    pub(crate) no_body_members: bool,
+    pub(crate) hint: PayloadHint,
+}
+
+// A copy of the text, where there is one.
+fn copied(alloc: Global, text: Option<&str>) -> Result<Option<Text>, OutOfMemory>
+    ensures { IfOk result (λ t. t ≡ option_map (λ s. s.now) text.entry) }
+{
+    match text {
+        Some(text) => Ok(Some(Text::from_str(alloc, text)?)),
+        None => Ok(None),
+    }
+}
+
+fn copied_http(
+    alloc: Global,
+    http: &Option<HttpTrait<'_>>,
+) -> Result<Option<StoredHttp>, OutOfMemory>
+    ensures { IfOk result (λ h. option_map http_stored h ≡ http.now) }
+{
+    match http {
+        Some(http) => Ok(Some(StoredHttp {
+            method: Text::from_str(alloc, http.method())?,
+            uri: Text::from_str(alloc, http.uri())?,
+            code: http.code(),
+        })),
+        None => Ok(None),
+    }
+}
+
+fn copied_namespace(
+    alloc: Global,
+    namespace: &Option<XmlNamespaceTrait<'_>>,
+) -> Result<Option<StoredNamespace>, OutOfMemory>
+    ensures { IfOk result (λ n. option_map namespace_stored n ≡ namespace.now) }
+{
+    match namespace {
+        Some(namespace) => Ok(Some(StoredNamespace {
+            uri: Text::from_str(alloc, namespace.uri())?,
+            prefix: copied(alloc, namespace.prefix())?,
+        })),
+        None => Ok(None),
+    }
+}
+
+fn copied_membership(alloc: Global, membership: Membership<'_>) -> Result<StoredMember, OutOfMemory>
+    ensures name { IfOk result (λ m. name_stored m ≡ name_in membership.entry) }
+    ensures index { IfOk result (λ m. index_stored m ≡ index_in membership.entry) }
+{
+    match membership {
+        Membership::Shape => Ok(StoredMember::Shape),
+        Membership::Named(name) => Ok(StoredMember::Named(Text::from_str(alloc, name)?)),
+        Membership::Indexed(name, index) => {
+            Ok(StoredMember::Indexed(Text::from_str(alloc, name)?, index))
+        }
+    }
+}
+
+fn copied_traits(alloc: Global, schema: &Schema<'_>) -> Result<StoredTraits, OutOfMemory>
+    ensures { IfOk result (λ t. traits_stored t ≡ schema.now.traits) }
+{
+    Ok(StoredTraits {
+        marks: schema.marks,
+        http: copied_http(alloc, &schema.http)?,
+        json_name: copied(alloc, schema.json_name)?,
+        xml_name: copied(alloc, schema.xml_name)?,
+        xml_namespace: copied_namespace(alloc, &schema.xml_namespace)?,
+        http_header: copied(alloc, schema.http_header)?,
+        http_prefix_headers: copied(alloc, schema.http_prefix_headers)?,
+        http_query: copied(alloc, schema.http_query)?,
+        media_type: copied(alloc, schema.media_type)?,
+        timestamp_format: schema.timestamp_format,
+    })
+}
+
+/// The node of this description, whose members stand among these nodes. It takes time linear in the texts and members,
+/// up to the logarithm of the map of their names.
+pub(crate) fn copied_node(
+    alloc: Global,
+    nodes: &[Option<StoredNode>],
+    schema: &Schema<'_>,
+) -> Result<StoredNode, OutOfMemory>
+    ensures node { IfOk result (λ n. node_stored n ≡ schema.now) }
+    ensures whole { IfOk result (λ n. is_whole (node_stored n) ≡ true) }
+    ensures names { IfOk result (λ n. HasPositions (table_stored nodes.now) schema.now.members n.positions) }
+{
+    let traits = copied_traits(alloc, schema)?;
+    let positions = first_positions(alloc, nodes, schema.members)?;
+    Ok(StoredNode {
+        full_name: Text::from_str(alloc, schema.id.as_str())?,
+        shape_type: schema.shape_type,
+        membership: copied_membership(alloc, schema.membership)?,
+        original_name: copied(alloc, schema.original_name)?,
+        places: schema.places,
+        members: Vec::from_slice(alloc, schema.members)?,
+        positions,
+        traits,
+        no_body_members: schema.no_body_members,
+        hint: schema.hint,
+    })
+}
