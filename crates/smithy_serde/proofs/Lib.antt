@@ -1,0 +1,12 @@
+pub mod AnswerLemmas
+pub mod FaultLemmas
+pub mod FinishingLemmas
+pub mod InTurn
+pub mod PartLemmas
+pub mod RecordingLemmas
+pub mod RefusingLemmas
+pub mod ResultLemmas
+pub mod StoredLemmas
+pub mod TableLemmas
+pub mod ToldSoFar
+pub mod WritesLemmas
