@@ -1,0 +1,163 @@
+-- The end: the body, the target, and the request.
+use Rattle.std.proofs.Common.{◌≡◌, refl, ap, sym, ◌∙◌, ℕ, Bool, true, false, not, ◌||◌, List, [], ◌∷◌, ◌++◌, append_assoc, length, map, find, subst, Result, Ok, Err, Option, Some, None, option_map, option_and_then}
+use Rattle.std.specs.List.{list_all, join_with_byte}
+use Rattle.std.specs.Option.{option_or}
+use Rattle.std.proofs.lemmas.Bool.{and_parts}
+use Rattle.std.proofs.lemmas.List.{append-nil}
+use Rattle.smithy_types.specs.Documents.{Document}
+use Rattle.smithy_types.specs.Texts.{has_byte}
+use Rattle.smithy_types.specs.Results.{then_give}
+use Rattle.smithy_schema.specs.Nodes.{Schema, Binding, to_payload, members_of, binding_of, is_outside_body}
+use Rattle.smithy_schema.specs.Templates.{pieces}
+use Rattle.smithy_serde.specs.DocumentOf.{document_fault, document_fault_text}
+use Rattle.smithy_serde.specs.Values.{Write, Writes, writes_of}
+use Rattle.smithy_serde.specs.Writes.{all_resolved, unbound}
+use Rattle.smithy_http.specs.Requests.{Request}
+use Rattle.smithy_binding.specs.Filling.{fill}
+use Rattle.smithy_binding.specs.Bindings.{pairs, labels}
+use Rattle.smithy_binding.specs.Bodies.{Body, body, document_value, is_payload, unbound_value, unbound_origin, bytes_from, has_unbound_member}
+use Rattle.smithy_binding.specs.Placing.{Protocol, Omit, place, target_of, template_of, method_of, with_query, pair_text, is_codec, all_headers}
+use Rattle.smithy_binding.specs.DefaultHeaders.{with_defaults}
+use Rattle.smithy_binding.specs.UnboundBody.{unbound_fault, unbound_bytes}
+use Rattle.smithy_binding.specs.Faults.{Fault, custom, fault, writes_fault, body_fault, hole_fault, target_fault, legal_fault}
+use Rattle.smithy_binding.specs.Gather.{Gathered, gather, ok_unless, nothing_yet}
+use Rattle.smithy_binding.specs.TargetParts.{separator, queries, target_behind, target_with}
+use Rattle.smithy_binding.specs.Placeable.{is_text_binding, is_placeable_member, is_placeable}
+use Rattle.smithy_binding.proofs.UnboundMembers.{placeable-members}
+use Rattle.smithy_binding.proofs.Gathers.{gathered, gather-all, IsGathered, IsGathered-all}
+
+joined_queries : (p : List ℕ × List ℕ) (ps : List (List ℕ × List ℕ)) → join_with_byte 38 (map pair_text (p ∷ ps)) ≡ pair_text p ++ queries ps
+joined_queries p [] = sym (append-nil (pair_text p))
+joined_queries p (q ∷ qs) = ap (λ (t : List ℕ). pair_text p ++ 38 ∷ t) (joined_queries q qs)
+
+with_query-behind : (path : List ℕ) (ps : List (List ℕ × List ℕ)) → with_query path ps ≡ target_behind path (queries ps)
+with_query-behind path [] = refl
+with_query-behind path (p ∷ ps) =
+    append_assoc path (separator (has_byte 63 path)) (join_with_byte 38 (map pair_text (p ∷ ps)))
+    ∙ ap (λ t. path ++ (separator (has_byte 63 path) ++ t)) (joined_queries p ps)
+
+-- no member of a placeable schema is a payload
+no_payload : (ms : List Schema) → list_all is_placeable_member ms ≡ true → find (λ m. is_payload (binding_of m)) ms ≡ None
+no_payload [] e = refl
+no_payload (m ∷ ms) e =
+    let parts = and_parts (is_placeable_member m) (list_all is_placeable_member ms) e in
+    rw (not_payload (binding_of m) parts.0) (no_payload ms parts.1)
+  where
+    not_payload : (b : Binding) → (not (is_outside_body b) || is_text_binding b) ≡ true → is_payload b ≡ false
+    not_payload to_payload e = absurd (cc e)
+    not_payload _ e = refl
+
+-- its body is the document of the unbound writes
+pub body_fault-unbound : (schema : Schema) (ws : List Write) → is_placeable schema ≡ true → body_fault schema ws ≡ unbound_fault (has_unbound_member schema) (writes_of (unbound schema ws))
+unfolding body_fault document_value
+body_fault-unbound schema ws e = rw (no_payload (members_of schema) (placeable-members schema e)) (go (has_unbound_member schema))
+  where
+    go : (b : Bool) → option_map (λ f. custom (document_fault_text f)) (option_and_then document_fault (unbound_value b schema ws)) ≡ unbound_fault b (writes_of (unbound schema ws))
+    go true = refl
+    go false = refl
+
+pub body-unbound : (schema : Schema) (ws : List Write) (text_of : Document → List ℕ) → is_placeable schema ≡ true
+    → body text_of schema ws ≡ record { bytes = unbound_bytes (has_unbound_member schema) text_of (writes_of (unbound schema ws)); origin = unbound_origin (has_unbound_member schema) }
+unfolding body document_value
+body-unbound schema ws text_of e = rw (no_payload (members_of schema) (placeable-members schema e)) (go (has_unbound_member schema) refl)
+  where
+    go : (b : Bool) → has_unbound_member schema ≡ b
+        → ◌≡◌ {A = Body} (record { bytes = bytes_from (unbound_origin b) text_of schema ws; origin = unbound_origin b }) (record { bytes = unbound_bytes b text_of (writes_of (unbound schema ws)); origin = unbound_origin b })
+    go true h = rw (no_payload (members_of schema) (placeable-members schema e), h) refl
+    go false h = refl
+
+-- the same of what the code knows of both
+pub fault-by : (schema : Schema) (ws : List Write) (has_body : Bool) (us : Writes) → is_placeable schema ≡ true → has_body ≡ has_unbound_member schema → us ≡ writes_of (unbound schema ws)
+    → body_fault schema ws ≡ unbound_fault has_body us
+fault-by schema ws has_body us e has same = rw (has, same) (body_fault-unbound schema ws e)
+
+pub body-by : (schema : Schema) (ws : List Write) (text_of : Document → List ℕ) (has_body : Bool) (us : Writes) → is_placeable schema ≡ true → has_body ≡ has_unbound_member schema → us ≡ writes_of (unbound schema ws)
+    → (bytes : List ℕ) → bytes ≡ unbound_bytes has_body text_of us → body text_of schema ws ≡ record { bytes = bytes; origin = unbound_origin has_body }
+body-by schema ws text_of has_body us e has same bytes told = rw (told, has, same) (body-unbound schema ws text_of e)
+
+-- what the walk says when it ends well
+pub walked : (schema : Schema) (ws : List Write) (s : Gathered) → gather schema (nothing_yet schema) ws ≡ Ok s → (writes_fault schema [] ws ≡ None) × IsGathered schema ws s
+walked schema ws s e = go (writes_fault schema [] ws) refl (sym (gather-all schema ws) ∙ e)
+  where
+    go : (o : Option Fault) → writes_fault schema [] ws ≡ o → ok_unless o (gathered schema (nothing_yet schema) (all_resolved schema ws)) ≡ Ok s → (o ≡ None) × IsGathered schema ws s
+    go (Some f) h given = absurd (cc given)
+    go None h given =
+        let same : gathered schema (nothing_yet schema) (all_resolved schema ws) ≡ s = cc given in (refl, subst (IsGathered schema ws) same (IsGathered-all schema ws))
+
+pub walk-fault : (schema : Schema) (ws : List Write) (f : Fault) → gather schema (nothing_yet schema) ws ≡ Err f → writes_fault schema [] ws ≡ Some f
+walk-fault schema ws f e = go (writes_fault schema [] ws) (sym (gather-all schema ws) ∙ e)
+  where
+    go : (o : Option Fault) → ok_unless o (gathered schema (nothing_yet schema) (all_resolved schema ws)) ≡ Err f → o ≡ Some f
+    go (Some g) given = ap (λ (r : Result Gathered Fault). fault_in r) given
+      where
+        fault_in : Result Gathered Fault → Option Fault
+        fault_in (Ok x) = None
+        fault_in (Err g) = Some g
+    go None given = absurd (cc given)
+
+abbrev pub target_by : Schema → List ℕ → Gathered → Result (List ℕ) (List ℕ)
+target_by schema endpoint s = target_with (template_of schema endpoint) s.labels s.query
+
+target-is : (schema : Schema) (ws : List Write) (endpoint : List ℕ) (s : Gathered) → IsGathered schema ws s → target_of schema ws endpoint ≡ target_by schema endpoint s
+unfolding target_of
+target-is schema ws endpoint s g = rw (g.labels, g.query) (go (fill (pieces (template_of schema endpoint)) (labels schema ws)))
+  where
+    go : (r : Result (List ℕ) (List ℕ)) → then_give r (λ path. with_query path (pairs schema ws)) ≡ then_give r (λ path. target_behind path (queries (pairs schema ws)))
+    go (Err h) = refl
+    go (Ok path) = ap (λ (t : List ℕ). Ok t) (with_query-behind path (pairs schema ws))
+
+-- a fault of the walk is the fault
+pub fault-walk : (schema : Schema) (ws : List Write) (endpoint : List ℕ) (f : Fault) → gather schema (nothing_yet schema) ws ≡ Err f → fault schema ws endpoint ≡ Some f
+unfolding fault
+fault-walk schema ws endpoint f e = rw (walk-fault schema ws f e) refl
+
+-- a rule of documents that the body breaks is the fault, behind the walk
+pub fault-body : (schema : Schema) (ws : List Write) (endpoint : List ℕ) (s : Gathered) (f : Fault) → gather schema (nothing_yet schema) ws ≡ Ok s → body_fault schema ws ≡ Some f → fault schema ws endpoint ≡ Some f
+unfolding fault
+fault-body schema ws endpoint s f e given = rw ((walked schema ws s e).0, given) refl
+
+-- behind both the target alone decides
+fault-target : (schema : Schema) (ws : List Write) (endpoint : List ℕ) (s : Gathered) → gather schema (nothing_yet schema) ws ≡ Ok s → body_fault schema ws ≡ None
+    → fault schema ws endpoint ≡ option_or (hole_fault (target_by schema endpoint s)) (option_or (target_fault (target_by schema endpoint s)) None)
+unfolding fault
+fault-target schema ws endpoint s e none =
+    let w = walked schema ws s e in
+    rw (w.0, none, target-is schema ws endpoint s w.1) refl
+
+pub fault-hole : (schema : Schema) (ws : List Write) (endpoint : List ℕ) (s : Gathered) (f : Fault) → gather schema (nothing_yet schema) ws ≡ Ok s → body_fault schema ws ≡ None
+    → hole_fault (target_by schema endpoint s) ≡ Some f → fault schema ws endpoint ≡ Some f
+fault-hole schema ws endpoint s f e none given = fault-target schema ws endpoint s e none ∙ go (target_by schema endpoint s) given
+  where
+    go : (r : Result (List ℕ) (List ℕ)) → hole_fault r ≡ Some f → option_or (hole_fault r) (option_or (target_fault r) None) ≡ Some f
+    go (Ok t) given = absurd (cc given)
+    go (Err h) given = given
+
+or_none : (o : Option Fault) → option_or o None ≡ o
+or_none None = refl
+or_none (Some f) = refl
+
+-- with each hole filled it is the fault of the target
+pub fault-legal : (schema : Schema) (ws : List Write) (endpoint : List ℕ) (s : Gathered) (target : List ℕ) → gather schema (nothing_yet schema) ws ≡ Ok s → body_fault schema ws ≡ None
+    → target_by schema endpoint s ≡ Ok target → fault schema ws endpoint ≡ legal_fault target
+fault-legal schema ws endpoint s target e none filled = fault-target schema ws endpoint s e none ∙ rw filled (or_none (legal_fault target))
+
+pub place-is : (protocol : Protocol) (schema : Schema) (ws : List Write) (endpoint : List ℕ) (omit : Omit) (s : Gathered) (target : List ℕ) (b : Body) → gather schema (nothing_yet schema) ws ≡ Ok s
+    → body protocol.text_of schema ws ≡ b → target_by schema endpoint s ≡ Ok target
+    → place protocol schema ws endpoint omit ≡ Some (record { method = method_of schema; target = target; headers = all_headers protocol b omit s.headers; body = b.bytes })
+unfolding place
+place-is protocol schema ws endpoint omit s target b e same filled =
+    let g = (walked schema ws s e).1 in
+    rw (same, target-is schema ws endpoint s g, filled, ← g.headers) refl
+
+codec_origin : (has_body : Bool) → is_codec (unbound_origin has_body) ≡ has_body
+codec_origin true = refl
+codec_origin false = refl
+
+-- the default headers of the body of the unbound writes
+pub defaults-unbound : (protocol : Protocol) (has_body : Bool) (bytes : List ℕ) (omit : Omit) (pairs : List (List ℕ × List ℕ))
+    → all_headers protocol (record { bytes = bytes; origin = unbound_origin has_body }) omit pairs ≡ with_defaults protocol.content_type has_body (length bytes) omit pairs
+defaults-unbound protocol has_body bytes omit pairs = rw (codec_origin has_body) refl
+
+pub same_request : (m n t u : List ℕ) (g h : List (List ℕ × List ℕ)) (b c : List ℕ) → m ≡ n → t ≡ u → g ≡ h → b ≡ c
+    → ◌≡◌ {A = Request} (record { method = m; target = t; headers = g; body = b }) (record { method = n; target = u; headers = h; body = c })
+same_request m n t u g h b c e f k p = λ i. record { method = e i; target = f i; headers = k i; body = p i }

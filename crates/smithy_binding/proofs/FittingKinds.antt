@@ -1,0 +1,18 @@
+-- Which values fit a member.
+use Rattle.std.proofs.Common.{◌≡◌, refl, Bool, true, false, ◌||◌, Some}
+use Rattle.smithy_ids.specs.declared.shape_type.ShapeType.{ShapeType}
+use Rattle.smithy_schema.specs.Nodes.{Schema}
+use Rattle.smithy_serde.specs.Values.{Value, null}
+use Rattle.smithy_serde.specs.Fits.{is_null, fits_member, kind_takes, written_kind}
+
+not_null : (v : Value) (k : ShapeType) → written_kind v ≡ Some k → is_null v ≡ false
+not_null null k e = absurd (cc e)
+not_null _ k e = refl
+
+or_false : (b : Bool) → (b || false) ≡ b
+or_false true = refl
+or_false false = refl
+
+-- a value that a call with a kind wrote
+pub fits-some : (m : Schema) (v : Value) (k : ShapeType) → written_kind v ≡ Some k → fits_member m v ≡ kind_takes m.node.kind k
+fits-some m v k e = rw (e, not_null v k e) (or_false (kind_takes m.node.kind k))

@@ -1,0 +1,48 @@
+-- What follows from a refusal.
+use Rattle.std.proofs.Common.{Result, Ok, Err, IfOk, IfErr, OnOk}
+use Rattle.smithy_schema.specs.Nodes.{Table}
+use Rattle.smithy_serde.specs.declared.error.SerdeError.{SerdeError}
+use Rattle.smithy_serde.specs.declared.error.SerdeError.TheVariants.{UnknownMember, InvalidInput, UnsupportedOperation, Custom, OutOfMemory}
+use Rattle.smithy_binding.specs.Faults.{Fault}
+use Rattle.smithy_binding.specs.Refusing.{TellsFault}
+
+-- what follows from a fault that is told
+pub TellsFault-then : (e : SerdeError) (P Q : Fault → Type 0) → ((f : Fault) → P f → Q f) → TellsFault e P → TellsFault e Q
+TellsFault-then (UnknownMember t) P Q h p = h _ p
+TellsFault-then (InvalidInput t) P Q h p = h _ p
+TellsFault-then (UnsupportedOperation t) P Q h p = h _ p
+TellsFault-then (Custom t) P Q h p = h _ p
+TellsFault-then OutOfMemory P Q h p = p
+TellsFault-then _ P Q h p = p
+
+pub IfErr-then : {A : Type 0} (r : Result A SerdeError) (P Q : Fault → Type 0) → ((f : Fault) → P f → Q f) → IfErr r (λ e. TellsFault e P) → IfErr r (λ e. TellsFault e Q)
+IfErr-then (Ok x) P Q h p = p
+IfErr-then (Err e) P Q h p = TellsFault-then e P Q h p
+
+-- the same for every table
+pub IfErr-each : {A : Type 0} (r : Result A SerdeError) (P Q : Table → Fault → Type 0) → ((t : Table) (f : Fault) → P t f → Q t f) → IfErr r (λ e. (t : Table) → TellsFault e (P t))
+    → IfErr r (λ e. (t : Table) → TellsFault e (Q t))
+IfErr-each (Ok x) P Q h p = p
+IfErr-each (Err e) P Q h p = λ t. TellsFault-then e (P t) (Q t) (h t) (p t)
+
+pub IfOk-then : {A E : Type 0} (r : Result A E) (P Q : A → Type 0) → ((x : A) → P x → Q x) → IfOk r P → IfOk r Q
+IfOk-then (Ok x) P Q h p = h x p
+IfOk-then (Err e) P Q h p = p
+
+pub OnOk-then : {A E : Type 0} (r : Result A E) (P Q : Type 0) → (P → Q) → OnOk r P → OnOk r Q
+OnOk-then (Ok x) P Q h p = h p
+OnOk-then (Err e) P Q h p = p
+
+pub OnOk-both : {A E : Type 0} (r : Result A E) (P Q R : Type 0) → (P → Q → R) → OnOk r P → OnOk r Q → OnOk r R
+OnOk-both (Ok x) P Q R h p q = h p q
+OnOk-both (Err e) P Q R h p q = p
+
+-- the same for one table
+pub IfErr-at : {A : Type 0} (r : Result A SerdeError) (P : Table → Fault → Type 0) (t : Table) → IfErr r (λ e. (t : Table) → TellsFault e (P t)) → IfErr r (λ e. TellsFault e (P t))
+IfErr-at (Ok x) P t p = p
+IfErr-at (Err e) P t p = p t
+
+-- the same from every table
+pub IfErr-all : {A : Type 0} (r : Result A SerdeError) (P : Table → Fault → Type 0) → ((t : Table) → IfErr r (λ e. TellsFault e (P t))) → IfErr r (λ e. (t : Table) → TellsFault e (P t))
+IfErr-all (Ok x) P h = tt
+IfErr-all (Err e) P h = h

@@ -1,0 +1,96 @@
+-- A list of writes, a write at a time.
+use Rattle.std.proofs.Common.{◌≡◌, refl, ap, ◌∙◌, subst, ℕ, zero, suc, ◌+◌, ◌≤◌, Bool, true, false, ◌&&◌, List, [], ◌∷◌, length, drop, filter_map, slice_get, slice_set, arith, Option, Some, None, option_and_then, Ok, Err, if◌then◌else◌}
+use Rattle.std.specs.List.{list_all, cons_option}
+use Rattle.std.proofs.Math.ListN.{drop_of_length-le}
+use Rattle.std.proofs.lemmas.Bool.{and_parts}
+use Rattle.smithy_schema.specs.Nodes.{Schema, at_place, member_at, members_of, binding_of}
+use Rattle.smithy_serde.specs.Values.{Write}
+use Rattle.smithy_serde.specs.Writes.{Resolved, resolve}
+use Rattle.smithy_serde.specs.Fits.{fits_member}
+use Rattle.smithy_binding.specs.Faults.{Fault, no_member, wrong_kind, bound_fault, is_placed_at}
+use Rattle.smithy_binding.specs.Gather.{Gathered, is_seen, placed, ok_unless, gather, gather_one, add_or_fault}
+use Rattle.smithy_binding.specs.Placed.{placed_first, first_fault}
+
+pub drop-some : {X : Type 0} (xs : List X) (i : ℕ) (x : X) → slice_get xs i ≡ Some x → drop i xs ≡ x ∷ drop (i + 1) xs
+drop-some [] i x e = absurd (cc e)
+drop-some (y ∷ ys) zero x e = let same : y ≡ x = cc e in ap (λ z. z ∷ ys) same
+drop-some (y ∷ ys) (suc i) x e = let next : suc i + 1 ≡ suc (i + 1) = omega arith in rw next (drop-some ys i x e)
+
+pub drop-none : {X : Type 0} (xs : List X) (i : ℕ) → slice_get xs i ≡ None → drop i xs ≡ []
+drop-none [] zero e = refl
+drop-none [] (suc i) e = refl
+drop-none (y ∷ ys) zero e = absurd (cc e)
+drop-none (y ∷ ys) (suc i) e = drop-none ys i e
+
+pub gather-more : (schema : Schema) (s t : Gathered) (ws : List Write) (i : ℕ) (w : Write) → slice_get ws i ≡ Some w → gather_one schema s w ≡ Ok t
+    → gather schema s (drop i ws) ≡ gather schema t (drop (i + 1) ws)
+unfolding gather
+gather-more schema s t ws i w at e = rw (drop-some ws i w at, e) refl
+
+pub gather-stop : (schema : Schema) (s : Gathered) (f : Fault) (ws : List Write) (i : ℕ) (w : Write) → slice_get ws i ≡ Some w → gather_one schema s w ≡ Err f
+    → gather schema s (drop i ws) ≡ Err f
+unfolding gather
+gather-stop schema s f ws i w at e = rw (drop-some ws i w at, e) refl
+
+pub gather-end : (schema : Schema) (s : Gathered) (ws : List Write) (i : ℕ) → length ws ≤ i → gather schema s (drop i ws) ≡ Ok s
+unfolding gather
+gather-end schema s ws i l = rw (drop_of_length-le ws l) refl
+
+pub gather_one-at : (schema : Schema) (s : Gathered) (w : Write) (i : ℕ) (m : Schema) → resolve schema w.label ≡ Some i → member_at schema i ≡ Some m
+    → gather_one schema s w ≡ add_or_fault schema s (record { position = i; member = m; value = w.value })
+unfolding gather_one
+gather_one-at schema s w i m e at = rw (e, at) refl
+
+pub gather_one-none : (schema : Schema) (s : Gathered) (w : Write) → resolve schema w.label ≡ None → gather_one schema s w ≡ Err (no_member w)
+unfolding gather_one
+gather_one-none schema s w e = rw e refl
+
+pub gather_one-hole : (schema : Schema) (s : Gathered) (w : Write) (i : ℕ) → resolve schema w.label ≡ Some i → member_at schema i ≡ None → gather_one schema s w ≡ Err (no_member w)
+unfolding gather_one
+gather_one-hole schema s w i e at = rw (e, at) refl
+
+-- a value that doesn't fit
+pub add-wrong : (schema : Schema) (s : Gathered) (r : Resolved) → fits_member r.member r.value ≡ false → add_or_fault schema s r ≡ Err (wrong_kind r.member r.value)
+add-wrong schema s r e = rw e refl
+
+-- a later write of a member
+pub add-again : (schema : Schema) (s : Gathered) (r : Resolved) → fits_member r.member r.value ≡ true → is_seen s r.position ≡ true → add_or_fault schema s r ≡ Ok s
+add-again schema s r e seen = rw (e, seen) (go (is_placed_at (binding_of r.member)))
+  where
+    go : (b : Bool) → ok_unless (if b && false then bound_fault r else None) s ≡ Ok s
+    go true = refl
+    go false = refl
+
+add-unseen : (schema : Schema) (s : Gathered) (r : Resolved) → fits_member r.member r.value ≡ true → is_seen s r.position ≡ false
+    → add_or_fault schema s r ≡ ok_unless (first_fault r.member r.value) (placed schema s r)
+add-unseen schema s r e unseen = rw (e, unseen) (go (is_placed_at (binding_of r.member)))
+  where
+    go : (b : Bool) → ok_unless (if b && true then bound_fault r else None) (placed schema s r) ≡ ok_unless (if b then bound_fault r else None) (placed schema s r)
+    go true = refl
+    go false = refl
+
+-- the first write of a member
+pub add-first : (schema : Schema) (s : Gathered) (r : Resolved) → fits_member r.member r.value ≡ true → is_seen s r.position ≡ false → first_fault r.member r.value ≡ None
+    → add_or_fault schema s r ≡ Ok (record (placed_first schema r.member r.value s) { seen = slice_set s.seen r.position true })
+add-first schema s r e unseen none = add-unseen schema s r e unseen ∙ ap (λ o. ok_unless o (placed schema s r)) none
+
+pub add-fault : (schema : Schema) (s : Gathered) (r : Resolved) (f : Fault) → fits_member r.member r.value ≡ true → is_seen s r.position ≡ false → first_fault r.member r.value ≡ Some f
+    → add_or_fault schema s r ≡ Err f
+add-fault schema s r f e unseen some = add-unseen schema s r e unseen ∙ ap (λ o. ok_unless o (placed schema s r)) some
+
+-- a test that each member passes
+pub member-passes : (test : Schema → Bool) (schema : Schema) (i : ℕ) (m : Schema) → list_all test (members_of schema) ≡ true → member_at schema i ≡ Some m → test m ≡ true
+member-passes test schema i m all at = go schema.node.members i all at
+  where
+    go : (places : List ℕ) (i : ℕ) → list_all test (filter_map (at_place schema.table) places) ≡ true → option_and_then (at_place schema.table) (slice_get places i) ≡ Some m → test m ≡ true
+    go [] i all at = absurd (cc at)
+    go (p ∷ places) zero all at = first (at_place schema.table p) all at
+      where
+        first : (o : Option Schema) → list_all test (cons_option o (filter_map (at_place schema.table) places)) ≡ true → o ≡ Some m → test m ≡ true
+        first None all at = absurd (cc at)
+        first (Some n) all at = let same : n ≡ m = cc at in subst (λ x. test x ≡ true) same (and_parts (test n) _ all).0
+    go (p ∷ places) (suc i) all at = go places i (later (at_place schema.table p) all) at
+      where
+        later : (o : Option Schema) → list_all test (cons_option o (filter_map (at_place schema.table) places)) ≡ true → list_all test (filter_map (at_place schema.table) places) ≡ true
+        later None all = all
+        later (Some n) all = (and_parts (test n) _ all).1

@@ -1,0 +1,7 @@
+use Rattle.std.proofs.Common.{◌≡◌, drop}
+use Rattle.std.specs.List.{list_all}
+use Rattle.smithy_binding.specs.ClearParts.{is_marked_once}
+use Rattle.smithy_binding.proofs.clear.are_once.Given as goal
+
+abbrev pub invariant-loop-name : goal.invariant-loop-name
+invariant-loop-name l = list_all (λ name. is_marked_once l.once name.now) (drop l.name-index l.names) ≡ list_all (λ name. is_marked_once l.once name.now) l.names

@@ -1,0 +1,6 @@
+use Rattle.std.proofs.Common.{◌≡◌, ◌++◌, drop, map, string_bytes}
+use Rattle.smithy_binding.specs.Checking.{texts_shown}
+use Rattle.smithy_binding.proofs.name_check.as_texts.Given as goal
+
+abbrev pub invariant-loop-name : goal.invariant-loop-name
+invariant-loop-name l = texts_shown l.texts.items ++ map string_bytes (drop l.name-index l.names) ≡ map string_bytes l.names

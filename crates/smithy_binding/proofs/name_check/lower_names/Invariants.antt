@@ -1,0 +1,6 @@
+use Rattle.std.proofs.Common.{◌≡◌, ◌++◌, drop, map, string_bytes}
+use Rattle.smithy_binding.specs.Checking.{texts_shown, lower_names}
+use Rattle.smithy_binding.proofs.name_check.lower_names.Given as goal
+
+abbrev pub invariant-loop-name : goal.invariant-loop-name
+invariant-loop-name l = map string_bytes l.lower.items ++ lower_names (texts_shown (drop l.name-index l.names)) ≡ lower_names (texts_shown l.names)

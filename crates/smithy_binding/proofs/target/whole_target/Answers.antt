@@ -1,0 +1,19 @@
+use Rattle.std.proofs.Common.{rules, ◌≡◌, refl, Some, IfErr, map}
+use Rattle.smithy_schema.specs.Templates.{pieces}
+use Rattle.smithy_binding.specs.Faults.{hole_fault}
+use Rattle.smithy_binding.specs.Filling.{fill}
+use Rattle.smithy_binding.specs.Refusing.{TellsFault}
+use Rattle.smithy_binding.specs.Seen.{label_pair}
+use Rattle.smithy_binding.specs.TargetParts.{target_behind}
+use Rattle.smithy_binding.proofs.Fills.{hole-given}
+use Rattle.smithy_binding.proofs.Refusals.{IfErr-then}
+use Rattle.smithy_binding.proofs.target.whole_target.Goals as goal
+
+pub returns-clause-ok : goal.returns-clause-ok
+returns-clause-ok c = rw (c.in_ok-target.ensures.ok, c.in_ok-push_query.ensures) refl
+
+pub returns-in_err-target-clause-err : goal.returns-in_err-target-clause-err
+returns-in_err-target-clause-err c =
+    let filled = fill (pieces c.args.template.now) (map label_pair c.args.labels.now) in
+    let told : IfErr c.from_residual.result (λ e. TellsFault e (λ f. hole_fault filled ≡ Some f)) = search rules in
+    IfErr-then c.from_residual.result _ _ (λ f e. hole-given filled (λ path. target_behind path c.args.query.now) f e) told

@@ -1,0 +1,112 @@
+-- What a bound write puts into labels, headers and the query (Smithy, HTTP protocol bindings).
+use Rattle.std.specs.Prelude.{ℕ, false, not, List, [], ◌∷◌, ◌++◌, map, filter, flat_map, filter_map, Option, Some, None, option_map, option_to_list, unwrap_or, is_some}
+use Rattle.std.specs.Option.{option_map_or, option_zip}
+use Rattle.std.specs.Str.{str_to_ascii_lowercase}
+use Rattle.smithy_types.specs.Texts.{is_one_of}
+use Rattle.smithy_types.specs.Results.{each}
+use Rattle.smithy_ids.specs.declared.shape_type.ShapeType.{ShapeType}
+use Rattle.smithy_ids.specs.declared.shape_type.ShapeType.TheVariants as kind
+use Rattle.smithy_http.specs.Headers.{put_all}
+use Rattle.smithy_schema.specs.Nodes.{Schema, element_of, members_of, name_of, Binding, to_header, to_prefix, to_query, to_query_map, to_label, binding_of}
+use Rattle.smithy_serde.specs.Values.{Value, list, Writes, no_writes, write, Write, list_of}
+use Rattle.smithy_serde.specs.Values as value
+use Rattle.smithy_serde.specs.Writes.{Resolved, firsts}
+use Rattle.smithy_strings.specs.declared.wire.Place.{Place}
+use Rattle.smithy_strings.specs.declared.wire.Place.TheVariants.{Header, Query, Label}
+use Rattle.smithy_strings.specs.Wire.{wire}
+use Rattle.smithy_strings.specs.Lists.{listed}
+
+-- where the texts of a member with this binding stand
+abbrev pub place_at : Binding → Place
+place_at (to_header name) = Header
+place_at (to_prefix prefix) = Header
+place_at to_label = Label
+place_at _ = Query
+
+-- where the texts of a member stand
+abbrev pub place_of : Schema → Place
+place_of m = place_at (binding_of m)
+
+-- of a node that is not there, a kind that no value has
+abbrev pub kind_or_none : Option Schema → ShapeType
+kind_or_none schema = option_map_or (λ s. s.node.kind) schema kind.Member
+
+-- the text of a value of a member, by the member's time format and media type
+abbrev pub member_text : Place → Schema → Value → Option (List ℕ)
+member_text place m v = wire m.node.traits.timestamp_format (is_some m.node.traits.media_type) place v
+
+-- the text of an element, by the format of the node with which it was written
+abbrev pub element_text : Place → Write → Option (List ℕ)
+element_text place w = wire w.label.time_format false place w.value
+
+-- the texts of the entries, key and value, in the order of the writes
+abbrev pub entry_texts : Place → Writes → List (List ℕ × List ℕ)
+entry_texts place no_writes = []
+entry_texts place (write k key no_writes) = []
+entry_texts place (write k key (write l v ws)) =
+    option_to_list (option_zip (wire None false place key) (wire None false place v)) ++ entry_texts place ws
+
+-- the entries of a map, and of no other value
+abbrev pub map_texts : Place → Value → List (List ℕ × List ℕ)
+map_texts place (value.map ws) = entry_texts place ws
+map_texts place _ = []
+
+-- The texts of a value at its member's place: one of a scalar, one for each element of a list. There are none at all where one of them is missing.
+abbrev pub texts : Schema → Value → Option (List (List ℕ))
+texts m (list ws) = each (element_text (place_of m)) (list_of ws)
+texts m (value.map ws) = Some []
+texts m v = option_map (λ t. t ∷ []) (member_text (place_of m) m v)
+
+-- a list is one text in a header (httpHeader)
+abbrev pub header_texts : Schema → Value → List (List ℕ) → List (List ℕ)
+header_texts m (list ws) ts = listed (kind_or_none (element_of m)) ts ∷ []
+header_texts m v ts = ts
+
+-- each text under one name
+abbrev pub pairs_with : List ℕ → List (List ℕ) → List (List ℕ × List ℕ)
+pairs_with name ts = map (λ t. (name, t)) ts
+
+-- The pairs of lower-case name and value of a header or prefix write (httpHeader, httpPrefixHeaders).
+abbrev pub inserted_at : Binding → Schema → Value → List (List ℕ × List ℕ)
+inserted_at (to_header name) m v = pairs_with (str_to_ascii_lowercase name) (option_map_or (header_texts m v) (texts m v) [])
+inserted_at (to_prefix prefix) m v = map (λ e. (str_to_ascii_lowercase (prefix ++ e.0), e.1)) (map_texts Header v)
+inserted_at _ m v = []
+
+-- the pairs that a write gives to the headers
+abbrev pub inserted : Resolved → List (List ℕ × List ℕ)
+inserted r = inserted_at (binding_of r.member) r.member r.value
+
+-- The headers of the first writes, in the order of the writes: each name once, at its first place, with its last value.
+unfoldable pub headers : Schema → List Write → List (List ℕ × List ℕ)
+headers schema ws = put_all [] (flat_map inserted (firsts schema ws))
+
+-- the names of the schema's query members, written or not (httpQuery)
+abbrev pub query_names : Schema → List (List ℕ)
+query_names schema = filter_map (λ m. m.node.traits.http_query) (members_of schema)
+
+-- The pairs of a query write. A key of the query map that is one of these names, those of the query members, is left out (httpQuery, httpQueryParams).
+abbrev pub pairs_at : Binding → List (List ℕ) → Schema → Value → List (List ℕ × List ℕ)
+pairs_at (to_query name) names m v = pairs_with name (unwrap_or (texts m v) [])
+pairs_at to_query_map names m v = filter (λ e. not (is_one_of e.0 names)) (map_texts Query v)
+pairs_at _ names m v = []
+
+-- the pairs that a write gives to the query
+abbrev pub pairs_of : Schema → Resolved → List (List ℕ × List ℕ)
+pairs_of schema r = pairs_at (binding_of r.member) (query_names schema) r.member r.value
+
+-- the query pairs of the first writes, in the order of the writes
+unfoldable pub pairs : Schema → List Write → List (List ℕ × List ℕ)
+pairs schema ws = flat_map (pairs_of schema) (firsts schema ws)
+
+-- the text of a label write, under its member's name (httpLabel)
+abbrev pub labelled_at : Binding → Schema → Value → List (List ℕ × List ℕ)
+labelled_at to_label m v = pairs_with (name_of m) (unwrap_or (texts m v) [])
+labelled_at _ m v = []
+
+-- the texts that a write gives to the labels
+abbrev pub labelled : Resolved → List (List ℕ × List ℕ)
+labelled r = labelled_at (binding_of r.member) r.member r.value
+
+-- the label texts of the first writes, by the names of their members
+unfoldable pub labels : Schema → List Write → List (List ℕ × List ℕ)
+labels schema ws = flat_map labelled (firsts schema ws)

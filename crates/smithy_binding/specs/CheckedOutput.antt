@@ -1,0 +1,75 @@
+-- Schemas that a response can be read by: the rules of an input, for the bindings of a response.
+use Rattle.std.specs.Prelude.{◌≡◌, ℕ, ◌+◌, nat_le, Bool, not, ◌&&◌, ◌||◌, Option, is_some, is_none, option_map, find, IsTrue, All}
+use Rattle.std.specs.List.{list_all, list_any}
+use Rattle.smithy_types.specs.Texts.{AreDistinct}
+use Rattle.smithy_ids.specs.declared.shape_type.ShapeType.{ShapeType}
+use Rattle.smithy_ids.specs.declared.shape_type.ShapeType.TheVariants as kind
+use Rattle.smithy_ids.specs.Kinds.{same_kind}
+use Rattle.smithy_schema.specs.Nodes.{Schema, Traits, members_of, is_response_bound}
+use Rattle.smithy_binding.specs.Checked.{has_cited_nodes, member_names, has_distinct_names, one_if, is_writable, has_header_kind, is_element_plain, members_with, has_at_most_one, is_sound_payload, is_text_map, has_sound_headers}
+
+-- how many of the four response bindings a node has (httpHeader, httpPrefixHeaders, httpResponseCode, httpPayload)
+abbrev pub response_binding_count : Traits → ℕ
+response_binding_count t =
+    one_if (is_some t.http_header) + one_if (is_some t.http_prefix_headers) + one_if t.http_response_code + one_if t.http_payload
+
+-- a member has at most one response binding
+abbrev pub is_response_bound_once : Schema → Bool
+is_response_bound_once m = nat_le (response_binding_count m.node.traits) 1
+
+-- the elements of a list in a header are plain
+abbrev pub has_plain_header_elements : Schema → Bool
+has_plain_header_elements m = is_none m.node.traits.http_header || is_element_plain m
+
+-- the kind of the payload member of a response (httpPayload)
+abbrev pub response_payload_kind : Schema → Option ShapeType
+response_payload_kind schema = option_map (λ m. m.node.kind) (find (λ m. m.node.traits.http_payload) (members_of schema))
+
+-- some member of a response stands in its body
+abbrev pub has_response_body_member : Schema → Bool
+has_response_body_member schema = list_any (λ m. not (is_response_bound m)) (members_of schema)
+
+-- at most one payload, of a payload's kind, beside which no member is unbound (httpPayload)
+abbrev pub has_sound_response_payload : Schema → Bool
+has_sound_response_payload schema =
+    has_at_most_one (λ t. t.http_payload) schema && is_sound_payload (response_payload_kind schema) (has_response_body_member schema)
+
+-- at most one prefix map, from texts to texts (httpPrefixHeaders)
+abbrev pub has_sound_prefix_map : Schema → Bool
+has_sound_prefix_map schema =
+    has_at_most_one (λ t. is_some t.http_prefix_headers) schema && list_all is_text_map (members_with (λ t. is_some t.http_prefix_headers) schema)
+
+-- at most one response code, of kind Integer (httpResponseCode)
+abbrev pub has_sound_response_code : Schema → Bool
+has_sound_response_code schema =
+    has_at_most_one (λ t. t.http_response_code) schema
+    && list_all (λ m. same_kind m.node.kind kind.Integer) (members_with (λ t. t.http_response_code) schema)
+
+-- a checked output schema, as a test
+unfoldable pub checked_output : Schema → Bool
+checked_output schema =
+    same_kind schema.node.kind kind.Structure
+    && has_cited_nodes schema
+    && has_distinct_names schema
+    && list_all is_response_bound_once (members_of schema)
+    && list_all is_writable (members_of schema)
+    && list_all has_header_kind (members_of schema)
+    && list_all has_plain_header_elements (members_of schema)
+    && has_sound_response_payload schema
+    && has_sound_prefix_map schema
+    && has_sound_headers schema
+    && has_sound_response_code schema
+
+-- a checked output schema, as facts, one for each rule
+pub record IsCheckedOutput (schema : Schema) : Type 0 where
+  pub structure : schema.node.kind ≡ kind.Structure
+  pub cited : IsTrue (has_cited_nodes schema)
+  pub names : AreDistinct (member_names schema)
+  pub bound_once : All (λ m. IsTrue (is_response_bound_once m)) (members_of schema)
+  pub writable : All (λ m. IsTrue (is_writable m)) (members_of schema)
+  pub kinds : All (λ m. IsTrue (has_header_kind m)) (members_of schema)
+  pub elements : All (λ m. IsTrue (has_plain_header_elements m)) (members_of schema)
+  pub payload : IsTrue (has_sound_response_payload schema)
+  pub prefix_map : IsTrue (has_sound_prefix_map schema)
+  pub unlike_names : IsTrue (has_sound_headers schema)
+  pub response_code : IsTrue (has_sound_response_code schema)

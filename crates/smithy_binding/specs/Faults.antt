@@ -1,0 +1,164 @@
+-- What is wrong with an input: the first fault in one order, as a variant and a text.
+use Rattle.std.specs.Prelude.{ℕ, Bool, true, false, not, ◌&&◌, ◌==◌, codes, List, [], ◌∷◌, ◌++◌, Result, Option, Some, None, option_map, option_and_then, option_to_list, unwrap_or, is_some, if◌then◌else◌}
+use Rattle.std.specs.List.{list_any}
+use Rattle.std.specs.Option.{option_map_or, option_or}
+use Rattle.std.specs.Result.{result_ok, result_err}
+use Rattle.smithy_types.specs.Grammars.{is_token, is_header_value, is_short_target, is_target}
+use Rattle.smithy_types.specs.Results.{first_of_all, unless}
+use Rattle.smithy_ids.specs.declared.shape_type.ShapeType.{ShapeType}
+use Rattle.smithy_ids.specs.Kinds.{kind_word}
+use Rattle.smithy_schema.specs.Nodes.{Schema, element_of, key_of, value_of, name_of, Binding, to_payload, to_body, binding_of}
+use Rattle.smithy_serde.specs.Values.{Value, list, Writes, no_writes, write, Write, list_of}
+use Rattle.smithy_serde.specs.Values as value
+use Rattle.smithy_serde.specs.Fits.{fits, fits_member, written_word}
+use Rattle.smithy_serde.specs.DocumentOf.{document_fault, document_fault_text}
+use Rattle.smithy_serde.specs.Writes.{Resolved, resolve, resolved}
+use Rattle.smithy_binding.specs.Bindings.{kind_or_none, texts, inserted}
+use Rattle.smithy_binding.specs.Bodies.{document_value}
+use Rattle.smithy_binding.specs.Placing.{target_of}
+
+-- a refusal: its variant with its text
+pub data Fault : Type 0 where
+  unknown_member invalid_input unsupported custom : List ℕ → Fault
+
+-- a text of parts, one behind the other
+abbrev pub message : List (List ℕ) → List ℕ
+message [] = []
+message (part ∷ []) = part
+message (part ∷ next ∷ parts) = part ++ message (next ∷ parts)
+
+-- no member has the write's node
+abbrev pub no_member : Write → Fault
+no_member w = unknown_member (unwrap_or w.label.member_name w.label.full_name)
+
+-- the value is not of the member's kind
+abbrev pub wrong_kind : Schema → Value → Fault
+wrong_kind m v = unsupported (message (codes "cannot write " ∷ written_word v ∷ codes " to member " ∷ name_of m ∷ codes " of type " ∷ kind_word m.node.kind ∷ []))
+
+-- a part is not of the kind of the member's element, key or value node, which the text names
+abbrev pub wrong_item_kind : Schema → ShapeType → Value → Fault
+wrong_item_kind m item v = unsupported (message (codes "cannot write " ∷ written_word v ∷ codes " to an element of member " ∷ name_of m ∷ codes " of type " ∷ kind_word item ∷ []))
+
+-- the first element that is not of the kind
+abbrev pub element_fault : Schema → ShapeType → Writes → Option Fault
+element_fault m element no_writes = None
+element_fault m element (write l v ws) = option_or (unless (fits element v) (wrong_item_kind m element v)) (element_fault m element ws)
+
+-- the first key or value that is not of its kind
+abbrev pub entry_fault : Schema → ShapeType → ShapeType → Writes → Option Fault
+entry_fault m this next no_writes = None
+entry_fault m this next (write l v ws) = option_or (unless (fits this v) (wrong_item_kind m this v)) (entry_fault m next this ws)
+
+-- the first element, key or value that is not of its kind
+abbrev pub item_fault : Schema → Value → Option Fault
+item_fault m (list ws) = element_fault m (kind_or_none (element_of m)) ws
+item_fault m (value.map ws) = entry_fault m (kind_or_none (key_of m)) (kind_or_none (value_of m)) ws
+item_fault m _ = None
+
+-- keys and values in turn end with a value
+abbrev pub ends_with_value : Writes → Bool
+ends_with_value no_writes = true
+ends_with_value (write k key no_writes) = false
+ends_with_value (write k key (write l v ws)) = ends_with_value ws
+
+-- a map that ends with a key
+abbrev pub key_fault : Schema → Value → Option Fault
+key_fault m (value.map ws) = unless (ends_with_value ws) (unsupported (message (codes "map member " ∷ name_of m ∷ codes " ends with a key without a value" ∷ [])))
+key_fault m _ = None
+
+-- a value without a text: of the kinds that were tested before, a time whose year its format has not
+abbrev pub year_fault : Schema → Value → Option Fault
+year_fault m v = unless (is_some (texts m v)) (custom (codes "failed to format timestamp: year outside 1 to 9999"))
+
+-- whether a header or an entry behind a prefix was to be made
+abbrev pub header_words : Schema → List ℕ
+header_words m = option_map_or (λ name. codes " to header `") m.node.traits.http_header (codes " to headers with prefix `")
+
+-- the header's name or the prefix, as the trait spells it
+abbrev pub header_or_prefix : Schema → List ℕ
+header_or_prefix m = option_map_or (λ name. name) m.node.traits.http_header (unwrap_or m.node.traits.http_prefix_headers [])
+
+-- a header that can't stand in a request
+abbrev pub wrong_header : Schema → List ℕ → Fault
+wrong_header m what =
+    invalid_input (message (codes "cannot serialize " ∷ name_of m ∷ header_words m ∷ header_or_prefix m ∷ codes "`: " ∷ what ∷ []))
+
+-- the name is no token, or else the value has a byte that no header value has (RFC 7230, section 3.2)
+abbrev pub pair_fault : Schema → List ℕ × List ℕ → Option Fault
+pair_fault m p =
+    option_or (unless (is_token p.0) (wrong_header m (codes "invalid header name")))
+    (unless (is_header_value p.1) (wrong_header m (codes "invalid header value")))
+
+-- the first of the pairs that can't stand
+abbrev pub pairs_fault : Schema → List (List ℕ × List ℕ) → Option Fault
+pairs_fault m [] = None
+pairs_fault m (p ∷ ps) = option_or (pair_fault m p) (pairs_fault m ps)
+
+-- what keeps a value from having texts: a part's kind, then a key without a value, then a year
+abbrev pub value_fault : Schema → Value → Option Fault
+value_fault m v = first_of_all (item_fault m v ∷ key_fault m v ∷ year_fault m v ∷ [])
+
+-- the fault of the first write of a bound member other than a payload
+abbrev pub bound_fault : Resolved → Option Fault
+bound_fault r = option_or (value_fault r.member r.value) (pairs_fault r.member (inserted r))
+
+-- the binding stands in the target or the headers
+abbrev pub is_placed_at : Binding → Bool
+is_placed_at to_payload = false
+is_placed_at to_body = false
+is_placed_at _ = true
+
+-- the first write of such a member, behind writes to the members at these positions
+abbrev pub is_placed : List ℕ → Resolved → Bool
+is_placed seen r = is_placed_at (binding_of r.member) && not (list_any (λ i. i == r.position) seen)
+
+-- the fault of a write that has a member, behind writes to the members at these positions
+abbrev pub resolved_fault : List ℕ → Resolved → Option Fault
+resolved_fault seen r =
+    option_or (unless (fits_member r.member r.value) (wrong_kind r.member r.value))
+    (if is_placed seen r then bound_fault r else None)
+
+-- the fault of a write, behind such writes
+abbrev pub write_fault : Schema → List ℕ → Write → Option Fault
+write_fault schema seen w = option_map_or (resolved_fault seen) (resolved schema w) (Some (no_member w))
+
+-- the first fault of these writes, behind such writes
+unfoldable pub writes_fault : Schema → List ℕ → List Write → Option Fault
+writes_fault schema seen [] = None
+writes_fault schema seen (w ∷ ws) =
+    option_or (write_fault schema seen w) (writes_fault schema (seen ++ option_to_list (resolve schema w.label)) ws)
+
+-- the first broken rule of the body's document
+unfoldable pub body_fault : Schema → List Write → Option Fault
+body_fault schema ws = option_map (λ f. custom (document_fault_text f)) (option_and_then document_fault (document_value schema ws))
+
+-- the first hole without a text (httpLabel: a label may not be empty)
+abbrev pub hole_fault : Result (List ℕ) (List ℕ) → Option Fault
+hole_fault target = option_map (λ hole. invalid_input (hole ++ codes " was missing: cannot be empty or unset")) (result_err target)
+
+-- a target that is too long, or else breaks the grammar (RFC 7230, section 5.3)
+abbrev pub legal_fault : List ℕ → Option Fault
+legal_fault target =
+    option_or (unless (is_short_target target) (custom (codes "invalid endpoint URI: longer than 65534 bytes")))
+    (unless (is_target target) (custom (codes "invalid endpoint URI: not a legal request target")))
+
+-- the same of a target that has each of its holes filled
+abbrev pub target_fault : Result (List ℕ) (List ℕ) → Option Fault
+target_fault target = option_and_then legal_fault (result_ok target)
+
+-- The fault of an input, if there is one (without one the input is conforming): the first of the writes in order, then of the body's document, of the template's holes, and of the target.
+unfoldable pub fault : Schema → List Write → List ℕ → Option Fault
+fault schema ws endpoint =
+    first_of_all (
+    writes_fault schema [] ws
+    ∷ body_fault schema ws
+    ∷ hole_fault (target_of schema ws endpoint)
+    ∷ target_fault (target_of schema ws endpoint)
+    ∷ [])
+
+-- the line in which a program tells a refusal: its variant and its text
+abbrev pub fault_line : Fault → List ℕ
+fault_line (unknown_member t) = codes "UnknownMember: unknown member: " ++ t
+fault_line (invalid_input t) = codes "InvalidInput: invalid input: " ++ t
+fault_line (unsupported t) = codes "UnsupportedOperation: unsupported operation: " ++ t
+fault_line (custom t) = codes "Custom: " ++ t

@@ -1,0 +1,35 @@
+-- A template with its holes filled (Smithy, HTTP protocol bindings, httpLabel and http, greedy labels).
+use Rattle.std.specs.Prelude.{ℕ, ◌==◌, List, [], ◌∷◌, ◌++◌, flat_map, Result, Ok, Err, Option, Some, None, if◌then◌else◌}
+use Rattle.smithy_types.specs.Results.{then_try, then_give}
+use Rattle.smithy_types.specs.Texts.{found}
+use Rattle.smithy_schema.specs.Templates.{Hole, Piece, Template}
+use Rattle.smithy_strings.specs.Escapes.{escape, escape_byte}
+
+-- a `/` stands, every other byte is escaped
+abbrev pub kept_byte : ℕ → List ℕ
+kept_byte b = if b == 47 then b ∷ [] else escape_byte b
+
+-- the escape of the text in which each `/` stands
+abbrev pub keep_slashes : List ℕ → List ℕ
+keep_slashes text = flat_map kept_byte text
+
+-- what stands in a hole for a text: the segments of a greedy one keep their `/`
+abbrev pub hole_text : Hole → List ℕ → List ℕ
+hole_text hole text =
+    if hole.greedy then keep_slashes text else escape text
+
+-- the hole with the text that was found, or its name where there was none or an empty one
+abbrev pub filled_hole : Hole → Option (List ℕ) → Result (List ℕ) (List ℕ)
+filled_hole hole None = Err hole.name
+filled_hole hole (Some []) = Err hole.name
+filled_hole hole (Some (b ∷ text)) = Ok (hole_text hole (b ∷ text))
+
+-- the holes and the literals behind them, in order
+abbrev pub fill_rest : List (List ℕ × List ℕ) → List Piece → Result (List ℕ) (List ℕ)
+fill_rest labels [] = Ok []
+fill_rest labels (p ∷ ps) =
+    then_try (filled_hole p.hole (found p.hole.name labels)) λ text. then_give (fill_rest labels ps) λ rest. text ++ p.literal ++ rest
+
+-- The template with the text of each hole, which the labels have under its name. The name of the first hole without a non-empty text is the error.
+abbrev pub fill : Template → List (List ℕ × List ℕ) → Result (List ℕ) (List ℕ)
+fill template labels = then_give (fill_rest labels template.rest) λ rest. template.first ++ rest

@@ -1,0 +1,65 @@
+-- The writes one by one: what they put into the request so far, or the first fault.
+use Rattle.std.specs.Prelude.{ℕ, Bool, true, false, not, ◌&&◌, List, [], ◌∷◌, ◌++◌, length, replicate, slice_index_or, slice_set, Result, Ok, Err, Option, Some, None, if◌then◌else◌}
+use Rattle.std.specs.Option.{option_or}
+use Rattle.smithy_types.specs.Results.{then_try, unless}
+use Rattle.smithy_schema.specs.Nodes.{Schema, binding_of}
+use Rattle.smithy_serde.specs.Values.{Write}
+use Rattle.smithy_serde.specs.Writes.{Resolved, resolved}
+use Rattle.smithy_serde.specs.Fits.{fits_member}
+use Rattle.smithy_http.specs.Headers.{put_all}
+use Rattle.smithy_binding.specs.Bindings.{inserted, pairs_of, labelled}
+use Rattle.smithy_binding.specs.Faults.{Fault, wrong_kind, bound_fault, is_placed_at, no_member}
+use Rattle.smithy_binding.specs.TargetParts.{queries}
+
+-- what the writes so far have put into the request
+pub record Gathered : Type 0 where
+  -- by position, the members that are written
+  pub seen : List Bool
+  pub headers : List (List ℕ × List ℕ)
+  -- each pair behind a `&`
+  pub query : List ℕ
+  pub labels : List (List ℕ × List ℕ)
+
+abbrev pub is_seen : Gathered → ℕ → Bool
+is_seen s position = slice_index_or s.seen position false
+
+-- a first write put into the request
+abbrev pub placed : Schema → Gathered → Resolved → Gathered
+placed schema s r =
+    record {
+      seen = slice_set s.seen r.position true;
+      headers = put_all s.headers (inserted r);
+      query = s.query ++ queries (pairs_of schema r);
+      labels = s.labels ++ labelled r;
+    }
+
+-- a later write of a member changes nothing
+abbrev pub added : Schema → Gathered → Resolved → Gathered
+added schema s r = if is_seen s r.position then s else placed schema s r
+
+abbrev pub ok_unless : {A B : Type 0} → Option B → A → Result A B
+ok_unless (Some fault) x = Err fault
+ok_unless None x = Ok x
+
+-- of a write, behind an earlier one of its member or not
+abbrev pub fault_at : Bool → Resolved → Option Fault
+fault_at again r =
+    option_or (unless (fits_member r.member r.value) (wrong_kind r.member r.value))
+    (if is_placed_at (binding_of r.member) && not again then bound_fault r else None)
+
+abbrev pub add_or_fault : Schema → Gathered → Resolved → Result Gathered Fault
+add_or_fault schema s r = ok_unless (fault_at (is_seen s r.position) r) (added schema s r)
+
+abbrev pub gather_resolved : Schema → Gathered → Write → Option Resolved → Result Gathered Fault
+gather_resolved schema s w None = Err (no_member w)
+gather_resolved schema s w (Some r) = add_or_fault schema s r
+
+unfoldable pub gather_one : Schema → Gathered → Write → Result Gathered Fault
+gather_one schema s w = gather_resolved schema s w (resolved schema w)
+
+unfoldable pub gather : Schema → Gathered → List Write → Result Gathered Fault
+gather schema s [] = Ok s
+gather schema s (w ∷ ws) = then_try (gather_one schema s w) λ t. gather schema t ws
+
+abbrev pub nothing_yet : Schema → Gathered
+nothing_yet schema = record { seen = replicate (length schema.node.members) false; headers = []; query = []; labels = [] }

@@ -1,0 +1,106 @@
+// The text of a value where its member is bound (Smithy, HTTP protocol bindings; timestampFormat, mediaType).
+ghost use Rattle.std.specs.Prelude.{◌≡◌, IfOk, IfErr, None, Some, false, is_some};
+ghost use Rattle.smithy_schema.specs.Nodes.{Table};
+ghost use Rattle.smithy_schema.specs.References.{schema_of};
+ghost use Rattle.smithy_serde.specs.StoredValues.{value_in, label_at};
+ghost use Rattle.smithy_strings.specs.Wire.{wire};
+ghost use Rattle.smithy_binding.specs.Bindings.{place_of as place, member_text, element_text as element};
+ghost use Rattle.smithy_binding.specs.Refusing.{TellsFault, no_year as no_year_fault};
+
+use crate::binding::{Binding, binding_of};
+use crate::refusal::no_year;
+use smithy_ids::TimestampFormat;
+use smithy_schema::{SchemaIndex, SchemaRef, Schemas};
+use smithy_serde::{SerdeError, ShapeValue};
+use smithy_strings::{Place, scalar_text};
+use smithy_types::Text;
+use std::alloc::Global;
+
+// Where the texts of the member stand.
+fn place_of(member: SchemaRef<'_>) -> Place
+    ensures { result ≡ place (schema_of member.entry) }
+{
+    match binding_of(member) {
+        Binding::Header(_) => Place::Header,
+        Binding::Prefix(_) => Place::Header,
+        Binding::Label => Place::Label,
+        Binding::Query(_) => Place::Query,
+        Binding::QueryMap => Place::Query,
+        Binding::Payload => Place::Query,
+        Binding::Body => Place::Query,
+    }
+}
+
+// The time format of a node.
+fn format_in(schema: SchemaRef<'_>) -> Option<TimestampFormat>
+    ensures { result ≡ (schema_of schema.entry).node.traits.timestamp_format }
+{
+    match schema.timestamp_format() {
+        Some(named) => Some(named.format()),
+        None => None,
+    }
+}
+
+fn has_media_type(schema: SchemaRef<'_>) -> bool
+    ensures { result ≡ is_some (schema_of schema.entry).node.traits.media_type }
+{
+    schema.media_type().is_some()
+}
+
+// The time format of the node at a place.
+fn format_at(table: &Schemas, node: SchemaIndex) -> Option<TimestampFormat>
+    ensures { result ≡ (label_at table.now node.0).time_format }
+{
+    match table.get(node) {
+        Some(schema) => format_in(schema),
+        None => None,
+    }
+}
+
+// The text of a scalar. Of the values that a binding takes, only a time may have none.
+fn text_or_no_year(
+    alloc: Global,
+    format: Option<TimestampFormat>,
+    has_media_type: bool,
+    place: Place,
+    value: &ShapeValue,
+) -> Result<Text, SerdeError>
+    ensures ok { IfOk result (λ s. (t : Table) → wire format has_media_type place (value_in t value.now) ≡ Some s) }
+    ensures err { IfErr result (λ e. (t : Table) → TellsFault e (λ f. (f ≡ no_year_fault) × (wire format has_media_type place (value_in t value.now) ≡ None))) }
+{
+    match scalar_text(alloc, format, has_media_type, place, value) {
+        Ok(text) => Ok(text),
+        Err(SerdeError::OutOfMemory) => Err(SerdeError::OutOfMemory),
+        Err(_) => Err(no_year(alloc)),
+    }
+}
+
+/// The text of a scalar by the time format and the media type of its member. `Custom` for a time whose year is not in
+/// the calendar of its format. Takes memory.
+pub fn text_of(alloc: Global, member: SchemaRef<'_>, value: &ShapeValue) -> Result<Text, SerdeError>
+    ensures ok { IfOk result (λ s. (t : Table) → member_text (place (schema_of member.entry)) (schema_of member.entry) (value_in t value.now) ≡ Some s) }
+    ensures err { IfErr result (λ e. (t : Table) → TellsFault e (λ f. (f ≡ no_year_fault) × (member_text (place (schema_of member.entry)) (schema_of member.entry) (value_in t value.now) ≡ None))) }
+{
+    text_or_no_year(
+        alloc,
+        format_in(member),
+        has_media_type(member),
+        place_of(member),
+        value,
+    )
+}
+
+/// The text of an element by the time format of the node with which it was written. `Custom` as of `text_of`. Takes
+/// memory.
+pub fn element_text(
+    alloc: Global,
+    table: &Schemas,
+    place: Place,
+    node: SchemaIndex,
+    value: &ShapeValue,
+) -> Result<Text, SerdeError>
+    ensures ok { IfOk result (λ s. element place (record { label = label_at table.now node.0; value = value_in table.now value.now }) ≡ Some s) }
+    ensures err { IfErr result (λ e. TellsFault e (λ f. (f ≡ no_year_fault) × (element place (record { label = label_at table.now node.0; value = value_in table.now value.now }) ≡ None))) }
+{
+    text_or_no_year(alloc, format_at(table, node), false, place, value)
+}

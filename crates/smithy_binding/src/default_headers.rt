@@ -1,0 +1,79 @@
+// The headers that a request has by default.
+ghost use Rattle.std.specs.Prelude.{◌≡◌, IsTrue, OnOk, is_some, codes, decimal};
+ghost use Rattle.std.specs.Str.{str_to_ascii_lowercase};
+ghost use Rattle.smithy_types.specs.Grammars.{is_token, is_header_value};
+ghost use Rattle.smithy_types.specs.Texts.{found};
+ghost use Rattle.smithy_binding.specs.DefaultHeaders.{with_defaults, omit_of};
+ghost use Rattle.smithy_binding.specs.Placing.{with_default};
+
+use smithy_http::{Headers, HttpError};
+use smithy_serde::OmitFlags;
+use smithy_types::OutOfMemory;
+use std::alloc::Global;
+
+// Whether a header of this name stands.
+fn has_name(headers: &Headers, name: &str) -> bool
+    ensures { result ≡ is_some (found name.now headers.now) }
+{
+    for (own, _) in headers.iter_bytes() {
+        if own == name {
+            return true;
+        }
+    }
+    false
+}
+
+// Adds a header behind the others, where it is wanted and no such name stands.
+fn add_default(
+    headers: &mut Headers,
+    is_wanted: bool,
+    name: &str,
+    value: &str,
+) -> Result<(), OutOfMemory>
+    requires token { IsTrue (is_token name.now) }
+    requires lower { str_to_ascii_lowercase name.now ≡ name.now }
+    requires value { IsTrue (is_header_value value.now) }
+    ensures { OnOk result (headers.new ≡ with_default is_wanted name.now value.now headers.old) }
+{
+    if !is_wanted || has_name(headers, name) {
+        return Ok(());
+    }
+    match headers.append(name, value.as_bytes()) {
+        Ok(()) => Ok(()),
+        Err(HttpError::Name) => unreachable!(),
+        Err(HttpError::Value) => unreachable!(),
+        Err(_) => Err(OutOfMemory),
+    }
+}
+
+// Adds the length.
+fn add_length(
+    alloc: Global,
+    headers: &mut Headers,
+    is_wanted: bool,
+    length: usize,
+) -> Result<(), OutOfMemory>
+    ensures { OnOk result (headers.new ≡ with_default is_wanted (codes "content-length") (decimal length) headers.old) }
+{
+    let text = format!(in alloc; "{length}")?;
+    add_default(headers, is_wanted, "content-length", text.as_str())
+}
+
+/// Adds the content type where the body is the codec's (RFC 7231, section 3.1.1.5), and the length where it is or has
+/// bytes (RFC 7230, section 3.3.2), each unless it is to be left out or such a name stands. Takes memory.
+pub fn add_defaults(
+    alloc: Global,
+    headers: &mut Headers,
+    content_type: &str,
+    is_codec: bool,
+    length: usize,
+    omit: OmitFlags,
+) -> Result<(), OutOfMemory>
+    requires { IsTrue (is_header_value content_type.now) }
+    ensures { OnOk result (headers.new ≡ with_defaults content_type.now is_codec length (omit_of omit) headers.old) }
+{
+    let wants_type = is_codec && !omit.content_type;
+    add_default(headers, wants_type, "content-type", content_type)?;
+    let wants_length = (length != 0 || is_codec) && !omit.content_length;
+    add_length(alloc, headers, wants_length, length)
+}

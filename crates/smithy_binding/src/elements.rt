@@ -1,0 +1,113 @@
+// The elements of a list in a header or the query (Smithy, HTTP protocol bindings, httpHeader and httpQuery).
+ghost use Rattle.std.specs.Prelude.{◌≡◌, ◌++◌, OnOk, IfOk, IfErr, None, Some, option_map, slice_get, string_bytes};
+ghost use Rattle.smithy_types.specs.Results.{each};
+ghost use Rattle.smithy_schema.specs.Nodes.{element_of};
+ghost use Rattle.smithy_schema.specs.References.{schema_of};
+ghost use Rattle.smithy_serde.specs.StoredValues.{value_in, writes_in, label_at};
+ghost use Rattle.smithy_serde.specs.Values.{list_of};
+ghost use Rattle.smithy_strings.specs.Lists.{listed};
+ghost use Rattle.smithy_strings.specs.declared.wire.Place.TheVariants as at;
+ghost use Rattle.smithy_binding.specs.Bindings.{element_text as element, kind_or_none, pairs_with};
+ghost use Rattle.smithy_binding.specs.Faults.{element_fault};
+ghost use Rattle.smithy_binding.specs.Refusing.{TellsFault, no_year as no_year_fault};
+ghost use Rattle.smithy_binding.specs.TargetParts.{queries};
+
+use crate::bound_text::element_text;
+use crate::kinds::fits_kind;
+use crate::refusal::wrong_item;
+use crate::target::push_pair;
+use smithy_ids::ShapeType;
+use smithy_schema::{SchemaIndex, SchemaRef, Schemas};
+use smithy_serde::{SerdeError, ShapeValue, WriteList};
+use smithy_strings::{Place, push_listed};
+use smithy_types::Text;
+use std::alloc::Global;
+
+/// The kind of the elements of a member, and where it has none the kind that no value has.
+pub fn element_kind(member: SchemaRef<'_>) -> ShapeType
+    ensures { result ≡ kind_or_none (element_of (schema_of member.entry)) }
+{
+    match member.element() {
+        Some(element) => element.shape_type(),
+        None => ShapeType::Member,
+    }
+}
+
+// The element at a place, with the node with which it was written.
+fn element_at<'w>(
+    table: &Schemas,
+    elements: &'w WriteList,
+    place: usize,
+) -> Option<(SchemaIndex, &'w ShapeValue)>
+    ensures { option_map (λ w. record { label = label_at table.now w.0.0; value = value_in table.now w.1.now }) result ≡ slice_get (list_of (writes_in table.now elements.now)) place }
+{
+    let node = elements.node(place)?;
+    let value = elements.value(place)?;
+    Some((node, value))
+}
+
+/// Tests that each element of the member's list is of the kind. `UnsupportedOperation` for the first that is not.
+pub fn test_elements(
+    alloc: Global,
+    table: &Schemas,
+    member: SchemaRef<'_>,
+    kind: ShapeType,
+    elements: &WriteList,
+) -> Result<(), SerdeError>
+    ensures ok { OnOk result (element_fault (schema_of member.entry) kind (writes_in table.now elements.now) ≡ None) }
+    ensures err { IfErr result (λ e. TellsFault e (λ f. element_fault (schema_of member.entry) kind (writes_in table.now elements.now) ≡ Some f)) }
+{
+    for place in 0..elements.len() {
+        let Some((_node, value)) = element_at(table, elements, place) else {
+            unreachable!()
+        };
+        if !fits_kind(kind, value) {
+            return Err(wrong_item(alloc, member, kind, value));
+        }
+    }
+    Ok(())
+}
+
+/// The value of a header: the texts of the elements, of this kind, in one text (RFC 7230, section 7). `Custom` for the
+/// first time whose year is not in the calendar of its format. Takes memory, linear in the texts.
+pub fn listed_text(
+    alloc: Global,
+    table: &Schemas,
+    kind: ShapeType,
+    elements: &WriteList,
+) -> Result<Text, SerdeError>
+    ensures ok { IfOk result (λ s. option_map (listed kind) (each (element at.Header) (list_of (writes_in table.now elements.now))) ≡ Some s) }
+    ensures err { IfErr result (λ e. TellsFault e (λ f. (f ≡ no_year_fault) × (each (element at.Header) (list_of (writes_in table.now elements.now)) ≡ None))) }
+{
+    let mut list = String::new(alloc);
+    for place in 0..elements.len() {
+        let Some((node, value)) = element_at(table, elements, place) else {
+            unreachable!()
+        };
+        let text = element_text(alloc, table, Place::Header, node, value)?;
+        push_listed(&mut list, place == 0, kind, text.as_str())?;
+    }
+    Ok(Text::from_string(list))
+}
+
+/// Adds a pair of the name and the text of each element. `Custom` for the first time whose year is not in the calendar of
+/// its format. Takes memory, linear in the texts.
+pub fn push_elements(
+    alloc: Global,
+    table: &Schemas,
+    query: &mut String,
+    name: &str,
+    elements: &WriteList,
+) -> Result<(), SerdeError>
+    ensures ok { OnOk result (option_map (λ texts. string_bytes query.old ++ queries (pairs_with name.now texts)) (each (element at.Query) (list_of (writes_in table.now elements.now))) ≡ Some (string_bytes query.new)) }
+    ensures err { IfErr result (λ e. TellsFault e (λ f. (f ≡ no_year_fault) × (each (element at.Query) (list_of (writes_in table.now elements.now)) ≡ None))) }
+{
+    for place in 0..elements.len() {
+        let Some((node, value)) = element_at(table, elements, place) else {
+            unreachable!()
+        };
+        let text = element_text(alloc, table, Place::Query, node, value)?;
+        push_pair(query, name, text.as_str())?;
+    }
+    Ok(())
+}

@@ -1,0 +1,158 @@
+// The protocol that places requests by the HTTP binding traits (Smithy, HTTP protocol bindings).
+ghost use Rattle.std.specs.Prelude.{IsTrue};
+ghost use Rattle.smithy_types.specs.Grammars.{is_header_value};
+
+use crate::place::place_recorded;
+use smithy_http::Request;
+use smithy_ids::ShapeId;
+use smithy_schema::SchemaRef;
+use smithy_serde::{Codec, OmitFlags, SerdeError, SerializableStruct, record_members};
+use std::alloc::Global;
+
+#[cfg(test)]
+mod tests;
+
+/// Places each bound member where its trait names it, and writes the others into a body by its codec.
+#[derive(Drop)]
+pub struct HttpBindingProtocol<C> {
+    protocol_id: ShapeId<'static>,
+    codec: C,
+    content_type: &'static str,
+    ghost legal: { IsTrue (is_header_value content_type.now) },
+}
+
+impl<C> HttpBindingProtocol<C> {
+    ghost use Rattle.std.specs.Prelude.{◌≡◌};
+    ghost use Rattle.smithy_binding.specs.Protocols.{protocol_id_of, codec_of, content_type_of};
+
+    /// The protocol of this name, whose bodies are the codec's and have this content type. Condition: the content type may
+    /// stand as a header's value (RFC 7230, section 3.2). Takes no memory.
+    pub fn new(protocol_id: ShapeId<'static>, codec: C, content_type: &'static str) -> Self
+        requires { IsTrue (is_header_value content_type.now) }
+        ensures protocol_id { protocol_id_of result ≡ protocol_id.entry }
+        ensures codec { codec_of result ≡ codec }
+        ensures content_type { content_type_of result ≡ content_type.now }
+    {
+        HttpBindingProtocol {
+            protocol_id,
+            codec,
+            content_type,
+        }
+    }
+
+    /// The name of the protocol. Takes no memory.
+    pub fn protocol_id(&self) -> ShapeId<'_>
+        ensures { result ≡ protocol_id_of self.now }
+    {
+        self.protocol_id
+    }
+
+    /// The codec. Takes no memory.
+    pub fn codec(&self) -> &C
+        ensures { result.now ≡ codec_of self.now }
+    {
+        &self.codec
+    }
+
+    /// The content type of the bodies. Takes no memory.
+    pub fn content_type(&self) -> &'static str
+        ensures value { result.now ≡ content_type_of self.now }
+        ensures legal { IsTrue (is_header_value result.now) }
+    {
+        self.content_type
+    }
+}
+
+impl<C: Drop> HttpBindingProtocol<C> {
+    ghost use Rattle.std.specs.Prelude.{◌≡◌};
+    ghost use Rattle.smithy_binding.specs.Protocols.{protocol_id_of, codec_of, content_type_of};
+
+    /// The same protocol with another codec. Takes no memory.
+    pub fn with_codec(self, codec: C) -> Self
+        ensures protocol_id { protocol_id_of result ≡ protocol_id_of self }
+        ensures codec { codec_of result ≡ codec }
+        ensures content_type { content_type_of result ≡ content_type_of self }
+    {
+        HttpBindingProtocol {
+            protocol_id: self.protocol_id,
+            codec,
+            content_type: self.content_type,
+        }
+    }
+}
+
+impl<C: Codec> HttpBindingProtocol<C> {
+    ghost use Rattle.std.specs.Prelude.{◌≡◌, IsTrue, IfOk, IfErr, None, Some};
+    ghost use Rattle.smithy_schema.specs.References.{schema_of};
+    ghost use Rattle.smithy_serde.specs.Told.{empty_state};
+    ghost use Rattle.smithy_serde.specs.Values.{list_of};
+    ghost use Rattle.smithy_binding.specs.Checked.{checked_input};
+    ghost use Rattle.smithy_binding.specs.DefaultHeaders.{omit_of};
+    ghost use Rattle.smithy_binding.specs.Faults.{fault};
+    ghost use Rattle.smithy_binding.specs.Placeable.{is_placeable};
+    ghost use Rattle.smithy_binding.specs.Placing.{place};
+    ghost use Rattle.smithy_binding.specs.Protocols.{codec_of, content_type_of};
+    ghost use Rattle.smithy_binding.specs.Refusing.{TellsFault};
+
+    /// The request of an input, by its schema (Smithy, HTTP protocol bindings). Without `@http` the method is `GET`, and
+    /// the template is `endpoint`, or `/` where that is empty. Each bound member's first write stands where its trait
+    /// names it; the body is the codec's text of the writes of unbound members, where the schema has such members. The
+    /// default headers are added as `omit` asks. Conditions: `checked_input` holds of the schema, and the codec is lawful.
+    ///
+    /// Refused with the first fault of the writes in order, then of the body's document, of the template's holes, and of
+    /// the target: `UnknownMember` where a write is for no member, `UnsupportedOperation` where it is not of the member's
+    /// kind, `InvalidInput` for a header that no header has and for a hole without a text, `Custom` for a rule of
+    /// documents that the body breaks, and for a target that is longer than 65,534 bytes or not legal. Takes memory;
+    /// `OutOfMemory` where it is not there.
+    pub fn serialize_request(
+        &self,
+        alloc: Global,
+        input: &dyn SerializableStruct,
+        schema: SchemaRef<'_>,
+        endpoint: &str,
+        omit: OmitFlags,
+    ) -> Result<Request, SerdeError>
+        requires checked { IsTrue (checked_input (schema_of schema)) }
+        requires placeable { IsTrue (is_placeable (schema_of schema)) }
+        requires lawful { C.lawful (codec_of self.now) }
+        ensures ok { IfOk result (λ _. fault (schema_of schema.entry) (list_of (writes input.now)) endpoint.now ≡ None) }
+        ensures placed { IfOk result (λ r. place (record { content_type = content_type_of self.now; text_of = C.text (codec_of self.now) }) (schema_of schema.entry) (list_of (writes input.now)) endpoint.now (omit_of omit) ≡ Some r) }
+        ensures err { IfErr result (λ e. TellsFault e (λ f. fault (schema_of schema.entry) (list_of (writes input.now)) endpoint.now ≡ Some f)) }
+    {
+        let body = self.codec.create_serializer(alloc)?;
+        self.serialize_request_with_body(alloc, body, input, schema, endpoint, omit)
+    }
+
+    /// The same with a serializer for the body. Further condition: it is a lawful serializer with the codec's text, and
+    /// was told nothing.
+    pub fn serialize_request_with_body(
+        &self,
+        alloc: Global,
+        body: C::Serializer,
+        input: &dyn SerializableStruct,
+        schema: SchemaRef<'_>,
+        endpoint: &str,
+        omit: OmitFlags,
+    ) -> Result<Request, SerdeError>
+        requires checked { IsTrue (checked_input (schema_of schema)) }
+        requires placeable { IsTrue (is_placeable (schema_of schema)) }
+        requires lawful { C.Serializer.lawful body }
+        requires told { C.Serializer.stands_for body empty_state }
+        requires unrefused { C.Serializer.first_refusal body ≡ None }
+        requires text { C.Serializer.text body ≡ C.text (codec_of self.now) }
+        ensures ok { IfOk result (λ _. fault (schema_of schema.entry) (list_of (writes input.now)) endpoint.now ≡ None) }
+        ensures placed { IfOk result (λ r. place (record { content_type = content_type_of self.now; text_of = C.text (codec_of self.now) }) (schema_of schema.entry) (list_of (writes input.now)) endpoint.now (omit_of omit) ≡ Some r) }
+        ensures err { IfErr result (λ e. TellsFault e (λ f. fault (schema_of schema.entry) (list_of (writes input.now)) endpoint.now ≡ Some f)) }
+    {
+        let recorded = record_members(alloc, input)?;
+        place_recorded(
+            alloc,
+            body,
+            &recorded,
+            schema,
+            endpoint,
+            self.content_type,
+            omit,
+        )
+    }
+}

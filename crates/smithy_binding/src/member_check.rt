@@ -1,0 +1,239 @@
+// What is asked of each member of a checked input schema.
+ghost use Rattle.std.specs.Prelude.{◌≡◌, ◌&&◌, false, true, option_map, if◌then◌else◌, None};
+ghost use Rattle.smithy_ids.specs.Kinds.{same_kind, is_scalar as scalar, is_unwritable as unwritable, is_structure_or_union as struct_or_union};
+ghost use Rattle.smithy_ids.specs.declared.shape_type.ShapeType.TheVariants as kind;
+ghost use Rattle.smithy_schema.specs.Nodes.{element_of};
+ghost use Rattle.smithy_schema.specs.References.{schema_of};
+ghost use Rattle.smithy_binding.specs.Checked.{one_if as one, is_bound_once as bound_once, is_header_kind as header_kind, has_label_kind as label_kind, has_query_kind as query_kind, has_header_kind as header_test, format_number as number, is_plain_element as plain_element, has_plain_elements as plain_elements, is_plain_string as plain_string, is_text_map as text_map, is_payload_kind as payload_test};
+ghost use Rattle.smithy_binding.specs.Checking.{is_map_binding as map_binding, is_sound_member as sound};
+ghost use Rattle.smithy_binding.specs.Placeable.{is_text_member as text_member, is_placeable_member as placeable};
+
+use crate::binding::{Binding, binding_of, is_bound};
+use smithy_ids::{ShapeType, TimestampFormat};
+use smithy_schema::SchemaRef;
+
+fn one_if(test: bool) -> u8
+    ensures { result ≡ one test }
+{
+    if test { 1 } else { 0 }
+}
+
+// At most one binding.
+fn is_bound_once(member: SchemaRef<'_>) -> bool
+    ensures { result ≡ bound_once (schema_of member.entry) }
+{
+    let count = one_if(member.http_header().is_some())
+        + one_if(member.http_query().is_some())
+        + one_if(member.http_label().is_some())
+        + one_if(member.http_prefix_headers().is_some())
+        + one_if(member.http_query_params().is_some())
+        + one_if(member.http_payload().is_some());
+    count <= 1
+}
+
+// The kinds that a label and a query take.
+fn is_scalar(kind: ShapeType) -> bool
+    ensures { result ≡ scalar kind }
+{
+    match kind {
+        ShapeType::Boolean => true,
+        ShapeType::Byte => true,
+        ShapeType::Short => true,
+        ShapeType::Integer => true,
+        ShapeType::Long => true,
+        ShapeType::BigInteger => true,
+        ShapeType::BigDecimal => true,
+        ShapeType::String => true,
+        ShapeType::Timestamp => true,
+        ShapeType::Float => false,
+        ShapeType::Double => false,
+        ShapeType::Blob => false,
+        ShapeType::Document => false,
+        ShapeType::List => false,
+        ShapeType::Map => false,
+        ShapeType::Structure => false,
+        ShapeType::Union => false,
+        ShapeType::Member => false,
+    }
+}
+
+fn is_header_kind(kind: ShapeType) -> bool
+    ensures { result ≡ header_kind kind }
+{
+    match kind {
+        ShapeType::Blob => true,
+        _ => is_scalar(kind),
+    }
+}
+
+// The kinds of no value here.
+fn is_unwritable(kind: ShapeType) -> bool
+    ensures { result ≡ unwritable kind }
+{
+    match kind {
+        ShapeType::Float => true,
+        ShapeType::Double => true,
+        ShapeType::Member => true,
+        _ => false,
+    }
+}
+
+/// A structure or a union.
+pub fn is_structure_or_union(kind: ShapeType) -> bool
+    ensures { result ≡ struct_or_union kind }
+{
+    match kind {
+        ShapeType::Structure => true,
+        ShapeType::Union => true,
+        _ => false,
+    }
+}
+
+/// The kinds of a payload.
+pub fn is_payload_kind(kind: ShapeType) -> bool
+    ensures { result ≡ payload_test kind }
+{
+    match kind {
+        ShapeType::Blob => true,
+        ShapeType::String => true,
+        _ => is_structure_or_union(kind),
+    }
+}
+
+// The elements, where the member is a list.
+fn list_element<'t>(member: SchemaRef<'t>) -> Option<SchemaRef<'t>>
+    ensures { option_map schema_of result ≡ (if same_kind (schema_of member.entry).node.kind kind.List then element_of (schema_of member.entry) else None) }
+{
+    match member.shape_type() {
+        ShapeType::List => member.element(),
+        _ => None,
+    }
+}
+
+fn has_label_kind(member: SchemaRef<'_>) -> bool
+    ensures { result ≡ label_kind (schema_of member.entry) }
+{
+    member.http_label().is_none() || is_scalar(member.shape_type())
+}
+
+fn has_query_kind(member: SchemaRef<'_>) -> bool
+    ensures { result ≡ query_kind (schema_of member.entry) }
+{
+    if member.http_query().is_none() || is_scalar(member.shape_type()) {
+        return true;
+    }
+    match list_element(member) {
+        Some(element) => is_scalar(element.shape_type()),
+        None => false,
+    }
+}
+
+fn has_header_kind(member: SchemaRef<'_>) -> bool
+    ensures { result ≡ header_test (schema_of member.entry) }
+{
+    if member.http_header().is_none() || is_header_kind(member.shape_type()) {
+        return true;
+    }
+    match list_element(member) {
+        Some(element) => is_header_kind(element.shape_type()),
+        None => false,
+    }
+}
+
+// A number for each time format and for none.
+fn format_number(member: SchemaRef<'_>) -> u8
+    ensures { result ≡ number (schema_of member.entry).node.traits.timestamp_format }
+{
+    match member.timestamp_format() {
+        None => 0,
+        Some(format) => match format.format() {
+            TimestampFormat::EpochSeconds => 1,
+            TimestampFormat::DateTime => 2,
+            TimestampFormat::HttpDate => 3,
+        },
+    }
+}
+
+fn is_plain_element(member: SchemaRef<'_>, element: SchemaRef<'_>) -> bool
+    ensures { result ≡ plain_element (schema_of member.entry) (schema_of element.entry) }
+{
+    element.media_type().is_none() && format_number(element) == format_number(member)
+}
+
+// The elements of a list in a header or the query have no media type and the member's time format.
+fn has_plain_elements(member: SchemaRef<'_>) -> bool
+    ensures { result ≡ plain_elements (schema_of member.entry) }
+{
+    if member.http_query().is_none() && member.http_header().is_none() {
+        return true;
+    }
+    match list_element(member) {
+        Some(element) => is_plain_element(member, element),
+        None => true,
+    }
+}
+
+fn is_plain_string(node: Option<SchemaRef<'_>>) -> bool
+    ensures { result ≡ plain_string (option_map schema_of node.entry) }
+{
+    match node {
+        Some(node) => match node.shape_type() {
+            ShapeType::String => node.media_type().is_none(),
+            _ => false,
+        },
+        None => false,
+    }
+}
+
+// A map from texts to texts.
+fn is_text_map(member: SchemaRef<'_>) -> bool
+    ensures { result ≡ text_map (schema_of member.entry) }
+{
+    match member.shape_type() {
+        ShapeType::Map => is_plain_string(member.key()) && is_plain_string(member.value()),
+        _ => false,
+    }
+}
+
+fn is_map_binding(member: SchemaRef<'_>) -> bool
+    ensures { result ≡ map_binding (schema_of member.entry).node.traits }
+{
+    member.http_prefix_headers().is_some() || member.http_query_params().is_some()
+}
+
+/// What is asked of each member: its nodes are defined, it has at most one binding, a kind that is written and
+/// that its binding takes, and plain elements; a map of headers or of the query is one from texts to texts.
+pub fn is_sound_member(member: SchemaRef<'_>) -> bool
+    ensures { result ≡ sound (schema_of member.entry) }
+{
+    member.has_cited_nodes()
+        && is_bound_once(member)
+        && !is_unwritable(member.shape_type())
+        && has_label_kind(member)
+        && has_query_kind(member)
+        && has_header_kind(member)
+        && has_plain_elements(member)
+        && (!is_map_binding(member) || is_text_map(member))
+}
+
+// A member in a header, the query or a label by itself.
+fn is_text_member(member: SchemaRef<'_>) -> bool
+    ensures { result ≡ text_member (schema_of member.entry) }
+{
+    match binding_of(member) {
+        Binding::Header(_) => true,
+        Binding::Query(_) => true,
+        Binding::Label => true,
+        Binding::Prefix(_) => false,
+        Binding::QueryMap => false,
+        Binding::Payload => false,
+        Binding::Body => false,
+    }
+}
+
+/// What is placed so far: a member in the body, or one in a header, the query or a label by itself.
+pub fn is_placeable_member(member: SchemaRef<'_>) -> bool
+    ensures { result ≡ placeable (schema_of member.entry) }
+{
+    !is_bound(member) || is_text_member(member)
+}

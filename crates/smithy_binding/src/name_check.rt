@@ -1,0 +1,169 @@
+// The names of a schema's members, and whether they are distinct.
+ghost use Rattle.std.specs.Prelude.{◌≡◌, nat_eq, IfOk, map, option_map, string_bytes};
+ghost use Rattle.std.specs.List.{list_all, list_any, starts_with};
+ghost use Rattle.smithy_types.specs.Grammars.{is_token as token};
+ghost use Rattle.smithy_types.specs.Texts.{are_distinct as distinct};
+ghost use Rattle.smithy_schema.specs.References.{schema_of};
+ghost use Rattle.smithy_binding.specs.Checking.{shown, name_under as name_of_kind, names_under, texts_shown, lower_names as lowered, is_sound_prefix_of as sound_prefix, have_sound_names as sound_names};
+
+use smithy_schema::SchemaRef;
+use smithy_types::is_token;
+use std::alloc::{AllocError, Global};
+use std::collections::BTreeMap;
+
+/// A name that members have.
+#[derive(Clone, Copy)]
+pub enum NameKind {
+    Member,
+    Label,
+    Header,
+    Prefix,
+    Query,
+}
+
+// The name of this kind that the member has.
+fn name_under<'t>(member: SchemaRef<'t>, kind: NameKind) -> Option<&'t str>
+    ensures { option_map (λ n. n.now) result ≡ name_of_kind kind (schema_of member.entry) }
+{
+    match kind {
+        NameKind::Member => member.member_name(),
+        NameKind::Label => match member.http_label() {
+            Some(_) => member.member_name(),
+            None => None,
+        },
+        NameKind::Header => match member.http_header() {
+            Some(header) => Some(header.value()),
+            None => None,
+        },
+        NameKind::Prefix => match member.http_prefix_headers() {
+            Some(prefix) => Some(prefix.value()),
+            None => None,
+        },
+        NameKind::Query => match member.http_query() {
+            Some(query) => Some(query.value()),
+            None => None,
+        },
+    }
+}
+
+/// The names of this kind, in order.
+pub fn names_of<'t>(
+    alloc: Global,
+    members: &[SchemaRef<'t>],
+    kind: NameKind,
+) -> Result<Vec<&'t str>, AllocError>
+    ensures { IfOk result (λ v. texts_shown v.items ≡ names_under kind (shown members.now)) }
+{
+    let mut names = Vec::new(alloc);
+    for member in members {
+        if let Some(name) = name_under(*member, kind) {
+            names.push(name)?;
+        }
+    }
+    Ok(names)
+}
+
+/// Whether no two of the names are the same. Takes memory.
+pub fn are_distinct<'t>(alloc: Global, names: &[&'t str]) -> Result<bool, AllocError>
+    ensures { IfOk result (λ b. b ≡ distinct (texts_shown names.now)) }
+{
+    let mut later = BTreeMap::new(alloc);
+    let mut i = names.len();
+    while i > 0 {
+        i -= 1;
+        let name = names[i];
+        if later.get(&name).is_some() {
+            return Ok(false);
+        }
+        later.insert(name, i)?;
+    }
+    Ok(true)
+}
+
+// The names in lower case.
+fn lower_names(alloc: Global, names: &[&str]) -> Result<Vec<String>, AllocError>
+    ensures { IfOk result (λ v. map string_bytes v.items ≡ lowered (texts_shown names.now)) }
+{
+    let mut lower = Vec::new(alloc);
+    for name in names {
+        lower.push(name.to_ascii_lowercase(alloc)?)?;
+    }
+    Ok(lower)
+}
+
+fn as_texts<'s>(alloc: Global, names: &'s [String]) -> Result<Vec<&'s str>, AllocError>
+    ensures { IfOk result (λ v. texts_shown v.items ≡ map string_bytes names.now) }
+{
+    let mut texts = Vec::new(alloc);
+    for name in names {
+        texts.push(name.as_str())?;
+    }
+    Ok(texts)
+}
+
+fn are_tokens(names: &[&str]) -> bool
+    ensures { result ≡ list_all token (texts_shown names.now) }
+{
+    for name in names {
+        if !is_token(name) {
+            return false;
+        }
+    }
+    true
+}
+
+// Whether the prefix begins one of the names.
+fn begins_any(prefix: &str, names: &[&str]) -> bool
+    ensures { result ≡ list_any (λ name. starts_with nat_eq name prefix.now) (texts_shown names.now) }
+{
+    for name in names {
+        if name.as_bytes().starts_with(prefix.as_bytes()) {
+            return true;
+        }
+    }
+    false
+}
+
+fn is_sound_prefix(alloc: Global, headers: &[&str], prefix: &str) -> Result<bool, AllocError>
+    ensures { IfOk result (λ b. b ≡ sound_prefix (texts_shown headers.now) prefix.now) }
+{
+    if !prefix.is_empty() && !is_token(prefix) {
+        return Ok(false);
+    }
+    let lower = prefix.to_ascii_lowercase(alloc)?;
+    Ok(!begins_any(lower.as_str(), headers))
+}
+
+fn are_sound_prefixes(
+    alloc: Global,
+    headers: &[&str],
+    prefixes: &[&str],
+) -> Result<bool, AllocError>
+    ensures { IfOk result (λ b. b ≡ list_all (sound_prefix (texts_shown headers.now)) (texts_shown prefixes.now)) }
+{
+    for prefix in prefixes {
+        if !is_sound_prefix(alloc, headers, prefix)? {
+            return Ok(false);
+        }
+    }
+    Ok(true)
+}
+
+/// Whether header names are tokens, distinct without case, and begun by no prefix, prefixes are empty or tokens,
+/// and query names are distinct. Takes memory.
+pub fn have_sound_names(alloc: Global, members: &[SchemaRef<'_>]) -> Result<bool, AllocError>
+    ensures { IfOk result (λ b. b ≡ sound_names (shown members.now)) }
+{
+    let headers = names_of(alloc, members, NameKind::Header)?;
+    let lower_headers = lower_names(alloc, headers.as_slice())?;
+    let lower = as_texts(alloc, lower_headers.as_slice())?;
+    if !are_tokens(lower.as_slice()) || !are_distinct(alloc, lower.as_slice())? {
+        return Ok(false);
+    }
+    let prefixes = names_of(alloc, members, NameKind::Prefix)?;
+    if !are_sound_prefixes(alloc, lower.as_slice(), prefixes.as_slice())? {
+        return Ok(false);
+    }
+    let queries = names_of(alloc, members, NameKind::Query)?;
+    are_distinct(alloc, queries.as_slice())
+}

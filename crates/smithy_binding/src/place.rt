@@ -1,0 +1,134 @@
+// The request of an input (Smithy, HTTP protocol bindings).
+ghost use Rattle.std.specs.Prelude.{◌≡◌, IsTrue, IfOk, IfErr, None, Some};
+ghost use Rattle.smithy_types.specs.Grammars.{is_token, is_header_value};
+ghost use Rattle.smithy_schema.specs.References.{schema_of};
+ghost use Rattle.smithy_serde.specs.StoredValues.{writes_in, AreDefined};
+ghost use Rattle.smithy_serde.specs.Recording.{recorded_writes, IsSoundRecord};
+ghost use Rattle.smithy_serde.specs.Told.{empty_state};
+ghost use Rattle.smithy_serde.specs.Values.{list_of};
+ghost use Rattle.smithy_binding.specs.Checked.{checked_input};
+ghost use Rattle.smithy_binding.specs.Faults.{fault, legal_fault};
+ghost use Rattle.smithy_binding.specs.Placing.{Protocol, Omit, place, method_of as method, template_of as template};
+ghost use Rattle.smithy_binding.specs.DefaultHeaders.{omit_of};
+ghost use Rattle.smithy_binding.specs.Placeable.{is_placeable};
+ghost use Rattle.smithy_binding.specs.Refusing.{TellsFault};
+
+use crate::binding::has_unbound_members;
+use crate::body::unbound_body;
+use crate::default_headers::add_defaults;
+use crate::placement::{RequestParts, gather_writes};
+use crate::refusal::{not_legal, too_long};
+use crate::target::whole_target;
+use smithy_http::{Headers, HttpError, Request};
+use smithy_schema::{SchemaRef, Schemas};
+use smithy_serde::{FinishSerializer, OmitFlags, Recorded, SerdeError, WriteList};
+use smithy_types::{Blob, MAX_TARGET_LEN};
+use std::alloc::Global;
+
+#[cfg(test)]
+mod tests;
+
+fn method_of<'t>(schema: SchemaRef<'t>) -> &'t str
+    ensures { result.now ≡ method (schema_of schema.entry) }
+{
+    match schema.http() {
+        Some(http) => http.method(),
+        None => "GET",
+    }
+}
+
+// The template: that of `@http`, else the endpoint, else `/`.
+fn template_of<'t>(schema: SchemaRef<'t>, endpoint: &'t str) -> &'t str
+    ensures { result.now ≡ template (schema_of schema.entry) endpoint.now }
+{
+    if let Some(http) = schema.http() {
+        return http.uri();
+    }
+    if endpoint.is_empty() { "/" } else { endpoint }
+}
+
+// The request of these parts, once the target is legal.
+fn request_with(
+    alloc: Global,
+    method: &str,
+    target: &str,
+    headers: Headers,
+    body: Blob,
+) -> Result<Request, SerdeError>
+    requires { IsTrue (is_token method.now) }
+    ensures request { IfOk result (λ r. r ≡ record { method = method.now; target = target.now; headers = headers; body = body }) }
+    ensures ok { IfOk result (λ _. legal_fault target.now ≡ None) }
+    ensures err { IfErr result (λ e. TellsFault e (λ f. legal_fault target.now ≡ Some f)) }
+{
+    if target.len() > MAX_TARGET_LEN {
+        return Err(too_long(alloc));
+    }
+    let mut request = Request::new(alloc, body)?;
+    request.set_method(method)?;
+    match request.set_uri(target) {
+        Ok(()) => {}
+        Err(HttpError::Target) => return Err(not_legal(alloc)),
+        Err(_) => return Err(SerdeError::OutOfMemory),
+    }
+    *request.headers_mut() = headers;
+    Ok(request)
+}
+
+/// The request of what was recorded of an input, placed by a checked input schema; `serializer` writes the body. Its
+/// refusals are those of `HttpBindingProtocol::serialize_request`. Takes memory.
+pub fn place_recorded<S: FinishSerializer + Drop>(
+    alloc: Global,
+    serializer: S,
+    recorded: &Recorded,
+    schema: SchemaRef<'_>,
+    endpoint: &str,
+    content_type: &str,
+    omit: OmitFlags,
+) -> Result<Request, SerdeError>
+    requires checked { IsTrue (checked_input (schema_of schema)) }
+    requires placeable { IsTrue (is_placeable (schema_of schema)) }
+    requires sound { IsSoundRecord recorded.now }
+    requires content_type { IsTrue (is_header_value content_type.now) }
+    requires lawful { S.lawful serializer }
+    requires told { S.stands_for serializer empty_state }
+    requires unrefused { S.first_refusal serializer ≡ None }
+    ensures ok { IfOk result (λ _. fault (schema_of schema.entry) (list_of (recorded_writes recorded.now)) endpoint.now ≡ None) }
+    ensures placed { IfOk result (λ r. place (record { content_type = content_type.now; text_of = S.text serializer }) (schema_of schema.entry) (list_of (recorded_writes recorded.now)) endpoint.now (omit_of omit) ≡ Some r) }
+    ensures err { IfErr result (λ e. TellsFault e (λ f. fault (schema_of schema.entry) (list_of (recorded_writes recorded.now)) endpoint.now ≡ Some f)) }
+{
+    let table = recorded.table();
+    let mut parts = RequestParts::new(alloc, schema)?;
+    gather_writes(alloc, schema, table, recorded.writes(), &mut parts)?;
+    let has_body = has_unbound_members(schema);
+    let body = unbound_body(
+        alloc,
+        serializer,
+        schema,
+        has_body,
+        table,
+        parts.unbound.as_slice(),
+    )?;
+    let template = template_of(schema, endpoint);
+    let target = whole_target(
+        alloc,
+        template,
+        parts.labels.as_slice(),
+        parts.query.as_str(),
+    )?;
+    let length = body.as_slice().len();
+    add_defaults(
+        alloc,
+        &mut parts.headers,
+        content_type,
+        has_body,
+        length,
+        omit,
+    )?;
+    request_with(
+        alloc,
+        method_of(schema),
+        target.as_str(),
+        parts.headers,
+        body,
+    )
+}

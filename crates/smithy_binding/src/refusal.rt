@@ -1,0 +1,125 @@
+// The refusals of placing a request.
+ghost use Rattle.std.specs.Prelude.{◌≡◌};
+ghost use Rattle.smithy_schema.specs.Nodes.{Table};
+ghost use Rattle.smithy_schema.specs.References.{schema_of};
+ghost use Rattle.smithy_serde.specs.StoredValues.{value_in};
+ghost use Rattle.smithy_serde.specs.Values.{label_of};
+ghost use Rattle.smithy_binding.specs.Faults.{wrong_kind as wrong_kind_fault, wrong_item_kind as wrong_item_fault, wrong_header as wrong_header_fault, header_words as words_of, header_or_prefix as given_name};
+ghost use Rattle.smithy_binding.specs.Refusing.{TellsFault, missing_hole as missing_fault, unknown_label, too_long as too_long_fault, not_legal as not_legal_fault, no_year as no_year_fault};
+
+use crate::binding::name_of;
+use crate::kinds::{kind_word, written_word};
+use smithy_ids::ShapeType;
+use smithy_schema::SchemaRef;
+use smithy_serde::{SerdeError, ShapeValue};
+use std::alloc::Global;
+
+/// No member is the one that this node names.
+pub fn unknown_member(alloc: Global, written: SchemaRef<'_>) -> SerdeError
+    ensures { TellsFault result (λ f. f ≡ unknown_label (label_of (schema_of written.entry))) }
+{
+    match written.member_name() {
+        Some(name) => SerdeError::unknown_member(alloc, name),
+        None => SerdeError::unknown_member(alloc, written.shape_id().as_str()),
+    }
+}
+
+/// The member is not of the value's kind.
+pub fn wrong_kind(alloc: Global, member: SchemaRef<'_>, value: &ShapeValue) -> SerdeError
+    ensures { (t : Table) → TellsFault result (λ f. f ≡ wrong_kind_fault (schema_of member.entry) (value_in t value.now)) }
+{
+    let written = written_word(value);
+    let name = name_of(member);
+    let kind = kind_word(member.shape_type());
+    match format!(in alloc; "cannot write {written} to member {name} of type {kind}") {
+        Ok(text) => SerdeError::unsupported(alloc, text.as_str()),
+        Err(_) => SerdeError::OutOfMemory,
+    }
+}
+
+/// An element of the member's list is not of the kind of its elements.
+pub fn wrong_item(
+    alloc: Global,
+    member: SchemaRef<'_>,
+    kind: ShapeType,
+    value: &ShapeValue,
+) -> SerdeError
+    ensures { (t : Table) → TellsFault result (λ f. f ≡ wrong_item_fault (schema_of member.entry) kind (value_in t value.now)) }
+{
+    let written = written_word(value);
+    let name = name_of(member);
+    let word = kind_word(kind);
+    match format!(in alloc;
+        "cannot write {written} to an element of member {name} of type {word}"
+    ) {
+        Ok(text) => SerdeError::unsupported(alloc, text.as_str()),
+        Err(_) => SerdeError::OutOfMemory,
+    }
+}
+
+/// The value has no text: a time whose year is not in the calendar of its format.
+pub fn no_year(alloc: Global) -> SerdeError
+    ensures { TellsFault result (λ f. f ≡ no_year_fault) }
+{
+    SerdeError::custom(alloc, "failed to format timestamp: year outside 1 to 9999")
+}
+
+// What stands before the name or the prefix of the member's trait.
+fn header_words(member: SchemaRef<'_>) -> &'static str
+    ensures { result.now ≡ words_of (schema_of member.entry) }
+{
+    match member.http_header() {
+        Some(_) => " to header `",
+        None => " to headers with prefix `",
+    }
+}
+
+// The name or the prefix of the member's trait.
+fn header_or_prefix<'t>(member: SchemaRef<'t>) -> &'t str
+    ensures { result.now ≡ given_name (schema_of member.entry) }
+{
+    if let Some(header) = member.http_header() {
+        return header.value();
+    }
+    if let Some(prefix) = member.http_prefix_headers() {
+        return prefix.value();
+    }
+    ""
+}
+
+/// A header of the member has a name or a value that no header has.
+pub fn wrong_header(alloc: Global, member: SchemaRef<'_>, what: &str) -> SerdeError
+    ensures { TellsFault result (λ f. f ≡ wrong_header_fault (schema_of member.entry) what.now) }
+{
+    let name = name_of(member);
+    let words = header_words(member);
+    let given = header_or_prefix(member);
+    match format!(in alloc; "cannot serialize {name}{words}{given}`: {what}") {
+        Ok(text) => SerdeError::invalid_input(alloc, text.as_str()),
+        Err(_) => SerdeError::OutOfMemory,
+    }
+}
+
+/// No label has a text for the hole.
+pub fn missing_hole(alloc: Global, hole: &str) -> SerdeError
+    ensures { TellsFault result (λ f. f ≡ missing_fault hole.now) }
+{
+    match format!(in alloc; "{hole} was missing: cannot be empty or unset") {
+        Ok(text) => SerdeError::invalid_input(alloc, text.as_str()),
+        Err(_) => SerdeError::OutOfMemory,
+    }
+}
+
+/// The target is longer than a target may be.
+pub fn too_long(alloc: Global) -> SerdeError
+    ensures { TellsFault result (λ f. f ≡ too_long_fault) }
+{
+    SerdeError::custom(alloc, "invalid endpoint URI: longer than 65534 bytes")
+}
+
+/// The target is none.
+pub fn not_legal(alloc: Global) -> SerdeError
+    ensures { TellsFault result (λ f. f ≡ not_legal_fault) }
+{
+    SerdeError::custom(alloc, "invalid endpoint URI: not a legal request target")
+}

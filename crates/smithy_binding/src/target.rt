@@ -1,0 +1,191 @@
+// A request target: the template with its holes filled (Smithy, HTTP protocol bindings, httpLabel).
+ghost use Rattle.std.specs.Prelude.{◌≡◌, ◌∷◌, ◌++◌, ◌<◌, [], Err, IfOk, IfErr, OnOk, Ok, Some, MatchOption, ℕ, List, true, false, codes, length, map, option_map, string_bytes};
+ghost use Rattle.std.specs.List.{slice_split, before_first, after_first};
+ghost use Rattle.smithy_types.specs.Texts.{has_byte};
+ghost use Rattle.smithy_types.specs.Results.{then_give};
+ghost use Rattle.smithy_schema.specs.Templates.{pieces, hole_of};
+ghost use Rattle.smithy_binding.specs.Filling.{fill as filled, hole_text, keep_slashes};
+ghost use Rattle.smithy_binding.specs.Faults.{hole_fault};
+ghost use Rattle.smithy_binding.specs.Refusing.{TellsFault, missing_hole as missing_fault};
+ghost use Rattle.smithy_binding.specs.Seen.{label_pair};
+ghost use Rattle.smithy_binding.specs.LabelTexts.{text_under};
+ghost use Rattle.smithy_binding.specs.TargetParts.{text_in, part_text, filled_by, separator, queries, target_behind, target_with};
+
+use crate::labels::{Label, LabelTexts, text_of_label, texts_by_name};
+use crate::refusal::missing_hole;
+use crate::template::{cut_at_close, cut_at_open, greedy_name};
+use percent_encoding::{AsciiSet, NON_ALPHANUMERIC, ascii_set, utf8_percent_encode};
+use smithy_serde::SerdeError;
+use smithy_strings::push_escaped;
+use smithy_types::OutOfMemory;
+use std::alloc::Global;
+
+const ESCAPED_BUT_SLASH: AsciiSet = ascii_set!(
+    NON_ALPHANUMERIC
+        .remove(b'-')
+        .remove(b'.')
+        .remove(b'_')
+        .remove(b'~')
+        .remove(b'/')
+);
+
+fn push_path(out: &mut String, text: &str) -> Result<(), OutOfMemory>
+    ensures { OnOk result (string_bytes out.new ≡ string_bytes out.old ++ keep_slashes text.now) }
+{
+    utf8_percent_encode(text, ESCAPED_BUT_SLASH).append_to(out)?;
+    Ok(())
+}
+
+fn push_hole_text(out: &mut String, is_greedy: bool, text: &str) -> Result<(), OutOfMemory>
+    ensures { OnOk result (string_bytes out.new ≡ string_bytes out.old ++ hole_text (record { name = []; greedy = is_greedy }) text.now) }
+{
+    if is_greedy {
+        push_path(out, text)
+    } else {
+        push_escaped(out, text)
+    }
+}
+
+fn push_label<'l>(
+    alloc: Global,
+    out: &mut String,
+    name: &'l str,
+    is_greedy: bool,
+    texts: &LabelTexts<'l>,
+) -> Result<(), SerdeError>
+    ensures ok { OnOk result (then_give (text_in (text_under texts.now) (record { name = name.now; greedy = is_greedy })) (λ t. string_bytes out.old ++ t) ≡ Ok (string_bytes out.new)) }
+    ensures err { IfErr result (λ e. TellsFault e (λ f. (f ≡ missing_fault name.now) × (text_in (text_under texts.now) (record { name = name.now; greedy = is_greedy }) ≡ Err name.now))) }
+{
+    let Some(text) = text_of_label(texts, name) else {
+        return Err(missing_hole(alloc, name));
+    };
+    if text.is_empty() {
+        return Err(missing_hole(alloc, name));
+    }
+    push_hole_text(out, is_greedy, text)?;
+    Ok(())
+}
+
+fn push_hole<'l>(
+    alloc: Global,
+    out: &mut String,
+    hole: &'l str,
+    texts: &LabelTexts<'l>,
+) -> Result<(), SerdeError>
+    ensures ok { OnOk result (then_give (text_in (text_under texts.now) (hole_of hole.now)) (λ t. string_bytes out.old ++ t) ≡ Ok (string_bytes out.new)) }
+    ensures err { IfErr result (λ e. TellsFault e (λ f. (f ≡ missing_fault (hole_of hole.now).name) × (text_in (text_under texts.now) (hole_of hole.now) ≡ Err (hole_of hole.now).name))) }
+{
+    match greedy_name(hole) {
+        Some(name) => push_label(alloc, out, name, true, texts),
+        None => push_label(alloc, out, hole, false, texts),
+    }
+}
+
+fn push_part<'l>(
+    alloc: Global,
+    out: &mut String,
+    part: &'l str,
+    texts: &LabelTexts<'l>,
+) -> Result<(), SerdeError>
+    ensures ok { OnOk result (then_give (part_text (text_under texts.now) part.now) (λ t. string_bytes out.old ++ t) ≡ Ok (string_bytes out.new)) }
+    ensures err { IfErr result (λ e. TellsFault e (λ f. hole_fault (part_text (text_under texts.now) part.now) ≡ Some f)) }
+{
+    match cut_at_open(part) {
+        Some((literal, hole)) => {
+            out.push_str(literal)?;
+            push_hole(alloc, out, hole, texts)
+        }
+        None => {
+            out.push_str(part)?;
+            out.push_str("}")?;
+            Ok(())
+        }
+    }
+}
+
+// The template with the text of each hole.
+#[tactic(auto, using(crate::proofs::Fills::filling))]
+fn fill_by<'l>(
+    alloc: Global,
+    template: &'l str,
+    texts: &LabelTexts<'l>,
+) -> Result<String, SerdeError>
+    ensures ok { IfOk result (λ t. filled_by (text_under texts.now) template.now ≡ Ok (string_bytes t)) }
+    ensures err { IfErr result (λ e. TellsFault e (λ f. hole_fault (filled_by (text_under texts.now) template.now) ≡ Some f)) }
+{
+    let mut out = String::new(alloc);
+    let mut rest = template;
+    while let Some((part, behind)) = cut_at_close(rest) {
+        push_part(alloc, &mut out, part, texts)?;
+        rest = behind;
+    }
+    out.push_str(rest)?;
+    Ok(out)
+}
+
+// The template with the text of each hole, which the labels have by its name.
+fn fill<'l>(alloc: Global, template: &'l str, labels: &'l [Label<'l>]) -> Result<String, SerdeError>
+    ensures ok { IfOk result (λ t. filled (pieces template.now) (map label_pair labels.now) ≡ Ok (string_bytes t)) }
+    ensures err { IfErr result (λ e. TellsFault e (λ f. hole_fault (filled (pieces template.now) (map label_pair labels.now)) ≡ Some f)) }
+{
+    let texts = texts_by_name(alloc, labels)?;
+    fill_by(alloc, template, &texts)
+}
+
+/// Adds a pair behind a `&`, both sides escaped (Smithy, HTTP protocol bindings, httpQuery).
+pub fn push_pair(query: &mut String, name: &str, text: &str) -> Result<(), OutOfMemory>
+    ensures { OnOk result (string_bytes query.new ≡ string_bytes query.old ++ queries ((name.now, text.now) ∷ [])) }
+{
+    query.push_str("&")?;
+    push_escaped(query, name)?;
+    query.push_str("=")?;
+    push_escaped(query, text)
+}
+
+// The pairs behind the first `&`.
+fn behind_first<'q>(query: &'q str) -> Option<&'q str>
+    ensures { (path : List ℕ) → MatchOption result (target_behind path query.now ≡ path)
+        (λ q. target_behind path query.now ≡ path ++ (separator (has_byte 63 path) ++ q.now)) }
+{
+    query.strip_prefix('&')
+}
+
+// What stands before the first pair.
+fn first_separator(path: &str) -> &'static str
+    ensures { result.now ≡ separator (has_byte 63 path.now) }
+{
+    if path.as_bytes().contains(&b'?') {
+        "&"
+    } else {
+        "?"
+    }
+}
+
+// The path, and behind it the pairs of a query that each stand behind a `&`.
+fn push_query(path: &mut String, query: &str) -> Result<(), OutOfMemory>
+    ensures { OnOk result (string_bytes path.new ≡ target_behind (string_bytes path.old) query.now) }
+{
+    if let Some(pairs) = behind_first(query) {
+        let separator = first_separator(path.as_str());
+        path.push_str(separator)?;
+        path.push_str(pairs)?;
+    }
+    Ok(())
+}
+
+/// The target: the template with its holes filled, and behind it the pairs of a query that each stand behind a `&`.
+///
+/// `InvalidInput` at the first hole without a non-empty text. Takes memory.
+pub fn whole_target<'l>(
+    alloc: Global,
+    template: &'l str,
+    labels: &'l [Label<'l>],
+    query: &str,
+) -> Result<String, SerdeError>
+    ensures ok { IfOk result (λ t. target_with template.now (map label_pair labels.now) query.now ≡ Ok (string_bytes t)) }
+    ensures err { IfErr result (λ e. TellsFault e (λ f. hole_fault (target_with template.now (map label_pair labels.now) query.now) ≡ Some f)) }
+{
+    let mut target = fill(alloc, template, labels)?;
+    push_query(&mut target, query)?;
+    Ok(target)
+}
