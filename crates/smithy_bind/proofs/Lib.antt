@@ -1,0 +1,11 @@
+pub mod AnswerLemmas
+pub mod Bytes
+pub mod Each
+pub mod InputLemmas
+pub mod JobLemmas
+pub mod LineLemmas
+pub mod Lists
+pub mod Places
+pub mod TableLemmas
+pub mod Views
+pub mod WriteLemmas

@@ -1,0 +1,56 @@
+-- What a run answers.
+use Rattle.std.specs.Prelude.{ℕ, codes, ◌&&◌, List, Bool, Option, Some, None, option_and_then, is_some, if◌then◌else◌}
+use Rattle.smithy_http.specs.Requests.{Request}
+use Rattle.smithy_binding.specs.Placing.{Protocol, place}
+use Rattle.smithy_binding.specs.Faults.{Fault, fault}
+use Rattle.smithy_binding.specs.Checked.{checked_input}
+use Rattle.smithy_binding.specs.Placeable.{is_placeable}
+use Rattle.smithy_types.specs.Documents.{Document}
+use Rattle.smithy_document.specs.JsonText.{json_text}
+use Rattle.smithy_bind.specs.Json.{json_of}
+use Rattle.smithy_bind.specs.Jobs.{Job, job}
+use Rattle.smithy_bind.specs.Shown.{shown, line_of}
+use Rattle.smithy_bind.specs.Commands.{command_of}
+use Rattle.smithy_bind.specs.Texts.{help_text, version_text}
+use Rattle.smithy_bind.specs.declared.command.Command as commands
+use Rattle.smithy_bind.specs.declared.command.Command.TheVariants as command
+
+-- REST with bodies of JSON, whose documents have this text (AWS restJson1)
+abbrev pub rest_json : (Document → List ℕ) → Protocol
+rest_json text_of = record { content_type = codes "application/json"; text_of = text_of }
+
+pub data Outcome : Type 0 where
+  usage : Outcome
+  no_job : Outcome
+  fault_line : List ℕ → Outcome
+  output : List ℕ → Outcome
+
+-- the first fault, or the request
+abbrev pub told : Option Fault → Option Request → Outcome
+told (Some f) r = fault_line (line_of f)
+told None (Some r) = output (shown r)
+told None None = no_job
+
+-- the answer to a job, by a protocol; a schema that a request can't be placed by makes none
+unfoldable pub answered : Protocol → Job → Outcome
+answered protocol j =
+    if checked_input j.schema && is_placeable j.schema
+    then told (fault j.schema j.writes j.endpoint) (place protocol j.schema j.writes j.endpoint j.omit)
+    else no_job
+
+abbrev pub outcome_of : Protocol → Option Job → Outcome
+outcome_of protocol None = no_job
+outcome_of protocol (Some j) = answered protocol j
+
+-- the answer to the bytes of a job, by a protocol
+unfoldable pub requested : Protocol → List ℕ → Outcome
+requested protocol bytes = outcome_of protocol (option_and_then job (json_of bytes))
+
+abbrev pub outcome_by : Option commands.Command → List ℕ → Outcome
+outcome_by None bytes = usage
+outcome_by (Some command.Request) bytes = requested (rest_json json_text) bytes
+outcome_by (Some command.Help) bytes = output help_text
+outcome_by (Some command.Version) bytes = output version_text
+
+abbrev pub outcome : List (List ℕ) → List ℕ → Outcome
+outcome words bytes = outcome_by (command_of words) bytes

@@ -1,0 +1,13 @@
+// One request from a job, from bytes to bytes.
+#![tactic(auto)]
+
+mod answer;
+mod command;
+mod job;
+mod shown;
+mod texts;
+mod top_call;
+
+pub use command::Command;
+pub use texts::{HELP, VERSION};
+pub use top_call::{Status, run, run_in_memory, run_request};

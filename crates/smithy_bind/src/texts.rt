@@ -1,0 +1,55 @@
+// The program's texts about itself.
+ghost use Rattle.std.specs.Prelude.{◌≡◌};
+ghost use Rattle.smithy_bind.specs.Texts.{help_text, version_text};
+
+/// What `--help` writes.
+pub const HELP: &str = "\
+Places the input of a Smithy operation in an HTTP request.
+
+Usage: smithy_bind request < JOB
+       smithy_bind --help
+       smithy_bind --version
+
+`request` reads a job, a JSON object, from standard input, and writes the
+request to standard output: a line of method and target, a line for each
+header, an empty line, and the body. Where the input can't be sent, it writes
+one line that says why.
+
+A job has these keys:
+  model      a Smithy model as a JSON AST, with its `shapes`
+  operation  the full name of an operation of the model; its one trait is
+             smithy.api#http, and its input is a structure. Each member is
+             a smithy.api#String with smithy.api#httpLabel, or
+             a smithy.api#Integer with smithy.api#httpQuery or
+             smithy.api#httpHeader
+  input      an array of pairs of a member's name and its value
+
+The exit status is
+  0  the output was written
+  1  the words are no command
+  2  the input is no job, or a request can't be placed by its schema
+  3  the input can't be sent; the line says why
+  4  reading failed
+  5  writing failed
+  6  there was not enough memory
+  7  the input has more than 16777216 bytes
+";
+
+/// What `--version` writes.
+pub const VERSION: &str = "smithy_bind 0.1.0\n";
+
+/// What `--help` writes.
+#[tactic(auto, unfolding(crate::specs::Texts::help_text))]
+pub fn help() -> &'static [u8]
+    ensures { result.now ≡ help_text }
+{
+    HELP.as_bytes()
+}
+
+/// What `--version` writes.
+#[tactic(auto, unfolding(crate::specs::Texts::version_text))]
+pub fn version() -> &'static [u8]
+    ensures { result.now ≡ version_text }
+{
+    VERSION.as_bytes()
+}
