@@ -1,0 +1,16 @@
+pub mod Bodies
+pub mod Defaults
+pub mod Faults
+pub mod FirstSample
+pub mod Headers
+pub mod Labels
+pub mod Making
+pub mod NormalForms
+pub mod OnLiterals
+pub mod OrderOfFaults
+pub mod Queries
+pub mod Samples
+pub mod Schemas
+pub mod SecondSample
+pub mod Sizes
+pub mod Told

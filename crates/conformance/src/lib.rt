@@ -1,0 +1,7 @@
+// The worked rows: theorems by computation, and tests over the whole.
+#![tactic(auto)]
+
+#[cfg(test)]
+mod codecs;
+#[cfg(test)]
+mod jobs;
