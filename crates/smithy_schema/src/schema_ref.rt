@@ -200,8 +200,8 @@ impl<'t> SchemaRef<'t> {
         }
     }
 
-    // The first position of a member with this name.
-    pub(crate) fn position_of(&self, name: &str) -> Option<usize>
+    /// The first position of a member with this name, if one has it. Logarithmic in the number of members; takes no memory.
+    pub fn position_of(&self, name: &str) -> Option<usize>
         ensures { result ≡ position_of_name (schema_of self.now) name.now }
     {
         match self.spot {

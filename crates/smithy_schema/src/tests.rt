@@ -220,6 +220,8 @@ fn a_name_stands_for_its_first_member(rt: HostRuntime) {
         Some(0)
     );
     assert!(rt; schema.member_schema("").is_none());
+    assert_eq!(rt; schema.position_of("b"), Some(0));
+    assert_eq!(rt; schema.position_of("c"), None);
     assert_eq!(rt; schema.members().get(1), Some(&members[1]));
 }
 
