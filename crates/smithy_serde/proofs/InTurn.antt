@@ -1,5 +1,5 @@
 -- What a call does that writes some and then more.
-use Rattle.std.proofs.Common.{◌≡◌, Option, None, Result, ◌∙◌, ap, subst}
+use Rattle.std.proofs.Common.{◌≡◌, Option, None, Result, subst}
 use Rattle.std.proofs.lemmas.Result.{IfErr-weaker, on_ok_weaker, on_err_weaker}
 use Rattle.std.specs.Prelude.{OnOk}
 use Rattle.smithy_serde.specs.declared.error.SerdeError.{SerdeError}

@@ -2,6 +2,7 @@ pub mod AnswerLemmas
 pub mod FaultLemmas
 pub mod FinishingLemmas
 pub mod InTurn
+pub mod KindNumbers
 pub mod PartLemmas
 pub mod RecordingLemmas
 pub mod RefusingLemmas

@@ -1,5 +1,5 @@
 -- First parts of writes.
-use Rattle.std.proofs.Common.{◌≡◌, ◌⊎◌, inl, inr, refl, sym, subst}
+use Rattle.std.proofs.Common.{◌≡◌, inl, inr, refl, sym, subst}
 use Rattle.smithy_serde.specs.Values.{Label, Writes, no_writes, write}
 use Rattle.smithy_serde.specs.Told.{Group, list_group, map_group, structure_group, grouped, appended, one_write, State, written, all_written, begun}
 use Rattle.smithy_serde.specs.Writing.{Carries}

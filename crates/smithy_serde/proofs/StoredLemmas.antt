@@ -1,5 +1,5 @@
 -- Stored values as lists of writes.
-use Rattle.std.proofs.Common.{◌≡◌, ℕ, zero, suc, List, [], ◌∷◌, ◌++◌, length, Option, Some, None, refl, sym, ap, ◌∙◌, subst, Vec, Global}
+use Rattle.std.proofs.Common.{◌≡◌, ℕ, zero, suc, List, [], ◌∷◌, ◌++◌, length, Option, Some, refl, sym, ap, ◌∙◌, subst, Vec, Global}
 use Rattle.std.specs.Prelude.{slice_get, option_map, IfSome}
 use Rattle.smithy_schema.specs.Nodes.{Table}
 use Rattle.smithy_serde.specs.declared.value.ShapeValue.{ShapeValue}
@@ -70,10 +70,6 @@ slice_get-listed t [] i = refl
 slice_get-listed t (x ∷ xs) zero = refl
 slice_get-listed t (x ∷ xs) (suc i) = slice_get-listed t xs i
 
-map_map : {A B C : Type 0} (f : A → B) (g : B → C) (o : Option A) → option_map (λ x. g (f x)) o ≡ option_map g (option_map f o)
-map_map f g None = refl
-map_map f g (Some x) = refl
-
 pub AreListedDefined-at : (t : Table) (xs : List OneWrite) (i : ℕ) (x : OneWrite) → AreListedDefined t xs → slice_get xs i ≡ Some x → HasNode t x.node.0 × IsDefined t x.value
 AreListedDefined-at t [] i x h e = cc
 AreListedDefined-at t (y ∷ xs) zero x h e = subst (λ o. IfSome o (λ z. HasNode t z.node.0 × IsDefined t z.value)) e (h.0, h.1)
@@ -136,18 +132,10 @@ module _ (ws : WriteList) where
   pub length-writes_in : (t : Table) → length (list_of (writes_in t ws)) ≡ length (out-WriteList ws).writes.items
   length-writes_in t = ap (λ x. length (list_of x)) (writes_listed t ws) ∙ length-listed t (out-WriteList ws).writes.items
 
-  -- of the write at a place
-  module _ (i : ℕ) (o : Option OneWrite) (is : o ≡ slice_get (out-WriteList ws).writes.items i) (t : Table) where
-    write_at : option_map (write_in t) o ≡ slice_get (list_of (writes_in t ws)) i
-    write_at =
-        ap (option_map (write_in t)) is ∙ sym (slice_get-listed t (out-WriteList ws).writes.items i)
-        ∙ ap (λ x. slice_get (list_of x) i) (sym (writes_listed t ws))
-
-    pub label_there : option_map (λ w. label_at t w.node.0) o ≡ option_map (λ w. w.label) (slice_get (list_of (writes_in t ws)) i)
-    label_there = map_map _ _ o ∙ ap (option_map (λ w. w.label)) write_at
-
-    pub value_there : option_map (λ w. value_in t w.value) o ≡ option_map (λ w. w.value) (slice_get (list_of (writes_in t ws)) i)
-    value_there = map_map _ _ o ∙ ap (option_map (λ w. w.value)) write_at
+  pub write_there : (i : ℕ) (o : Option OneWrite) → o ≡ slice_get (out-WriteList ws).writes.items i → (t : Table) → option_map (write_in t) o ≡ slice_get (list_of (writes_in t ws)) i
+  write_there i o is t =
+      ap (option_map (write_in t)) is ∙ sym (slice_get-listed t (out-WriteList ws).writes.items i)
+      ∙ ap (λ x. slice_get (list_of x) i) (sym (writes_listed t ws))
 
   pub defined_there : (i : ℕ) (x : OneWrite) → Some x ≡ slice_get (out-WriteList ws).writes.items i → (t : Table) → AreDefined t ws → HasNode t x.node.0 × IsDefined t x.value
   defined_there i x e t h = AreListedDefined-at t (out-WriteList ws).writes.items i x (AreDefined-listed t ws h) (sym e)

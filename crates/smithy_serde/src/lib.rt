@@ -5,6 +5,7 @@ mod codec;
 mod error;
 mod finishing;
 mod header_omit_settings;
+mod kinds;
 #[cfg(test)]
 mod log;
 mod recorder;
@@ -20,6 +21,7 @@ pub use codec::{Codec, FinishSerializer};
 pub use error::{SerdeError, refused_again};
 pub use finishing::{finish_struct, struct_text, value_text};
 pub use header_omit_settings::{HeaderOmitSettings, OmitFlags};
+pub use kinds::kind_word;
 pub use recorder::{Recorded, Recorder, record_members};
 pub use serializable::{
     SerializableStruct, WriteElements, WriteEntries, write_list, write_list_with_length, write_map,

@@ -287,6 +287,15 @@ fn other_scalars_are_told(rt: HostRuntime) {
     );
 }
 
+#[test]
+#[tactic(auto, unfolding(crate::specs::StoredValues::IsDefined))]
+fn a_null_is_told(rt: HostRuntime) {
+    let alloc = rt.alloc();
+    let (table, place) = one_node(&rt, alloc, pet_id());
+    let null = ShapeValue::Null;
+    tells(&rt, alloc, 9, &table, place, null, "null ex#Pet ;ok");
+}
+
 // Two writes with this node.
 #[tactic(auto, unfolding(crate::specs::StoredValues::IsDefined))]
 fn two_writes(rt: &impl Abort, alloc: Global, node: SchemaIndex) -> WriteList
