@@ -11,7 +11,7 @@ ghost use Rattle.smithy_strings.specs.WireRefusals.{IsWireRefusal, wire_refusal}
 ghost use Rattle.smithy_serde.specs.Refusals.{IsRefusal};
 ghost use Rattle.std.specs.Fmt.{signed_decimal};
 
-use crate::words::{YEAR_OUT_OF_RANGE, is_time, written_word};
+use crate::words::{YEAR_OUT_OF_RANGE, is_time};
 use base64::engine::general_purpose::STANDARD;
 use smithy_ids::TimestampFormat;
 use smithy_schema::SchemaRef;
@@ -113,8 +113,8 @@ fn blob_text(alloc: Global, place: Place, bytes: &[u8]) -> Result<Option<Text>, 
     }
 }
 
-// The format that a node names.
-fn format_in(schema: SchemaRef<'_>) -> Option<TimestampFormat>
+/// The time format that a node names, if it names one (Smithy, timestampFormat trait).
+pub fn format_in(schema: SchemaRef<'_>) -> Option<TimestampFormat>
     ensures { result ≡ (schema_of schema.entry).node.traits.timestamp_format }
 {
     match schema.timestamp_format() {
@@ -198,7 +198,7 @@ fn refusal_of(alloc: Global, value: &ShapeValue) -> SerdeError
     if is_time(value) {
         return SerdeError::custom(alloc, YEAR_OUT_OF_RANGE);
     }
-    let word = written_word(value);
+    let word = value.written_word();
     match format!(in alloc; "cannot write {word} as text") {
         Ok(text) => SerdeError::unsupported(alloc, text.as_str()),
         Err(_) => SerdeError::OutOfMemory,
