@@ -11,7 +11,7 @@ same_text_self : (text : List ℕ) → same_text text text ≡ true
 same_text_self [] = refl
 same_text_self (b ∷ text) = λ i. eq-eqb b b refl i && same_text_self text i
 
-same_text-sym : (a b : List ℕ) → same_text a b ≡ same_text b a
+pub same_text-sym : (a b : List ℕ) → same_text a b ≡ same_text b a
 same_text-sym a b = go (same_text a b) (same_text b a) refl refl
   where
     go : (x y : Bool) → same_text a b ≡ x → same_text b a ≡ y → x ≡ y

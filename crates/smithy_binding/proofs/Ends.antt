@@ -7,23 +7,25 @@ use Rattle.std.proofs.lemmas.List.{append-nil}
 use Rattle.smithy_types.specs.Documents.{Document}
 use Rattle.smithy_types.specs.Texts.{has_byte}
 use Rattle.smithy_types.specs.Results.{then_give}
-use Rattle.smithy_schema.specs.Nodes.{Schema, Binding, to_payload, members_of, binding_of, is_outside_body}
+use Rattle.smithy_schema.specs.Nodes.{Schema}
 use Rattle.smithy_schema.specs.Templates.{pieces}
-use Rattle.smithy_serde.specs.DocumentOf.{document_fault, document_fault_text}
-use Rattle.smithy_serde.specs.Values.{Write, Writes, writes_of}
-use Rattle.smithy_serde.specs.Writes.{all_resolved, unbound}
+use Rattle.smithy_serde.specs.Values.{Write}
+use Rattle.smithy_serde.specs.Writes.{all_resolved}
 use Rattle.smithy_http.specs.Requests.{Request}
 use Rattle.smithy_binding.specs.Filling.{fill}
 use Rattle.smithy_binding.specs.Bindings.{pairs, labels}
-use Rattle.smithy_binding.specs.Bodies.{Body, body, document_value, is_payload, unbound_value, unbound_origin, bytes_from, has_unbound_member}
+use Rattle.smithy_ids.specs.declared.shape_type.ShapeType.{ShapeType}
+use Rattle.smithy_ids.specs.declared.shape_type.ShapeType.TheVariants as kind
+use Rattle.smithy_binding.specs.Bodies.{Body, body, Origin, document_value, document_value_at, unbound_value, unbound_origin, origin_at, bytes_from, payload_kind, has_unbound_member}
 use Rattle.smithy_binding.specs.Placing.{Protocol, Omit, place, target_of, template_of, method_of, with_query, pair_text, is_codec, all_headers}
 use Rattle.smithy_binding.specs.DefaultHeaders.{with_defaults}
-use Rattle.smithy_binding.specs.UnboundBody.{unbound_fault, unbound_bytes}
-use Rattle.smithy_binding.specs.Faults.{Fault, custom, fault, writes_fault, body_fault, hole_fault, target_fault, legal_fault}
+use Rattle.smithy_binding.specs.BodyForms.{form_in, form_at, unbound_form, origin_by, document_by, fault_of_document, text_of_document, fault_by, bytes_by}
+use Rattle.smithy_binding.specs.KeptWrites.{BodyParts, body_parts}
+use Rattle.smithy_binding.specs.declared.body_form.BodyForm.{BodyForm}
+use Rattle.smithy_binding.specs.declared.body_form.BodyForm.TheVariants as form
+use Rattle.smithy_binding.specs.Faults.{Fault, fault, writes_fault, body_fault, hole_fault, target_fault, legal_fault}
 use Rattle.smithy_binding.specs.Gather.{Gathered, gather, ok_unless, nothing_yet}
 use Rattle.smithy_binding.specs.TargetParts.{separator, queries, target_behind, target_with}
-use Rattle.smithy_binding.specs.Placeable.{is_text_binding, is_placeable_member, is_placeable}
-use Rattle.smithy_binding.proofs.UnboundMembers.{placeable-members}
 use Rattle.smithy_binding.proofs.Gathers.{gathered, gather-all, IsGathered, IsGathered-all}
 
 joined_queries : (p : List ℕ × List ℕ) (ps : List (List ℕ × List ℕ)) → join_with_byte 38 (map pair_text (p ∷ ps)) ≡ pair_text p ++ queries ps
@@ -36,44 +38,56 @@ with_query-behind path (p ∷ ps) =
     append_assoc path (separator (has_byte 63 path)) (join_with_byte 38 (map pair_text (p ∷ ps)))
     ∙ ap (λ t. path ++ (separator (has_byte 63 path) ++ t)) (joined_queries p ps)
 
--- no member of a placeable schema is a payload
-no_payload : (ms : List Schema) → list_all is_placeable_member ms ≡ true → find (λ m. is_payload (binding_of m)) ms ≡ None
-no_payload [] e = refl
-no_payload (m ∷ ms) e =
-    let parts = and_parts (is_placeable_member m) (list_all is_placeable_member ms) e in
-    rw (not_payload (binding_of m) parts.0) (no_payload ms parts.1)
+-- the form of the body says where it comes from
+origin-by : (schema : Schema) → origin_at (payload_kind schema) schema ≡ origin_by (form_in schema)
+origin-by schema = go (payload_kind schema)
   where
-    not_payload : (b : Binding) → (not (is_outside_body b) || is_text_binding b) ≡ true → is_payload b ≡ false
-    not_payload to_payload e = absurd (cc e)
-    not_payload _ e = refl
+    rest : (b : Bool) → unbound_origin b ≡ origin_by (unbound_form b)
+    rest true = refl
+    rest false = refl
 
--- its body is the document of the unbound writes
-pub body_fault-unbound : (schema : Schema) (ws : List Write) → is_placeable schema ≡ true → body_fault schema ws ≡ unbound_fault (has_unbound_member schema) (writes_of (unbound schema ws))
-unfolding body_fault document_value
-body_fault-unbound schema ws e = rw (no_payload (members_of schema) (placeable-members schema e)) (go (has_unbound_member schema))
+    go : (k : Option ShapeType) → origin_at k schema ≡ origin_by (form_at k (has_unbound_member schema))
+    go (Some kind.Blob) = refl
+    go (Some kind.String) = refl
+    go (Some kind.Structure) = refl
+    go (Some kind.Union) = refl
+    go _ = rest (has_unbound_member schema)
+
+-- and whose document it is
+document-by : (schema : Schema) (ws : List Write) → document_value schema ws ≡ document_by (form_in schema) (body_parts schema ws)
+unfolding document_value
+document-by schema ws = go (payload_kind schema)
   where
-    go : (b : Bool) → option_map (λ f. custom (document_fault_text f)) (option_and_then document_fault (unbound_value b schema ws)) ≡ unbound_fault b (writes_of (unbound schema ws))
-    go true = refl
-    go false = refl
+    rest : (b : Bool) → unbound_value b schema ws ≡ document_by (unbound_form b) (body_parts schema ws)
+    rest true = refl
+    rest false = refl
 
-pub body-unbound : (schema : Schema) (ws : List Write) (text_of : Document → List ℕ) → is_placeable schema ≡ true
-    → body text_of schema ws ≡ record { bytes = unbound_bytes (has_unbound_member schema) text_of (writes_of (unbound schema ws)); origin = unbound_origin (has_unbound_member schema) }
-unfolding body document_value
-body-unbound schema ws text_of e = rw (no_payload (members_of schema) (placeable-members schema e)) (go (has_unbound_member schema) refl)
-  where
-    go : (b : Bool) → has_unbound_member schema ≡ b
-        → ◌≡◌ {A = Body} (record { bytes = bytes_from (unbound_origin b) text_of schema ws; origin = unbound_origin b }) (record { bytes = unbound_bytes b text_of (writes_of (unbound schema ws)); origin = unbound_origin b })
-    go true h = rw (no_payload (members_of schema) (placeable-members schema e), h) refl
-    go false h = refl
+    go : (k : Option ShapeType) → document_value_at k schema ws ≡ document_by (form_at k (has_unbound_member schema)) (body_parts schema ws)
+    go (Some kind.Blob) = refl
+    go (Some kind.String) = refl
+    go (Some kind.Structure) = refl
+    go (Some kind.Union) = refl
+    go _ = rest (has_unbound_member schema)
 
--- the same of what the code knows of both
-pub fault-by : (schema : Schema) (ws : List Write) (has_body : Bool) (us : Writes) → is_placeable schema ≡ true → has_body ≡ has_unbound_member schema → us ≡ writes_of (unbound schema ws)
-    → body_fault schema ws ≡ unbound_fault has_body us
-fault-by schema ws has_body us e has same = rw (has, same) (body_fault-unbound schema ws e)
+bytes-by : (schema : Schema) (ws : List Write) (text_of : Document → List ℕ) (f : BodyForm) → document_value schema ws ≡ document_by f (body_parts schema ws)
+    → bytes_from (origin_by f) text_of schema ws ≡ bytes_by f text_of (body_parts schema ws)
+bytes-by schema ws text_of form.Raw e = refl
+bytes-by schema ws text_of form.Payload e = ap (text_of_document text_of) e
+bytes-by schema ws text_of form.Unbound e = ap (text_of_document text_of) e
+bytes-by schema ws text_of form.Nothing e = refl
 
-pub body-by : (schema : Schema) (ws : List Write) (text_of : Document → List ℕ) (has_body : Bool) (us : Writes) → is_placeable schema ≡ true → has_body ≡ has_unbound_member schema → us ≡ writes_of (unbound schema ws)
-    → (bytes : List ℕ) → bytes ≡ unbound_bytes has_body text_of us → body text_of schema ws ≡ record { bytes = bytes; origin = unbound_origin has_body }
-body-by schema ws text_of has_body us e has same bytes told = rw (told, has, same) (body-unbound schema ws text_of e)
+-- the body by what the code knows of it
+pub fault-by : (schema : Schema) (ws : List Write) (f : BodyForm) (parts : BodyParts) → f ≡ form_in schema → parts ≡ body_parts schema ws → body_fault schema ws ≡ fault_by f parts
+unfolding body_fault
+fault-by schema ws f parts known same = rw (known, same) (ap fault_of_document (document-by schema ws))
+
+pub body-by : (schema : Schema) (ws : List Write) (text_of : Document → List ℕ) (f : BodyForm) (parts : BodyParts) → f ≡ form_in schema → parts ≡ body_parts schema ws
+    → (bytes : List ℕ) → bytes ≡ bytes_by f text_of parts → body text_of schema ws ≡ record { bytes = bytes; origin = origin_by f }
+unfolding body
+body-by schema ws text_of f parts known same bytes told =
+    ap (λ (o : Origin). record { bytes = bytes_from o text_of schema ws; origin = o }) (origin-by schema ∙ ap origin_by (sym known))
+    ∙ ap (λ (b : List ℕ). record { bytes = b; origin = origin_by f })
+    (bytes-by schema ws text_of f (document-by schema ws ∙ ap (λ g. document_by g (body_parts schema ws)) (sym known)) ∙ ap (bytes_by f text_of) (sym same) ∙ sym told)
 
 -- what the walk says when it ends well
 pub walked : (schema : Schema) (ws : List Write) (s : Gathered) → gather schema (nothing_yet schema) ws ≡ Ok s → (writes_fault schema [] ws ≡ None) × IsGathered schema ws s
@@ -148,15 +162,6 @@ unfolding place
 place-is protocol schema ws endpoint omit s target b e same filled =
     let g = (walked schema ws s e).1 in
     rw (same, target-is schema ws endpoint s g, filled, ← g.headers) refl
-
-codec_origin : (has_body : Bool) → is_codec (unbound_origin has_body) ≡ has_body
-codec_origin true = refl
-codec_origin false = refl
-
--- the default headers of the body of the unbound writes
-pub defaults-unbound : (protocol : Protocol) (has_body : Bool) (bytes : List ℕ) (omit : Omit) (pairs : List (List ℕ × List ℕ))
-    → all_headers protocol (record { bytes = bytes; origin = unbound_origin has_body }) omit pairs ≡ with_defaults protocol.content_type has_body (length bytes) omit pairs
-defaults-unbound protocol has_body bytes omit pairs = rw (codec_origin has_body) refl
 
 pub same_request : (m n t u : List ℕ) (g h : List (List ℕ × List ℕ)) (b c : List ℕ) → m ≡ n → t ≡ u → g ≡ h → b ≡ c
     → ◌≡◌ {A = Request} (record { method = m; target = t; headers = g; body = b }) (record { method = n; target = u; headers = h; body = c })

@@ -3,7 +3,7 @@ use Rattle.std.proofs.Common.{◌≡◌, refl, Bool, true, false, ◌||◌, Some
 use Rattle.smithy_ids.specs.declared.shape_type.ShapeType.{ShapeType}
 use Rattle.smithy_schema.specs.Nodes.{Schema}
 use Rattle.smithy_serde.specs.Values.{Value, null}
-use Rattle.smithy_serde.specs.Fits.{is_null, fits_member, kind_takes, written_kind}
+use Rattle.smithy_serde.specs.Fits.{is_null, fits, fits_member, written_kind}
 
 not_null : (v : Value) (k : ShapeType) → written_kind v ≡ Some k → is_null v ≡ false
 not_null null k e = absurd (cc e)
@@ -14,5 +14,5 @@ or_false true = refl
 or_false false = refl
 
 -- a value that a call with a kind wrote
-pub fits-some : (m : Schema) (v : Value) (k : ShapeType) → written_kind v ≡ Some k → fits_member m v ≡ kind_takes m.node.kind k
-fits-some m v k e = rw (e, not_null v k e) (or_false (kind_takes m.node.kind k))
+pub fits-some : (m : Schema) (v : Value) (k : ShapeType) → written_kind v ≡ Some k → fits_member m v ≡ fits m.node.kind v
+fits-some m v k e = rw (not_null v k e) (or_false (fits m.node.kind v))

@@ -26,7 +26,7 @@ queries-append [] qs = refl
 queries-append (p ∷ ps) qs =
     ap (λ (t : List ℕ). 38 ∷ t) (ap (λ (t : List ℕ). pair_text p ++ t) (queries-append ps qs) ∙ sym (append_assoc (pair_text p) (queries ps) (queries qs)))
 
-resolve-resolved : (schema : Schema) (w : Write) (r : Resolved) → resolved schema w ≡ Some r → (resolve schema w.label ≡ Some r.position) × (member_at schema r.position ≡ Some r.member)
+pub resolve-resolved : (schema : Schema) (w : Write) (r : Resolved) → resolved schema w ≡ Some r → (resolve schema w.label ≡ Some r.position) × (member_at schema r.position ≡ Some r.member)
 resolve-resolved schema w r e = go (resolve schema w.label) refl
   where
     member : (i : ℕ) (m : Option Schema) → member_at schema i ≡ m → option_map (λ (m : Schema). record { position = i; member = m; value = w.value }) m ≡ Some r
@@ -54,7 +54,7 @@ record Agrees (schema : Schema) (marks : List Bool) (seen : List ℕ) : Type 0 w
   size : length marks ≡ length schema.node.members
   same : (i : ℕ) → i < length schema.node.members → get_or marks i false ≡ has_seen seen i
 
-seen_next : (seen : List ℕ) (p i : ℕ) → has_seen (seen ++ p ∷ []) i ≡ (has_seen seen i || ((p == i) || false))
+pub seen_next : (seen : List ℕ) (p i : ℕ) → has_seen (seen ++ p ∷ []) i ≡ (has_seen seen i || ((p == i) || false))
 seen_next seen p i = list_any-append (λ k. k == i) seen (p ∷ [])
 
 -- a mark that is there stays

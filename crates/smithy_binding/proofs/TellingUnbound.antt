@@ -6,56 +6,56 @@ use Rattle.smithy_types.specs.Documents.{Document}
 use Rattle.smithy_schema.specs.Nodes.{Table}
 use Rattle.smithy_serde.specs.declared.error.SerdeError.{SerdeError}
 use Rattle.smithy_serde.specs.declared.error.SerdeError.TheVariants.{Custom, OutOfMemory}
-use Rattle.smithy_serde.specs.Values.{Writes, write, Write, writes_of, structure}
+use Rattle.smithy_serde.specs.Values.{Value, Writes, write, Write, writes_of}
 use Rattle.smithy_serde.specs.Told.{appended}
 use Rattle.smithy_serde.specs.DocumentOf.{DocumentFault, document_fault, document_fault_text}
 use Rattle.smithy_serde.specs.Refusing.{IsFaultRefusal}
 use Rattle.smithy_serde.specs.Finishing.{IsTextOf}
 use Rattle.smithy_serde.specs.StoredValues.{IsDefined}
 use Rattle.smithy_serde.proofs.ToldSoFar.{TellsInOrder}
-use Rattle.smithy_binding.specs.declared.body.UnboundWrite.{UnboundWrite}
+use Rattle.smithy_binding.specs.declared.body_writes.BodyWrite.{BodyWrite}
 use Rattle.smithy_binding.specs.Faults.{custom}
 use Rattle.smithy_binding.specs.Refusing.{TellsFault}
-use Rattle.smithy_binding.specs.UnboundBody.{unbound_bytes, unbound_fault}
-use Rattle.smithy_binding.specs.UnboundWrites.{unbound_write, unbound_writes, AreUnboundDefined}
+use Rattle.smithy_binding.specs.BodyForms.{fault_of_document, text_of_document}
+use Rattle.smithy_binding.specs.KeptWrites.{write_in, unbound_in, AreDefinedWrites}
 
 -- the writes, as they stand inside a value
-abbrev pub told : Table → List UnboundWrite → Writes
-told t us = writes_of (unbound_writes t us)
+abbrev pub told : Table → List BodyWrite → Writes
+told t us = writes_of (unbound_in t us)
 
 writes_of-append : (vs ws : List Write) → writes_of (vs ++ ws) ≡ appended (writes_of vs) (writes_of ws)
 writes_of-append [] ws = refl
 writes_of-append (v ∷ vs) ws = ap (write v.label v.value) (writes_of-append vs ws)
 
 pub told_in_order : (t : Table) → TellsInOrder (told t)
-told_in_order t = record { none = refl; more = λ us vs. ap writes_of (map-append (unbound_write t) us vs) ∙ writes_of-append (unbound_writes t us) (unbound_writes t vs) }
+told_in_order t = record { none = refl; more = λ us vs. ap writes_of (map-append (write_in t) us vs) ∙ writes_of-append (unbound_in t us) (unbound_in t vs) }
 
 -- the value of a write at a place is defined
-pub defined-at : (t : Table) (us : List UnboundWrite) (i : ℕ) (u : UnboundWrite) → AreUnboundDefined t us → i < length us → u ≡ get_or us i u → IsDefined t u.value.now
+pub defined-at : (t : Table) (us : List BodyWrite) (i : ℕ) (u : BodyWrite) → AreDefinedWrites t us → i < length us → u ≡ get_or us i u → IsDefined t u.value.now
 defined-at t [] i u all l e = absurd (omega (arith, l))
-defined-at t (x ∷ xs) zero u all l e = subst (λ (w : UnboundWrite). IsDefined t w.value.now) (sym e) all.0
+defined-at t (x ∷ xs) zero u all l e = subst (λ (w : BodyWrite). IsDefined t w.value.now) (sym e) all.0
 defined-at t (x ∷ xs) (suc i) u all l e = defined-at t xs i u all.1 (omega (arith, l)) e
 
 -- a refusal for a rule of documents tells the fault of the body
-pub refused-body : {A : Type 0} (r : Result A SerdeError) (ws : Writes) → IfErr r (IsFaultRefusal (document_fault (structure ws))) → IfErr r (λ e. TellsFault e (λ f. unbound_fault true ws ≡ Some f))
-refused-body (Ok x) ws h = tt
-refused-body (Err e) ws h = go e h
+pub refused-document : {A : Type 0} (r : Result A SerdeError) (v : Value) → IfErr r (IsFaultRefusal (document_fault v)) → IfErr r (λ e. TellsFault e (λ f. fault_of_document (Some v) ≡ Some f))
+refused-document (Ok x) v h = tt
+refused-document (Err e) v h = go e h
   where
     rule : (o : Option DocumentFault) (message : List ℕ) → option_map document_fault_text o ≡ Some message → option_map (λ f. custom (document_fault_text f)) o ≡ Some (custom message)
     rule None message h = absurd (cc h)
     rule (Some f) message h = let same : document_fault_text f ≡ message = cc h in ap (λ (t : List ℕ). Some (custom t)) same
 
-    go : (e : SerdeError) → IsFaultRefusal (document_fault (structure ws)) e → TellsFault e (λ f. unbound_fault true ws ≡ Some f)
-    go (Custom message) h = rule (document_fault (structure ws)) message h
+    go : (e : SerdeError) → IsFaultRefusal (document_fault v) e → TellsFault e (λ f. fault_of_document (Some v) ≡ Some f)
+    go (Custom message) h = rule (document_fault v) message h
     go OutOfMemory h = tt
     go _ h = absurd h
 
--- the text of a structure breaks no rule
-pub text-fault : {E : Type 0} (r : Result (List ℕ) E) (text : Document → List ℕ) (ws : Writes) → IfOk r (IsTextOf text (structure ws)) → IfOk r (λ b. unbound_fault true ws ≡ None)
-text-fault (Err e) text ws h = tt
-text-fault (Ok b) text ws h = ap (λ o. option_map (λ f. custom (document_fault_text f)) (result_err o)) h.1
+-- the text of a value breaks no rule
+pub text-fault : {E : Type 0} (r : Result (List ℕ) E) (text : Document → List ℕ) (v : Value) → IfOk r (IsTextOf text v) → IfOk r (λ b. fault_of_document (Some v) ≡ None)
+text-fault (Err e) text v h = tt
+text-fault (Ok b) text v h = ap (λ o. option_map (λ f. custom (document_fault_text f)) (result_err o)) h.1
 
 -- and is the body
-pub text-bytes : {E : Type 0} (r : Result (List ℕ) E) (text : Document → List ℕ) (ws : Writes) → IfOk r (IsTextOf text (structure ws)) → IfOk r (λ b. b ≡ unbound_bytes true text ws)
-text-bytes (Err e) text ws h = tt
-text-bytes (Ok b) text ws h = h.2 ∙ sym (ap (λ o. unwrap_or (option_map text (result_ok o)) []) h.1)
+pub text-bytes : {E : Type 0} (r : Result (List ℕ) E) (text : Document → List ℕ) (v : Value) → IfOk r (IsTextOf text v) → IfOk r (λ b. b ≡ text_of_document text (Some v))
+text-bytes (Err e) text v h = tt
+text-bytes (Ok b) text v h = h.2 ∙ sym (ap (λ o. unwrap_or (option_map text (result_ok o)) []) h.1)

@@ -1,11 +1,10 @@
 -- Whether some member is unbound, a member at a time.
-use Rattle.std.proofs.Common.{◌≡◌, refl, sym, ◌∙◌, ℕ, ◌+◌, ◌<◌, ◌≤◌, Bool, true, false, not, ◌||◌, List, length, drop, filter_map, slice_get, arith, Option, Some, None, option_and_then, ◌⊎◌, inl, inr, get_or}
-use Rattle.std.specs.List.{list_all, list_any, cons_option}
+use Rattle.std.proofs.Common.{◌≡◌, refl, sym, ◌∙◌, ℕ, ◌+◌, ◌<◌, ◌≤◌, Bool, false, not, ◌||◌, List, length, drop, filter_map, slice_get, arith, Option, Some, None, option_and_then, ◌⊎◌, inl, inr, get_or}
+use Rattle.std.specs.List.{list_any, cons_option}
 use Rattle.std.specs.Option.{option_map_or}
 use Rattle.std.proofs.Math.ListN.{drop_of_length-le}
 use Rattle.std.proofs.lemmas.Option.{slice_get_cases}
-use Rattle.smithy_schema.specs.Nodes.{Schema, at_place, member_at, members_of, is_bound}
-use Rattle.smithy_binding.specs.Placeable.{is_text_member, is_placeable_member, is_placeable}
+use Rattle.smithy_schema.specs.Nodes.{Schema, at_place, member_at, is_bound}
 use Rattle.smithy_binding.proofs.WriteSteps.{drop-some}
 
 -- the same from a position on
@@ -34,16 +33,3 @@ pub unbound_from-end : (schema : Schema) (i : ℕ) → length schema.node.member
 unbound_from-end schema i l = rw (drop_of_length-le schema.node.members l) refl
 
 pub ruleset finding_unbound = (unbound_from-more, unbound_from-end)
-
--- each member of a placeable schema
-pub placeable-members : (schema : Schema) → is_placeable schema ≡ true → list_all is_placeable_member (members_of schema) ≡ true
-unfolding is_placeable
-placeable-members schema e = e
-
--- a placeable member that is bound is one
-pub bound-text : (m : Schema) → is_placeable_member m ≡ true → is_bound m ≡ true → is_text_member m ≡ true
-bound-text m e bound = go (is_bound m) e bound
-  where
-    go : (b : Bool) → (not b || is_text_member m) ≡ true → b ≡ true → is_text_member m ≡ true
-    go true e bound = e
-    go false e bound = absurd (cc bound)

@@ -1,4 +1,4 @@
--- The test of a schema in the order of the code.
+-- The tests of a schema in the order of the code.
 use Rattle.std.specs.Borrow.{Bor}
 use Rattle.std.specs.Prelude.{ℕ, Bool, false, not, ◌&&◌, ◌||◌, if◌then◌else◌, None, List, length, filter, map, find, filter_map, nat_le, nat_eq, ◌==◌, Option, option_map, is_some}
 use Rattle.std.specs.List.{list_all, list_any, starts_with}
@@ -9,18 +9,20 @@ use Rattle.smithy_types.specs.Texts.{are_distinct}
 use Rattle.smithy_ids.specs.declared.shape_type.ShapeType.{ShapeType}
 use Rattle.smithy_ids.specs.declared.shape_type.ShapeType.TheVariants as kind
 use Rattle.smithy_ids.specs.Kinds.{same_kind, is_structure_or_union}
-use Rattle.smithy_schema.specs.Nodes.{Schema, Traits, at_place, cites_nodes, members_of, is_bound, binding_of}
+use Rattle.smithy_schema.specs.Nodes.{Schema, Traits, at_place, cites_nodes, members_of, is_bound, is_response_bound, binding_of}
 use Rattle.smithy_schema.specs.Templates.{pieces, holes_of, has_unclosed_brace}
 use Rattle.smithy_binding.specs.Clear.{filled_by_a, are_whole_segments, has_whole_authority, holes_named, is_greedy_last}
 use Rattle.smithy_schema.specs.References.{schema_of}
 use Rattle.smithy_schema.specs.declared.schema_ref.SchemaRef.{SchemaRef}
 use Rattle.smithy_binding.specs.Bodies.{is_payload}
-use Rattle.smithy_binding.specs.Checked.{is_bound_once, is_writable, has_bound_kind, has_plain_elements, is_text_map, is_sound_payload, agrees, has_distinct_names, has_sound_names, has_sound_http}
-use Rattle.smithy_binding.specs.Placeable.{is_placeable_member}
+use Rattle.smithy_binding.specs.Checked.{is_bound_once, is_writable, has_header_kind, has_bound_kind, has_plain_elements, is_text_map, is_sound_payload, agrees, has_distinct_names, has_sound_headers, has_sound_names, has_sound_http}
+use Rattle.smithy_binding.specs.CheckedOutput.{is_response_bound_once, has_plain_header_elements}
 use Rattle.smithy_binding.specs.declared.name_check.NameKind.{NameKind}
 use Rattle.smithy_binding.specs.declared.name_check.NameKind.TheVariants as names
-use Rattle.smithy_binding.specs.declared.check.Counted.{Counted}
-use Rattle.smithy_binding.specs.declared.check.Counted.TheVariants as counted
+use Rattle.smithy_binding.specs.declared.member_check.Direction.{Direction}
+use Rattle.smithy_binding.specs.declared.member_check.Direction.TheVariants as direction
+use Rattle.smithy_binding.specs.declared.members.Counted.{Counted}
+use Rattle.smithy_binding.specs.declared.members.Counted.TheVariants as counted
 
 abbrev pub shown : List SchemaRef → List Schema
 shown members = map schema_of members
@@ -31,48 +33,93 @@ counted_test counted.Payload t = t.http_payload
 counted_test counted.Prefix t = is_some t.http_prefix_headers
 counted_test counted.QueryMap t = t.http_query_params
 counted_test counted.Label t = t.http_label
+counted_test counted.ResponseCode t = t.http_response_code
 
 -- a prefix map or a query map
 abbrev pub is_map_binding : Traits → Bool
 is_map_binding t = is_some t.http_prefix_headers || t.http_query_params
 
--- what is asked of each member
+-- what is asked of each member of an input
 abbrev pub is_sound_member : Schema → Bool
 is_sound_member m =
     cites_nodes m && is_bound_once m && is_writable m && has_bound_kind m && has_plain_elements m && (not (is_map_binding m.node.traits) || is_text_map m)
 
+-- a prefix map is one from texts to texts
+abbrev pub has_prefix_kind : Schema → Bool
+has_prefix_kind m = not (is_some m.node.traits.http_prefix_headers) || is_text_map m
+
+-- a response code is an Integer
+abbrev pub has_code_kind : Schema → Bool
+has_code_kind m = not m.node.traits.http_response_code || same_kind m.node.kind kind.Integer
+
+-- what is asked of each member of an output
+abbrev pub is_sound_response_member : Schema → Bool
+is_sound_response_member m =
+    cites_nodes m && is_response_bound_once m && is_writable m && has_header_kind m && has_plain_header_elements m && has_prefix_kind m && has_code_kind m
+
+-- what is asked of each member
+abbrev pub is_sound_in : Direction → Schema → Bool
+is_sound_in direction.Request m = is_sound_member m
+is_sound_in direction.Response m = is_sound_response_member m
+
+-- the payload
+abbrev pub is_payload_in : Direction → Schema → Bool
+is_payload_in direction.Request m = is_payload (binding_of m)
+is_payload_in direction.Response m = m.node.traits.http_payload
+
+-- a member outside the body
+abbrev pub is_bound_in : Direction → Schema → Bool
+is_bound_in direction.Request m = is_bound m
+is_bound_in direction.Response m = is_response_bound m
+
 abbrev pub count_of : Counted → List Schema → ℕ
 count_of which ms = length (filter (λ m. counted_test which m.node.traits) ms)
 
-abbrev pub payload_in : List Schema → Option ShapeType
-payload_in ms = option_map (λ m. m.node.kind) (find (λ m. is_payload (binding_of m)) ms)
+abbrev pub payload_in : Direction → List Schema → Option ShapeType
+payload_in way ms = option_map (λ m. m.node.kind) (find (λ m. is_payload_in way m) ms)
 
-abbrev pub has_unbound_in : List Schema → Bool
-has_unbound_in ms = list_any (λ m. not (is_bound m)) ms
+abbrev pub has_unbound_in : Direction → List Schema → Bool
+has_unbound_in way ms = list_any (λ m. not (is_bound_in way m)) ms
 
--- what needs no memory, over the members
+-- at most one payload, of a payload's kind, beside which no member is unbound
+abbrev pub has_sound_payload_in : Direction → List Schema → Bool
+has_sound_payload_in way ms = nat_le (count_of counted.Payload ms) 1 && is_sound_payload (payload_in way ms) (has_unbound_in way ms)
+
+-- the flag and the hint of an input say what holds
+abbrev pub has_true_flags_for : Schema → List Schema → Bool
+has_true_flags_for schema ms =
+    (not schema.node.has_no_body_members || not (has_unbound_in direction.Request ms))
+    && agrees schema.node.hint (option_map_or is_structure_or_union (payload_in direction.Request ms) false)
+
+-- what needs no memory, over the members of an input
 abbrev pub are_sound : Schema → List Schema → Bool
 are_sound schema ms =
-    list_all is_sound_member ms
-    && nat_le (count_of counted.Payload ms) 1
-    && is_sound_payload (payload_in ms) (has_unbound_in ms)
+    list_all (is_sound_in direction.Request) ms
+    && has_sound_payload_in direction.Request ms
     && nat_le (count_of counted.Prefix ms) 1
     && nat_le (count_of counted.QueryMap ms) 1
-    && (not schema.node.has_no_body_members || not (has_unbound_in ms))
-    && agrees schema.node.hint (option_map_or is_structure_or_union (payload_in ms) false)
-    && list_all is_placeable_member ms
+    && has_true_flags_for schema ms
+
+-- what needs no memory, over the members of an output
+abbrev pub are_sound_response : List Schema → Bool
+are_sound_response ms =
+    list_all (is_sound_in direction.Response) ms
+    && has_sound_payload_in direction.Response ms
+    && nat_le (count_of counted.Prefix ms) 1
+    && nat_le (count_of counted.ResponseCode ms) 1
 
 abbrev pub has_defined_members : Schema → Bool
 has_defined_members schema = list_all (λ p. is_some (at_place schema.table p)) schema.node.members
 
+-- a structure whose members are defined and have distinct names
+abbrev pub has_named_members : Schema → Bool
+has_named_members schema = same_kind schema.node.kind kind.Structure && has_defined_members schema && has_distinct_names schema
+
 abbrev pub checked_in_order : Schema → Bool
-checked_in_order schema =
-    same_kind schema.node.kind kind.Structure
-    && has_defined_members schema
-    && are_sound schema (members_of schema)
-    && has_distinct_names schema
-    && has_sound_names schema
-    && has_sound_http schema
+checked_in_order schema = has_named_members schema && (are_sound schema (members_of schema) && has_sound_names schema && has_sound_http schema)
+
+abbrev pub checked_output_in_order : Schema → Bool
+checked_output_in_order schema = has_named_members schema && (are_sound_response (members_of schema) && has_sound_headers schema)
 
 abbrev pub texts_shown : List (Bor (List ℕ)) → List (List ℕ)
 texts_shown names = map (λ n. n.now) names
@@ -89,7 +136,7 @@ name_under names.Query m = m.node.traits.http_query
 abbrev pub names_under : NameKind → List Schema → List (List ℕ)
 names_under kind ms = filter_map (name_under kind) ms
 
--- header names are tokens and distinct, no prefix begins one, and query names are distinct
+-- empty or a token, and at the start of no name
 abbrev pub is_sound_prefix_of : List (List ℕ) → List ℕ → Bool
 is_sound_prefix_of headers prefix =
     ((length prefix == 0) || is_token prefix) && not (list_any (λ name. starts_with nat_eq name (str_to_ascii_lowercase prefix)) headers)
@@ -97,10 +144,15 @@ is_sound_prefix_of headers prefix =
 abbrev pub lower_names : List (List ℕ) → List (List ℕ)
 lower_names headers = map str_to_ascii_lowercase headers
 
-abbrev pub have_sound_names : List Schema → Bool
-have_sound_names ms =
+-- header names are tokens and distinct without case, and no prefix begins one
+abbrev pub have_sound_headers : List Schema → Bool
+have_sound_headers ms =
     let headers = lower_names (names_under names.Header ms) in
-    (list_all is_token headers && are_distinct headers && list_all (is_sound_prefix_of headers) (names_under names.Prefix ms)) && are_distinct (names_under names.Query ms)
+    list_all is_token headers && are_distinct headers && list_all (is_sound_prefix_of headers) (names_under names.Prefix ms)
+
+-- and query names are distinct
+abbrev pub have_sound_names : List Schema → Bool
+have_sound_names ms = have_sound_headers ms && are_distinct (names_under names.Query ms)
 
 -- a clear template, for labels of these names
 abbrev pub is_clear_for : List ℕ → List (List ℕ) → ℕ → Bool

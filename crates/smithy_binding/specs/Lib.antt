@@ -4,6 +4,7 @@ pub mod Checked
 pub mod CheckedOutput
 pub mod Clear
 pub mod DefaultHeaders
+pub mod Entries
 pub mod Faults
 pub mod Filling
 pub mod Gather
@@ -11,7 +12,6 @@ pub mod Held
 pub mod LabelTexts
 pub mod Laws
 pub mod NormalForm
-pub mod Placeable
 pub mod Placing
 pub mod Protocols
 pub mod Refusing
@@ -20,7 +20,7 @@ pub mod CutTemplate
 pub mod ClearParts
 pub mod TargetParts
 pub mod Typed
-pub mod UnboundBody
-pub mod UnboundWrites
+pub mod BodyForms
+pub mod KeptWrites
 pub mod Placed
 pub mod Checking

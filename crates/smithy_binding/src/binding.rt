@@ -4,6 +4,7 @@ ghost use Rattle.std.specs.Option.{option_map_or};
 ghost use Rattle.smithy_schema.specs.Nodes.{binding_of as binding, name_of as name, is_bound as bound, member_at};
 ghost use Rattle.smithy_schema.specs.References.{schema_of};
 ghost use Rattle.smithy_binding.specs.Bodies.{has_unbound_member as has_unbound};
+ghost use Rattle.smithy_binding.specs.Faults.{is_placed_at};
 ghost use Rattle.smithy_binding.specs.Seen.{binding_shown};
 
 use smithy_schema::SchemaRef;
@@ -55,6 +56,17 @@ pub fn is_bound(member: SchemaRef<'_>) -> bool
     }
 }
 
+/// Whether the member stands in the target or the headers.
+pub fn is_placed(member: SchemaRef<'_>) -> bool
+    ensures { result ≡ is_placed_at (binding (schema_of member.entry)) }
+{
+    match binding_of(member) {
+        Binding::Payload => false,
+        Binding::Body => false,
+        _ => true,
+    }
+}
+
 // Whether an unbound member stands at the position.
 fn is_unbound_at(schema: SchemaRef<'_>, position: usize) -> bool
     ensures { result ≡ option_map_or (λ m. not (bound m)) (member_at (schema_of schema.entry) position) false }
@@ -65,7 +77,8 @@ fn is_unbound_at(schema: SchemaRef<'_>, position: usize) -> bool
     }
 }
 
-fn member_count(schema: SchemaRef<'_>) -> usize
+/// How many members the schema has, holes among them.
+pub fn member_count(schema: SchemaRef<'_>) -> usize
     ensures { result ≡ length (schema_of schema.entry).node.members }
 {
     schema.members().len()

@@ -1,5 +1,6 @@
-// The body of a request: the document of the unbound members (Smithy, HTTP protocol bindings).
-ghost use Rattle.std.specs.Prelude.{◌≡◌, None, Some, OnOk, IfOk, IfErr};
+// The body of a request: a payload, or the document of the unbound members (Smithy, HTTP protocol bindings).
+ghost use Rattle.std.specs.Prelude.{◌≡◌, None, Some, OnOk, IfOk, IfErr, IfSome, option_map, unwrap_or, []};
+ghost use Rattle.smithy_schema.specs.Nodes.{Table};
 ghost use Rattle.smithy_schema.specs.References.{schema_of};
 ghost use Rattle.smithy_serde.specs.Values.{writes_of, structure};
 ghost use Rattle.smithy_serde.specs.Told.{all_written, empty_state};
@@ -7,37 +8,37 @@ ghost use Rattle.smithy_serde.specs.Writing.{IsWritesAnswer, Carries};
 ghost use Rattle.smithy_serde.specs.DocumentOf.{document_fault};
 ghost use Rattle.smithy_serde.specs.Refusing.{RefusesByRule, IsFaultRefusal};
 ghost use Rattle.smithy_serde.specs.Finishing.{IsTextOf};
+ghost use Rattle.smithy_serde.specs.StoredValues.{value_in, IsDefined};
+ghost use Rattle.smithy_binding.specs.Bodies.{raw_bytes as bytes_of_raw};
 ghost use Rattle.smithy_binding.specs.Refusing.{TellsFault};
-ghost use Rattle.smithy_binding.specs.UnboundBody.{unbound_bytes, unbound_fault};
-ghost use Rattle.smithy_binding.specs.UnboundWrites.{unbound_writes, AreUnboundDefined};
+ghost use Rattle.smithy_binding.specs.BodyForms.{fault_of_document, text_of_document, fault_by, bytes_by};
+ghost use Rattle.smithy_binding.specs.KeptWrites.{value_of, unbound_in, AreDefinedWrites, kept_in, IsKeptDefined};
 
+use crate::body_form::BodyForm;
+use crate::body_writes::{BodyWrite, BodyWrites};
 use smithy_schema::{SchemaRef, Schemas};
 use smithy_serde::{
-    FinishSerializer, SerdeError, ShapeSerializer, ShapeValue, finish_struct, tell,
+    FinishSerializer, SerdeError, ShapeSerializer, ShapeValue, finish_struct, tell, value_text,
 };
-use smithy_types::Blob;
+use smithy_types::{Blob, OutOfMemory};
 use std::alloc::Global;
 
-/// A write to an unbound member.
-#[derive(Drop)]
-pub struct UnboundWrite<'t, 'w> {
-    pub member: SchemaRef<'t>,
-    pub value: &'w ShapeValue,
-}
+#[cfg(test)]
+mod tests;
 
 // Tells the writes in order, each by the node of its member.
 fn tell_writes<S: ShapeSerializer>(
     serializer: &mut S,
     table: &Schemas,
-    writes: &[UnboundWrite<'_, '_>],
+    writes: &[BodyWrite<'_, '_>],
 ) -> Result<(), SerdeError>
-    requires { AreUnboundDefined table.now writes.now }
+    requires { AreDefinedWrites table.now writes.now }
     ensures answer { IsWritesAnswer (S.first_refusal serializer.old) result (S.first_refusal serializer.new) }
     ensures lists { OnOk result (S.open_lists serializer.new ≡ S.open_lists serializer.old) }
-    ensures ok_states { OnOk result (Carries (all_written (writes_of (unbound_writes table.now writes.now))) (S.stands_for serializer.old) (S.stands_for serializer.new)) }
+    ensures ok_states { OnOk result (Carries (all_written (writes_of (unbound_in table.now writes.now))) (S.stands_for serializer.old) (S.stands_for serializer.new)) }
     ensures text { S.text serializer.new ≡ S.text serializer.old }
     ensures lawful { S.lawful serializer.old → S.lawful serializer.new }
-    ensures refusal { S.lawful serializer.old → RefusesByRule (all_written (writes_of (unbound_writes table.now writes.now))) (S.first_refusal serializer.old) (S.stands_for serializer.old) result }
+    ensures refusal { S.lawful serializer.old → RefusesByRule (all_written (writes_of (unbound_in table.now writes.now))) (S.first_refusal serializer.old) (S.stands_for serializer.old) result }
 {
     for write in writes {
         tell(serializer, write.member, table, write.value)?;
@@ -50,14 +51,14 @@ fn text_of_writes<S: FinishSerializer + Drop>(
     serializer: S,
     schema: SchemaRef<'_>,
     table: &Schemas,
-    writes: &[UnboundWrite<'_, '_>],
+    writes: &[BodyWrite<'_, '_>],
 ) -> Result<Blob, SerdeError>
-    requires defined { AreUnboundDefined table.now writes.now }
+    requires defined { AreDefinedWrites table.now writes.now }
     requires lawful { S.lawful serializer }
     requires told { S.stands_for serializer empty_state }
     requires unrefused { S.first_refusal serializer ≡ None }
-    ensures ok { IfOk result (IsTextOf (S.text serializer) (structure (writes_of (unbound_writes table.now writes.now)))) }
-    ensures err { IfErr result (IsFaultRefusal (document_fault (structure (writes_of (unbound_writes table.now writes.now))))) }
+    ensures ok { IfOk result (IsTextOf (S.text serializer) (structure (writes_of (unbound_in table.now writes.now)))) }
+    ensures err { IfErr result (IsFaultRefusal (document_fault (structure (writes_of (unbound_in table.now writes.now))))) }
 {
     let mut serializer = serializer;
     serializer.open_struct(schema)?;
@@ -65,26 +66,72 @@ fn text_of_writes<S: FinishSerializer + Drop>(
     finish_struct(serializer)
 }
 
-/// The body of the unbound writes: the serializer's text of their structure where the schema has an unbound member, so
-/// that it has a body, and else no bytes. `Custom` for the first rule of documents that the structure breaks. Takes memory.
-pub fn unbound_body<S: FinishSerializer + Drop>(
+// The bytes of a text or a blob.
+#[tactic(auto, unfolding(smithy_serde::specs::StoredValues::value_in))]
+fn raw_bytes(value: &ShapeValue) -> &[u8]
+    ensures { (t : Table) → result.now ≡ bytes_of_raw (value_in t value.now) }
+{
+    match value {
+        ShapeValue::String(text) => text.as_str().as_bytes(),
+        ShapeValue::Blob(bytes) => bytes.as_slice(),
+        _ => &[],
+    }
+}
+
+// The bytes of a text or blob payload, none where it was not written.
+fn raw_body(alloc: Global, payload: Option<BodyWrite<'_, '_>>) -> Result<Blob, OutOfMemory>
+    ensures { IfOk result (λ b. (t : Table) → b ≡ unwrap_or (option_map bytes_of_raw (option_map (value_of t) payload.entry)) []) }
+{
+    match payload {
+        Some(write) => Blob::new(alloc, raw_bytes(write.value)),
+        None => Blob::new(alloc, &[]),
+    }
+}
+
+// The text of a structure payload, no bytes where it was not written.
+fn payload_body<S: FinishSerializer + Drop>(
     alloc: Global,
     serializer: S,
-    schema: SchemaRef<'_>,
-    has_body: bool,
     table: &Schemas,
-    writes: &[UnboundWrite<'_, '_>],
+    payload: Option<BodyWrite<'_, '_>>,
 ) -> Result<Blob, SerdeError>
-    requires defined { AreUnboundDefined table.now writes.now }
+    requires defined { IfSome payload (λ w. IsDefined table.now w.value.now) }
     requires lawful { S.lawful serializer }
     requires told { S.stands_for serializer empty_state }
     requires unrefused { S.first_refusal serializer ≡ None }
-    ensures ok { IfOk result (λ _. unbound_fault has_body (writes_of (unbound_writes table.now writes.now)) ≡ None) }
-    ensures bytes { IfOk result (λ b. b ≡ unbound_bytes has_body (S.text serializer) (writes_of (unbound_writes table.now writes.now))) }
-    ensures err { IfErr result (λ e. TellsFault e (λ f. unbound_fault has_body (writes_of (unbound_writes table.now writes.now)) ≡ Some f)) }
+    ensures ok { IfOk result (λ _. fault_of_document (option_map (value_of table.now) payload.entry) ≡ None) }
+    ensures bytes { IfOk result (λ b. b ≡ text_of_document (S.text serializer) (option_map (value_of table.now) payload.entry)) }
+    ensures err { IfErr result (λ e. TellsFault e (λ f. fault_of_document (option_map (value_of table.now) payload.entry) ≡ Some f)) }
 {
-    if !has_body {
-        return Ok(Blob::new(alloc, &[])?);
+    match payload {
+        Some(write) => value_text(serializer, write.member, table, write.value),
+        None => Ok(Blob::new(alloc, &[])?),
     }
-    text_of_writes(serializer, schema, table, writes)
+}
+
+/// The body of these writes, by its form: the bytes of a text or blob payload, the serializer's text of a structure
+/// payload or of the structure of the unbound writes, or no bytes; of a payload that was not written, none. `Custom` for
+/// the first rule of documents that the document breaks. Takes memory (Smithy, HTTP protocol bindings, httpPayload).
+pub fn request_body<S: FinishSerializer + Drop>(
+    alloc: Global,
+    serializer: S,
+    schema: SchemaRef<'_>,
+    form: BodyForm,
+    table: &Schemas,
+    writes: &BodyWrites<'_, '_>,
+) -> Result<Blob, SerdeError>
+    requires defined { IsKeptDefined table.now writes.now }
+    requires lawful { S.lawful serializer }
+    requires told { S.stands_for serializer empty_state }
+    requires unrefused { S.first_refusal serializer ≡ None }
+    ensures ok { IfOk result (λ _. fault_by form (kept_in table.now writes.now) ≡ None) }
+    ensures bytes { IfOk result (λ b. b ≡ bytes_by form (S.text serializer) (kept_in table.now writes.now)) }
+    ensures err { IfErr result (λ e. TellsFault e (λ f. fault_by form (kept_in table.now writes.now) ≡ Some f)) }
+{
+    match form {
+        BodyForm::Raw => Ok(raw_body(alloc, writes.payload)?),
+        BodyForm::Payload => payload_body(alloc, serializer, table, writes.payload),
+        BodyForm::Unbound => text_of_writes(serializer, schema, table, writes.unbound.as_slice()),
+        BodyForm::Nothing => Ok(Blob::new(alloc, &[])?),
+    }
 }

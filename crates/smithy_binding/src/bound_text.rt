@@ -12,9 +12,12 @@ use crate::refusal::no_year;
 use smithy_ids::TimestampFormat;
 use smithy_schema::{SchemaIndex, SchemaRef, Schemas};
 use smithy_serde::{SerdeError, ShapeValue};
-use smithy_strings::{Place, scalar_text};
+use smithy_strings::{Place, format_in, scalar_text};
 use smithy_types::Text;
 use std::alloc::Global;
+
+#[cfg(test)]
+mod tests;
 
 // Where the texts of the member stand.
 fn place_of(member: SchemaRef<'_>) -> Place
@@ -28,16 +31,6 @@ fn place_of(member: SchemaRef<'_>) -> Place
         Binding::QueryMap => Place::Query,
         Binding::Payload => Place::Query,
         Binding::Body => Place::Query,
-    }
-}
-
-// The time format of a node.
-fn format_in(schema: SchemaRef<'_>) -> Option<TimestampFormat>
-    ensures { result ≡ (schema_of schema.entry).node.traits.timestamp_format }
-{
-    match schema.timestamp_format() {
-        Some(named) => Some(named.format()),
-        None => None,
     }
 }
 

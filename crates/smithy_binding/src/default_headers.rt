@@ -55,6 +55,9 @@ fn add_length(
 ) -> Result<(), OutOfMemory>
     ensures { OnOk result (headers.new ≡ with_default is_wanted (codes "content-length") (decimal length) headers.old) }
 {
+    if !is_wanted {
+        return Ok(());
+    }
     let text = format!(in alloc; "{length}")?;
     add_default(headers, is_wanted, "content-length", text.as_str())
 }

@@ -1,9 +1,9 @@
 // The elements of a list in a header or the query (Smithy, HTTP protocol bindings, httpHeader and httpQuery).
-ghost use Rattle.std.specs.Prelude.{◌≡◌, ◌++◌, OnOk, IfOk, IfErr, None, Some, option_map, slice_get, string_bytes};
+ghost use Rattle.std.specs.Prelude.{◌≡◌, ◌++◌, OnOk, IfOk, IfErr, None, Some, option_map, string_bytes};
 ghost use Rattle.smithy_types.specs.Results.{each};
 ghost use Rattle.smithy_schema.specs.Nodes.{element_of};
 ghost use Rattle.smithy_schema.specs.References.{schema_of};
-ghost use Rattle.smithy_serde.specs.StoredValues.{value_in, writes_in, label_at};
+ghost use Rattle.smithy_serde.specs.StoredValues.{writes_in};
 ghost use Rattle.smithy_serde.specs.Values.{list_of};
 ghost use Rattle.smithy_strings.specs.Lists.{listed};
 ghost use Rattle.smithy_strings.specs.declared.wire.Place.TheVariants as at;
@@ -13,15 +13,17 @@ ghost use Rattle.smithy_binding.specs.Refusing.{TellsFault, no_year as no_year_f
 ghost use Rattle.smithy_binding.specs.TargetParts.{queries};
 
 use crate::bound_text::element_text;
-use crate::kinds::fits_kind;
 use crate::refusal::wrong_item;
 use crate::target::push_pair;
 use smithy_ids::ShapeType;
-use smithy_schema::{SchemaIndex, SchemaRef, Schemas};
-use smithy_serde::{SerdeError, ShapeValue, WriteList};
+use smithy_schema::{SchemaRef, Schemas};
+use smithy_serde::{SerdeError, WriteList};
 use smithy_strings::{Place, push_listed};
 use smithy_types::Text;
 use std::alloc::Global;
+
+#[cfg(test)]
+mod tests;
 
 /// The kind of the elements of a member, and where it has none the kind that no value has.
 pub fn element_kind(member: SchemaRef<'_>) -> ShapeType
@@ -31,19 +33,6 @@ pub fn element_kind(member: SchemaRef<'_>) -> ShapeType
         Some(element) => element.shape_type(),
         None => ShapeType::Member,
     }
-}
-
-// The element at a place, with the node with which it was written.
-fn element_at<'w>(
-    table: &Schemas,
-    elements: &'w WriteList,
-    place: usize,
-) -> Option<(SchemaIndex, &'w ShapeValue)>
-    ensures { option_map (λ w. record { label = label_at table.now w.0.0; value = value_in table.now w.1.now }) result ≡ slice_get (list_of (writes_in table.now elements.now)) place }
-{
-    let node = elements.node(place)?;
-    let value = elements.value(place)?;
-    Some((node, value))
 }
 
 /// Tests that each element of the member's list is of the kind. `UnsupportedOperation` for the first that is not.
@@ -58,10 +47,10 @@ pub fn test_elements(
     ensures err { IfErr result (λ e. TellsFault e (λ f. element_fault (schema_of member.entry) kind (writes_in table.now elements.now) ≡ Some f)) }
 {
     for place in 0..elements.len() {
-        let Some((_node, value)) = element_at(table, elements, place) else {
+        let Some((_node, value)) = elements.write(place) else {
             unreachable!()
         };
-        if !fits_kind(kind, value) {
+        if !value.fits(kind) {
             return Err(wrong_item(alloc, member, kind, value));
         }
     }
@@ -81,7 +70,7 @@ pub fn listed_text(
 {
     let mut list = String::new(alloc);
     for place in 0..elements.len() {
-        let Some((node, value)) = element_at(table, elements, place) else {
+        let Some((node, value)) = elements.write(place) else {
             unreachable!()
         };
         let text = element_text(alloc, table, Place::Header, node, value)?;
@@ -103,7 +92,7 @@ pub fn push_elements(
     ensures err { IfErr result (λ e. TellsFault e (λ f. (f ≡ no_year_fault) × (each (element at.Query) (list_of (writes_in table.now elements.now)) ≡ None))) }
 {
     for place in 0..elements.len() {
-        let Some((node, value)) = element_at(table, elements, place) else {
+        let Some((node, value)) = elements.write(place) else {
             unreachable!()
         };
         let text = element_text(alloc, table, Place::Query, node, value)?;

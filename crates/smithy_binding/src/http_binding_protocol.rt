@@ -89,21 +89,25 @@ impl<C: Codec> HttpBindingProtocol<C> {
     ghost use Rattle.smithy_binding.specs.Checked.{checked_input};
     ghost use Rattle.smithy_binding.specs.DefaultHeaders.{omit_of};
     ghost use Rattle.smithy_binding.specs.Faults.{fault};
-    ghost use Rattle.smithy_binding.specs.Placeable.{is_placeable};
     ghost use Rattle.smithy_binding.specs.Placing.{place};
     ghost use Rattle.smithy_binding.specs.Protocols.{codec_of, content_type_of};
     ghost use Rattle.smithy_binding.specs.Refusing.{TellsFault};
 
     /// The request of an input, by its schema (Smithy, HTTP protocol bindings). Without `@http` the method is `GET`, and
     /// the template is `endpoint`, or `/` where that is empty. Each bound member's first write stands where its trait
-    /// names it; the body is the codec's text of the writes of unbound members, where the schema has such members. The
-    /// default headers are added as `omit` asks. Conditions: `checked_input` holds of the schema, and the codec is lawful.
+    /// names it: a label, header or query member by its texts, a map in the headers by a header of each entry, named by
+    /// prefix and key, and a map in the query by a pair of each entry whose key is no query member's name. The body is
+    /// the payload's first write, as it is where that is a Blob or String and else as the codec's text, and empty where
+    /// there is none; without a payload it is the codec's text of the writes of unbound members, where the schema has
+    /// such members. The default headers are added as `omit` asks: a content type where the codec writes the body, a
+    /// length there and where the body is not empty. Conditions: `checked_input` holds of the schema, and the codec is
+    /// lawful.
     ///
     /// Refused with the first fault of the writes in order, then of the body's document, of the template's holes, and of
     /// the target: `UnknownMember` where a write is for no member, `UnsupportedOperation` where it is not of the member's
-    /// kind, `InvalidInput` for a header that no header has and for a hole without a text, `Custom` for a rule of
-    /// documents that the body breaks, and for a target that is longer than 65,534 bytes or not legal. Takes memory;
-    /// `OutOfMemory` where it is not there.
+    /// kind or a map ends with a key, `InvalidInput` for a header that no request has and for a hole without a text,
+    /// `Custom` for a rule of documents that the body breaks, and for a target that is longer than 65,534 bytes or not
+    /// legal. Takes memory; `OutOfMemory` where it is not there.
     pub fn serialize_request(
         &self,
         alloc: Global,
@@ -113,7 +117,6 @@ impl<C: Codec> HttpBindingProtocol<C> {
         omit: OmitFlags,
     ) -> Result<Request, SerdeError>
         requires checked { IsTrue (checked_input (schema_of schema)) }
-        requires placeable { IsTrue (is_placeable (schema_of schema)) }
         requires lawful { C.lawful (codec_of self.now) }
         ensures ok { IfOk result (λ _. fault (schema_of schema.entry) (list_of (writes input.now)) endpoint.now ≡ None) }
         ensures placed { IfOk result (λ r. place (record { content_type = content_type_of self.now; text_of = C.text (codec_of self.now) }) (schema_of schema.entry) (list_of (writes input.now)) endpoint.now (omit_of omit) ≡ Some r) }
@@ -135,7 +138,6 @@ impl<C: Codec> HttpBindingProtocol<C> {
         omit: OmitFlags,
     ) -> Result<Request, SerdeError>
         requires checked { IsTrue (checked_input (schema_of schema)) }
-        requires placeable { IsTrue (is_placeable (schema_of schema)) }
         requires lawful { C.Serializer.lawful body }
         requires told { C.Serializer.stands_for body empty_state }
         requires unrefused { C.Serializer.first_refusal body ≡ None }

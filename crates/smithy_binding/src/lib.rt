@@ -3,6 +3,8 @@
 
 mod binding;
 mod body;
+mod body_form;
+mod body_writes;
 mod bound_text;
 mod check;
 mod clear;
@@ -12,8 +14,12 @@ mod http_binding_protocol;
 mod kinds;
 mod labels;
 pub mod laws;
+mod maps;
 mod member_check;
+mod member_header;
+mod members;
 mod name_check;
+mod output_check;
 mod place;
 mod placement;
 mod refusal;
@@ -25,3 +31,4 @@ mod testing;
 
 pub use check::checked_input;
 pub use http_binding_protocol::HttpBindingProtocol;
+pub use output_check::checked_output;

@@ -1,16 +1,24 @@
-// What is asked of each member of a checked input schema.
+// What is asked of each member of a checked schema.
 ghost use Rattle.std.specs.Prelude.{◌≡◌, ◌&&◌, false, true, option_map, if◌then◌else◌, None};
 ghost use Rattle.smithy_ids.specs.Kinds.{same_kind, is_scalar as scalar, is_unwritable as unwritable, is_structure_or_union as struct_or_union};
 ghost use Rattle.smithy_ids.specs.declared.shape_type.ShapeType.TheVariants as kind;
-ghost use Rattle.smithy_schema.specs.Nodes.{element_of};
+ghost use Rattle.smithy_schema.specs.Nodes.{element_of, binding_of as binding};
 ghost use Rattle.smithy_schema.specs.References.{schema_of};
-ghost use Rattle.smithy_binding.specs.Checked.{one_if as one, is_bound_once as bound_once, is_header_kind as header_kind, has_label_kind as label_kind, has_query_kind as query_kind, has_header_kind as header_test, format_number as number, is_plain_element as plain_element, has_plain_elements as plain_elements, is_plain_string as plain_string, is_text_map as text_map, is_payload_kind as payload_test};
-ghost use Rattle.smithy_binding.specs.Checking.{is_map_binding as map_binding, is_sound_member as sound};
-ghost use Rattle.smithy_binding.specs.Placeable.{is_text_member as text_member, is_placeable_member as placeable};
+ghost use Rattle.smithy_binding.specs.Checked.{one_if as one, is_bound_once as bound_once, is_header_kind as header_kind, has_label_kind as label_kind, has_query_kind as query_kind, has_header_kind as header_test, format_number as number, is_plain_element as plain_element, is_element_plain as element_plain, has_plain_elements as plain_elements, is_plain_string as plain_string, is_text_map as text_map, is_payload_kind as payload_test};
+ghost use Rattle.smithy_binding.specs.CheckedOutput.{is_response_bound_once as response_bound_once, has_plain_header_elements as plain_header_elements};
+ghost use Rattle.smithy_binding.specs.Checking.{is_map_binding as map_binding, has_prefix_kind as prefix_kind, has_code_kind as code_kind, is_sound_member as sound_request_member, is_sound_response_member as sound_response_member, is_sound_in, is_payload_in, is_bound_in as bound_in};
+ghost use Rattle.smithy_binding.specs.Bodies.{is_payload as payload};
 
 use crate::binding::{Binding, binding_of, is_bound};
 use smithy_ids::{ShapeType, TimestampFormat};
 use smithy_schema::SchemaRef;
+
+/// Whose members they are: those of an input stand in a request, those of an output in a response.
+#[derive(Clone, Copy)]
+pub enum Direction {
+    Request,
+    Response,
+}
 
 fn one_if(test: bool) -> u8
     ensures { result ≡ one test }
@@ -18,7 +26,7 @@ fn one_if(test: bool) -> u8
     if test { 1 } else { 0 }
 }
 
-// At most one binding.
+// At most one binding of a request.
 fn is_bound_once(member: SchemaRef<'_>) -> bool
     ensures { result ≡ bound_once (schema_of member.entry) }
 {
@@ -27,6 +35,17 @@ fn is_bound_once(member: SchemaRef<'_>) -> bool
         + one_if(member.http_label().is_some())
         + one_if(member.http_prefix_headers().is_some())
         + one_if(member.http_query_params().is_some())
+        + one_if(member.http_payload().is_some());
+    count <= 1
+}
+
+// At most one binding of a response.
+fn is_response_bound_once(member: SchemaRef<'_>) -> bool
+    ensures { result ≡ response_bound_once (schema_of member.entry) }
+{
+    let count = one_if(member.http_header().is_some())
+        + one_if(member.http_prefix_headers().is_some())
+        + one_if(member.http_response_code().is_some())
         + one_if(member.http_payload().is_some());
     count <= 1
 }
@@ -160,17 +179,28 @@ fn is_plain_element(member: SchemaRef<'_>, element: SchemaRef<'_>) -> bool
     element.media_type().is_none() && format_number(element) == format_number(member)
 }
 
-// The elements of a list in a header or the query have no media type and the member's time format.
-fn has_plain_elements(member: SchemaRef<'_>) -> bool
-    ensures { result ≡ plain_elements (schema_of member.entry) }
+// The elements, where the member is a list, have no media type and the member's time format.
+fn is_element_plain(member: SchemaRef<'_>) -> bool
+    ensures { result ≡ element_plain (schema_of member.entry) }
 {
-    if member.http_query().is_none() && member.http_header().is_none() {
-        return true;
-    }
     match list_element(member) {
         Some(element) => is_plain_element(member, element),
         None => true,
     }
+}
+
+// So are those of a list in a header or the query.
+fn has_plain_elements(member: SchemaRef<'_>) -> bool
+    ensures { result ≡ plain_elements (schema_of member.entry) }
+{
+    (member.http_query().is_none() && member.http_header().is_none()) || is_element_plain(member)
+}
+
+// So are those of a list in a header.
+fn has_plain_header_elements(member: SchemaRef<'_>) -> bool
+    ensures { result ≡ plain_header_elements (schema_of member.entry) }
+{
+    member.http_header().is_none() || is_element_plain(member)
 }
 
 fn is_plain_string(node: Option<SchemaRef<'_>>) -> bool
@@ -201,10 +231,9 @@ fn is_map_binding(member: SchemaRef<'_>) -> bool
     member.http_prefix_headers().is_some() || member.http_query_params().is_some()
 }
 
-/// What is asked of each member: its nodes are defined, it has at most one binding, a kind that is written and
-/// that its binding takes, and plain elements; a map of headers or of the query is one from texts to texts.
-pub fn is_sound_member(member: SchemaRef<'_>) -> bool
-    ensures { result ≡ sound (schema_of member.entry) }
+// What is asked of each member of an input.
+fn is_sound_request_member(member: SchemaRef<'_>) -> bool
+    ensures { result ≡ sound_request_member (schema_of member.entry) }
 {
     member.has_cited_nodes()
         && is_bound_once(member)
@@ -216,24 +245,77 @@ pub fn is_sound_member(member: SchemaRef<'_>) -> bool
         && (!is_map_binding(member) || is_text_map(member))
 }
 
-// A member in a header, the query or a label by itself.
-fn is_text_member(member: SchemaRef<'_>) -> bool
-    ensures { result ≡ text_member (schema_of member.entry) }
+fn has_prefix_kind(member: SchemaRef<'_>) -> bool
+    ensures { result ≡ prefix_kind (schema_of member.entry) }
 {
-    match binding_of(member) {
-        Binding::Header(_) => true,
-        Binding::Query(_) => true,
-        Binding::Label => true,
-        Binding::Prefix(_) => false,
-        Binding::QueryMap => false,
-        Binding::Payload => false,
-        Binding::Body => false,
+    member.http_prefix_headers().is_none() || is_text_map(member)
+}
+
+fn is_integer(member: SchemaRef<'_>) -> bool
+    ensures { result ≡ same_kind (schema_of member.entry).node.kind kind.Integer }
+{
+    match member.shape_type() {
+        ShapeType::Integer => true,
+        _ => false,
     }
 }
 
-/// What is placed so far: a member in the body, or one in a header, the query or a label by itself.
-pub fn is_placeable_member(member: SchemaRef<'_>) -> bool
-    ensures { result ≡ placeable (schema_of member.entry) }
+fn has_code_kind(member: SchemaRef<'_>) -> bool
+    ensures { result ≡ code_kind (schema_of member.entry) }
 {
-    !is_bound(member) || is_text_member(member)
+    member.http_response_code().is_none() || is_integer(member)
+}
+
+// What is asked of each member of an output.
+fn is_sound_response_member(member: SchemaRef<'_>) -> bool
+    ensures { result ≡ sound_response_member (schema_of member.entry) }
+{
+    member.has_cited_nodes()
+        && is_response_bound_once(member)
+        && !is_unwritable(member.shape_type())
+        && has_header_kind(member)
+        && has_plain_header_elements(member)
+        && has_prefix_kind(member)
+        && has_code_kind(member)
+}
+
+/// What is asked of each member: its nodes are defined, it has at most one binding, a kind that is written and
+/// that its binding takes, and plain elements in a header or the query; a map of headers or of the query is one from
+/// texts to texts, and a response code is an Integer.
+pub fn is_sound_member(member: SchemaRef<'_>, way: Direction) -> bool
+    ensures { result ≡ is_sound_in way (schema_of member.entry) }
+{
+    match way {
+        Direction::Request => is_sound_request_member(member),
+        Direction::Response => is_sound_response_member(member),
+    }
+}
+
+fn is_request_payload(member: SchemaRef<'_>) -> bool
+    ensures { result ≡ payload (binding (schema_of member.entry)) }
+{
+    match binding_of(member) {
+        Binding::Payload => true,
+        _ => false,
+    }
+}
+
+/// Whether the member is the payload (httpPayload).
+pub fn is_payload(member: SchemaRef<'_>, way: Direction) -> bool
+    ensures { result ≡ is_payload_in way (schema_of member.entry) }
+{
+    match way {
+        Direction::Request => is_request_payload(member),
+        Direction::Response => member.http_payload().is_some(),
+    }
+}
+
+/// Whether the member stands outside the body.
+pub fn is_bound_in(member: SchemaRef<'_>, way: Direction) -> bool
+    ensures { result ≡ bound_in way (schema_of member.entry) }
+{
+    match way {
+        Direction::Request => is_bound(member),
+        Direction::Response => member.has_http_response_binding(),
+    }
 }

@@ -4,7 +4,8 @@ ghost use Rattle.std.specs.List.{list_all, list_any, starts_with};
 ghost use Rattle.smithy_types.specs.Grammars.{is_token as token};
 ghost use Rattle.smithy_types.specs.Texts.{are_distinct as distinct};
 ghost use Rattle.smithy_schema.specs.References.{schema_of};
-ghost use Rattle.smithy_binding.specs.Checking.{shown, name_under as name_of_kind, names_under, texts_shown, lower_names as lowered, is_sound_prefix_of as sound_prefix, have_sound_names as sound_names};
+ghost use Rattle.smithy_binding.specs.declared.name_check.NameKind.TheVariants as names;
+ghost use Rattle.smithy_binding.specs.Checking.{shown, name_under as name_of_kind, names_under, texts_shown, lower_names as lowered, is_sound_prefix_of as sound_prefix, have_sound_headers as sound_headers, have_sound_names as sound_names};
 
 use smithy_schema::SchemaRef;
 use smithy_types::is_token;
@@ -149,10 +150,18 @@ fn are_sound_prefixes(
     Ok(true)
 }
 
-/// Whether header names are tokens, distinct without case, and begun by no prefix, prefixes are empty or tokens,
-/// and query names are distinct. Takes memory.
-pub fn have_sound_names(alloc: Global, members: &[SchemaRef<'_>]) -> Result<bool, AllocError>
-    ensures { IfOk result (λ b. b ≡ sound_names (shown members.now)) }
+/// Whether no two of the members have one name; a member without a name has none in common. Takes memory.
+pub fn have_distinct_names(alloc: Global, members: &[SchemaRef<'_>]) -> Result<bool, AllocError>
+    ensures { IfOk result (λ b. b ≡ distinct (names_under names.Member (shown members.now))) }
+{
+    let names = names_of(alloc, members, NameKind::Member)?;
+    are_distinct(alloc, names.as_slice())
+}
+
+/// Whether header names are tokens (RFC 7230, section 3.2.6), distinct without case, and begun by no prefix, and
+/// prefixes are empty or tokens (httpHeader, httpPrefixHeaders). Takes memory.
+pub fn have_sound_headers(alloc: Global, members: &[SchemaRef<'_>]) -> Result<bool, AllocError>
+    ensures { IfOk result (λ b. b ≡ sound_headers (shown members.now)) }
 {
     let headers = names_of(alloc, members, NameKind::Header)?;
     let lower_headers = lower_names(alloc, headers.as_slice())?;
@@ -161,7 +170,14 @@ pub fn have_sound_names(alloc: Global, members: &[SchemaRef<'_>]) -> Result<bool
         return Ok(false);
     }
     let prefixes = names_of(alloc, members, NameKind::Prefix)?;
-    if !are_sound_prefixes(alloc, lower.as_slice(), prefixes.as_slice())? {
+    are_sound_prefixes(alloc, lower.as_slice(), prefixes.as_slice())
+}
+
+/// The same, and whether query names are distinct (httpQuery). Takes memory.
+pub fn have_sound_names(alloc: Global, members: &[SchemaRef<'_>]) -> Result<bool, AllocError>
+    ensures { IfOk result (λ b. b ≡ sound_names (shown members.now)) }
+{
+    if !have_sound_headers(alloc, members)? {
         return Ok(false);
     }
     let queries = names_of(alloc, members, NameKind::Query)?;

@@ -10,11 +10,10 @@ ghost use Rattle.smithy_binding.specs.Checked.{checked_input};
 ghost use Rattle.smithy_binding.specs.Faults.{fault, legal_fault};
 ghost use Rattle.smithy_binding.specs.Placing.{Protocol, Omit, place, method_of as method, template_of as template};
 ghost use Rattle.smithy_binding.specs.DefaultHeaders.{omit_of};
-ghost use Rattle.smithy_binding.specs.Placeable.{is_placeable};
 ghost use Rattle.smithy_binding.specs.Refusing.{TellsFault};
 
-use crate::binding::has_unbound_members;
-use crate::body::unbound_body;
+use crate::body::request_body;
+use crate::body_form::body_form;
 use crate::default_headers::add_defaults;
 use crate::placement::{RequestParts, gather_writes};
 use crate::refusal::{not_legal, too_long};
@@ -86,7 +85,6 @@ pub fn place_recorded<S: FinishSerializer + Drop>(
     omit: OmitFlags,
 ) -> Result<Request, SerdeError>
     requires checked { IsTrue (checked_input (schema_of schema)) }
-    requires placeable { IsTrue (is_placeable (schema_of schema)) }
     requires sound { IsSoundRecord recorded.now }
     requires content_type { IsTrue (is_header_value content_type.now) }
     requires lawful { S.lawful serializer }
@@ -99,15 +97,8 @@ pub fn place_recorded<S: FinishSerializer + Drop>(
     let table = recorded.table();
     let mut parts = RequestParts::new(alloc, schema)?;
     gather_writes(alloc, schema, table, recorded.writes(), &mut parts)?;
-    let has_body = has_unbound_members(schema);
-    let body = unbound_body(
-        alloc,
-        serializer,
-        schema,
-        has_body,
-        table,
-        parts.unbound.as_slice(),
-    )?;
+    let form = body_form(schema);
+    let body = request_body(alloc, serializer, schema, form, table, &parts.body)?;
     let template = template_of(schema, endpoint);
     let target = whole_target(
         alloc,
@@ -120,7 +111,7 @@ pub fn place_recorded<S: FinishSerializer + Drop>(
         alloc,
         &mut parts.headers,
         content_type,
-        has_body,
+        form.is_codec(),
         length,
         omit,
     )?;

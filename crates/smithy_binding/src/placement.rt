@@ -1,34 +1,34 @@
 // What the writes put into a request, one by one.
-ghost use Rattle.std.specs.Prelude.{◌≡◌, ◌∷◌, ◌++◌, [], IsTrue, IfOk, IfErr, OnOk, Ok, Err, Some, None, true, false, ℕ, length, drop, option_map, slice_get, slice_index_or, slice_set, IfSome};
-ghost use Rattle.std.specs.Str.{str_to_ascii_lowercase};
+ghost use Rattle.std.specs.Prelude.{◌≡◌, ◌∷◌, ◌++◌, [], IsTrue, IfOk, IfErr, OnOk, Ok, Err, Some, None, true, false, ℕ, length, drop, option_map, slice_index_or, slice_set};
 ghost use Rattle.std.specs.List.{list_all};
 ghost use Rattle.smithy_schema.specs.Nodes.{Table, element_of, members_of, to_header, binding_of as binding};
 ghost use Rattle.smithy_schema.specs.References.{schema_of};
 ghost use Rattle.smithy_serde.specs.Fits.{fits_member as fits};
 ghost use Rattle.smithy_serde.specs.StoredValues.{value_in, writes_in, label_at, IsDefined, AreDefined, HasNode};
-ghost use Rattle.smithy_serde.specs.Values.{label_of, list, list_of};
-ghost use Rattle.smithy_serde.specs.Writes.{unbound};
+ghost use Rattle.smithy_serde.specs.Values.{label_of, list, list_of, map};
+ghost use Rattle.smithy_serde.specs.Writes.{all_resolved};
 ghost use Rattle.smithy_http.specs.Headers.{put_all};
 ghost use Rattle.smithy_binding.specs.Bindings.{kind_or_none, inserted_at};
-ghost use Rattle.smithy_binding.specs.Checked.{has_bound_kind};
-ghost use Rattle.smithy_binding.specs.Faults.{element_fault, pairs_fault};
+ghost use Rattle.smithy_binding.specs.Checked.{has_bound_kind, is_text_map};
+ghost use Rattle.smithy_binding.specs.Faults.{element_fault, is_placed_at};
 ghost use Rattle.smithy_binding.specs.Gather.{gather_one, gather, add_or_fault, nothing_yet};
-ghost use Rattle.smithy_binding.specs.Placed.{placed_first, first_fault, IsSingle};
+ghost use Rattle.smithy_binding.specs.Placed.{has_placed_kind, is_text_member, is_list_binding, takes_map, placed_first, first_fault, IsSingle};
 ghost use Rattle.smithy_binding.specs.Refusing.{TellsFault};
 ghost use Rattle.smithy_binding.specs.Seen.{gathered_of};
-ghost use Rattle.smithy_binding.specs.Placeable.{is_text_member, is_list_binding, is_placeable_member, is_placeable};
-ghost use Rattle.smithy_binding.specs.UnboundWrites.{unbound_of, unbound_writes, AreUnboundDefined};
+ghost use Rattle.smithy_binding.specs.KeptWrites.{body_parts, keep, keep_all, kept_in, IsEmpty, IsKeptDefined};
 
-use crate::binding::{Binding, binding_of, is_bound, name_of};
-use crate::body::UnboundWrite;
+use crate::binding::{Binding, binding_of, is_placed, name_of};
+use crate::body_writes::BodyWrites;
 use crate::bound_text::text_of;
 use crate::elements::{element_kind, listed_text, push_elements, test_elements};
 use crate::kinds::fits_member;
 use crate::labels::Label;
-use crate::refusal::{unknown_member, wrong_header, wrong_kind};
+use crate::maps::{push_entries, put_entries, test_map};
+use crate::member_header::put_header;
+use crate::refusal::{unknown_member, wrong_kind};
 use crate::resolve::resolve;
 use crate::target::push_pair;
-use smithy_http::{Headers, HttpError};
+use smithy_http::Headers;
 use smithy_schema::{SchemaIndex, SchemaRef, Schemas};
 use smithy_serde::{SerdeError, ShapeValue, WriteList};
 use smithy_types::OutOfMemory;
@@ -43,15 +43,14 @@ pub struct RequestParts<'t, 'w> {
     /// Each pair behind a `&`.
     pub query: String,
     pub labels: Vec<Label<'t>>,
-    /// The writes of the body, in order.
-    pub unbound: Vec<UnboundWrite<'t, 'w>>,
+    pub body: BodyWrites<'t, 'w>,
 }
 
 impl<'t, 'w> RequestParts<'t, 'w> {
     /// Nothing yet, for the members of this schema. Takes memory, linear in their number.
     pub fn new(alloc: Global, schema: SchemaRef<'_>) -> Result<RequestParts<'t, 'w>, AllocError>
         ensures gathered { IfOk result (λ p. gathered_of p ≡ nothing_yet (schema_of schema.entry)) }
-        ensures unbound { IfOk result (λ p. p.unbound.items ≡ []) }
+        ensures body { IfOk result (λ p. IsEmpty p.body) }
     {
         let seen = vec![in alloc; false; schema.members().len()]?;
         Ok(RequestParts {
@@ -59,7 +58,7 @@ impl<'t, 'w> RequestParts<'t, 'w> {
             headers: Headers::new(alloc),
             query: String::new(alloc),
             labels: Vec::new(alloc),
-            unbound: Vec::new(alloc),
+            body: BodyWrites::new(alloc),
         })
     }
 }
@@ -78,26 +77,6 @@ fn mark(seen: &mut Vec<bool>, position: usize)
     }
 }
 
-// Puts a header of the member.
-fn put_header(
-    alloc: Global,
-    member: SchemaRef<'_>,
-    headers: &mut Headers,
-    name: &str,
-    text: &str,
-) -> Result<(), SerdeError>
-    ensures ok { IfOk result (λ _. pairs_fault (schema_of member.entry) ((str_to_ascii_lowercase name.now, text.now) ∷ []) ≡ None) }
-    ensures put { OnOk result (headers.new ≡ put_all headers.old ((str_to_ascii_lowercase name.now, text.now) ∷ [])) }
-    ensures err { IfErr result (λ e. TellsFault e (λ f. pairs_fault (schema_of member.entry) ((str_to_ascii_lowercase name.now, text.now) ∷ []) ≡ Some f)) }
-{
-    match headers.try_insert(name, text) {
-        Ok(()) => Ok(()),
-        Err(HttpError::Name) => Err(wrong_header(alloc, member, "invalid header name")),
-        Err(HttpError::Value) => Err(wrong_header(alloc, member, "invalid header value")),
-        Err(_) => Err(SerdeError::OutOfMemory),
-    }
-}
-
 // Puts the first write of one value.
 fn add_single<'t>(
     alloc: Global,
@@ -110,7 +89,7 @@ fn add_single<'t>(
     requires single { (t : Table) → IsSingle (value_in t value.now) }
     ensures ok { OnOk result ((t : Table) → first_fault (schema_of member.entry) (value_in t value.now) ≡ None) }
     ensures put { OnOk result ((t : Table) → gathered_of parts.new ≡ placed_first (schema_of schema.entry) (schema_of member.entry) (value_in t value.now) (gathered_of parts.old)) }
-    ensures unbound { OnOk result (parts.new.unbound.items ≡ parts.old.unbound.items) }
+    ensures body { OnOk result (parts.new.body ≡ parts.old.body) }
     ensures err { IfErr result (λ e. (t : Table) → TellsFault e (λ f. first_fault (schema_of member.entry) (value_in t value.now) ≡ Some f)) }
 {
     let text = text_of(alloc, member, value)?;
@@ -160,7 +139,7 @@ fn add_list<'t>(
     requires placed { IsTrue (is_list_binding (binding (schema_of member))) }
     ensures ok { OnOk result (first_fault (schema_of member.entry) (list (writes_in table.now elements.now)) ≡ None) }
     ensures put { OnOk result (gathered_of parts.new ≡ placed_first (schema_of schema.entry) (schema_of member.entry) (list (writes_in table.now elements.now)) (gathered_of parts.old)) }
-    ensures unbound { OnOk result (parts.new.unbound.items ≡ parts.old.unbound.items) }
+    ensures body { OnOk result (parts.new.body ≡ parts.old.body) }
     ensures err { IfErr result (λ e. TellsFault e (λ f. first_fault (schema_of member.entry) (list (writes_in table.now elements.now)) ≡ Some f)) }
 {
     test_elements(alloc, table, member, element_kind(member), elements)?;
@@ -173,7 +152,36 @@ fn add_list<'t>(
     }
 }
 
-// Puts the first write of a bound member, which fits.
+// Puts the first write of a map.
+fn add_map<'t>(
+    alloc: Global,
+    schema: SchemaRef<'_>,
+    table: &Schemas,
+    member: SchemaRef<'t>,
+    parts: &mut RequestParts<'t, '_>,
+    entries: &WriteList,
+) -> Result<(), SerdeError>
+    requires placed { IsTrue (takes_map (binding (schema_of member))) }
+    requires texts { IsTrue (is_text_map (schema_of member)) }
+    ensures ok { OnOk result (first_fault (schema_of member.entry) (map (writes_in table.now entries.now)) ≡ None) }
+    ensures put { OnOk result (gathered_of parts.new ≡ placed_first (schema_of schema.entry) (schema_of member.entry) (map (writes_in table.now entries.now)) (gathered_of parts.old)) }
+    ensures body { OnOk result (parts.new.body ≡ parts.old.body) }
+    ensures err { IfErr result (λ e. TellsFault e (λ f. first_fault (schema_of member.entry) (map (writes_in table.now entries.now)) ≡ Some f)) }
+{
+    test_map(alloc, table, member, entries)?;
+    match binding_of(member) {
+        Binding::Prefix(prefix) => {
+            put_entries(alloc, table, member, &mut parts.headers, prefix, entries)
+        }
+        Binding::QueryMap => {
+            push_entries(alloc, table, schema, &mut parts.query, entries)?;
+            Ok(())
+        }
+        _ => unreachable!(),
+    }
+}
+
+// Puts the first write of a member in the headers, the query or a label, which fits.
 #[tactic(auto, unfolding(smithy_serde::specs::StoredValues::value_in))]
 fn add_first<'t>(
     alloc: Global,
@@ -183,35 +191,19 @@ fn add_first<'t>(
     parts: &mut RequestParts<'t, '_>,
     value: &ShapeValue,
 ) -> Result<(), SerdeError>
-    requires placed { IsTrue (is_text_member (schema_of member)) }
-    requires kinds { IsTrue (has_bound_kind (schema_of member)) }
+    requires placed { IsTrue (is_placed_at (binding (schema_of member))) }
+    requires kinds { IsTrue (has_placed_kind (schema_of member)) }
     requires fits { IsTrue (fits (schema_of member) (value_in table.now value.now)) }
     ensures ok { OnOk result (first_fault (schema_of member.entry) (value_in table.now value.now) ≡ None) }
     ensures put { OnOk result (gathered_of parts.new ≡ placed_first (schema_of schema.entry) (schema_of member.entry) (value_in table.now value.now) (gathered_of parts.old)) }
-    ensures unbound { OnOk result (parts.new.unbound.items ≡ parts.old.unbound.items) }
+    ensures body { OnOk result (parts.new.body ≡ parts.old.body) }
     ensures err { IfErr result (λ e. TellsFault e (λ f. first_fault (schema_of member.entry) (value_in table.now value.now) ≡ Some f)) }
 {
     match value {
         ShapeValue::List(elements) => add_list(alloc, schema, table, member, parts, elements),
-        ShapeValue::Map(_) => unreachable!(),
+        ShapeValue::Map(entries) => add_map(alloc, schema, table, member, parts, entries),
         _ => add_single(alloc, schema, member, parts, value),
     }
-}
-
-// Keeps a write of the body.
-fn add_unbound<'t, 'w>(
-    position: usize,
-    member: SchemaRef<'t>,
-    parts: &mut RequestParts<'t, 'w>,
-    value: &'w ShapeValue,
-) -> Result<(), OutOfMemory>
-    ensures put { OnOk result (gathered_of parts.new ≡ record (gathered_of parts.old) { seen = slice_set (gathered_of parts.old).seen position true }) }
-    ensures unbound { OnOk result ((t : Table) → unbound_writes t parts.new.unbound.items ≡ unbound_writes t parts.old.unbound.items ++ record { label = label_of (schema_of member.entry); value = value_in t value.now } ∷ []) }
-    ensures defined { OnOk result ((t : Table) → AreUnboundDefined t parts.old.unbound.items → IsDefined t value.now → AreUnboundDefined t parts.new.unbound.items) }
-{
-    parts.unbound.push(UnboundWrite { member, value })?;
-    mark(&mut parts.seen, position);
-    Ok(())
 }
 
 // Puts a write of the member at this position.
@@ -224,24 +216,23 @@ fn add_resolved<'t, 'w>(
     parts: &mut RequestParts<'t, 'w>,
     value: &'w ShapeValue,
 ) -> Result<(), SerdeError>
-    requires placeable { IsTrue (is_placeable_member (schema_of member)) }
-    requires kinds { IsTrue (has_bound_kind (schema_of member)) }
+    requires { IsTrue (has_placed_kind (schema_of member)) }
     ensures ok { OnOk result (add_or_fault (schema_of schema.entry) (gathered_of parts.old) (record { position = position; member = schema_of member.entry; value = value_in table.now value.now }) ≡ Ok (gathered_of parts.new)) }
     ensures err { IfErr result (λ e. TellsFault e (λ f. add_or_fault (schema_of schema.entry) (gathered_of parts.old) (record { position = position; member = schema_of member.entry; value = value_in table.now value.now }) ≡ Err f)) }
-    ensures unbound { OnOk result ((t : Table) → unbound_writes t parts.new.unbound.items ≡ unbound_writes t parts.old.unbound.items ++ unbound_of (record { position = position; member = schema_of member.entry; value = value_in t value.now })) }
-    ensures defined { OnOk result ((t : Table) → AreUnboundDefined t parts.old.unbound.items → IsDefined t value.now → AreUnboundDefined t parts.new.unbound.items) }
+    ensures body { OnOk result (kept_in table.now parts.new.body ≡ keep (kept_in table.now parts.old.body) (record { position = position; member = schema_of member.entry; value = value_in table.now value.now })) }
+    ensures defined { OnOk result (IsKeptDefined table.now parts.old.body → IsDefined table.now value.now → IsKeptDefined table.now parts.new.body) }
 {
     if !fits_member(member, value) {
         return Err(wrong_kind(alloc, member, value));
     }
-    if !is_bound(member) {
-        add_unbound(position, member, parts, value)?;
-        return Ok(());
-    }
+    parts.body.keep(member, value)?;
     if is_seen(parts.seen.as_slice(), position) {
         return Ok(());
     }
     mark(&mut parts.seen, position);
+    if !is_placed(member) {
+        return Ok(());
+    }
     add_first(alloc, schema, table, member, parts, value)
 }
 
@@ -255,13 +246,12 @@ fn add_write<'t, 'w>(
     node: SchemaIndex,
     value: &'w ShapeValue,
 ) -> Result<(), SerdeError>
-    requires placeable { IsTrue (is_placeable (schema_of schema)) }
-    requires kinds { IsTrue (list_all has_bound_kind (members_of (schema_of schema))) }
+    requires kinds { IsTrue (list_all has_placed_kind (members_of (schema_of schema))) }
     requires defined { HasNode table.now node.0 }
     ensures ok { OnOk result (gather_one (schema_of schema.entry) (gathered_of parts.old) (record { label = label_at table.now node.0; value = value_in table.now value.now }) ≡ Ok (gathered_of parts.new)) }
     ensures err { IfErr result (λ e. TellsFault e (λ f. gather_one (schema_of schema.entry) (gathered_of parts.old) (record { label = label_at table.now node.0; value = value_in table.now value.now }) ≡ Err f)) }
-    ensures unbound { OnOk result (unbound_writes table.now parts.new.unbound.items ≡ unbound_writes table.now parts.old.unbound.items ++ unbound (schema_of schema.entry) (record { label = label_at table.now node.0; value = value_in table.now value.now } ∷ [])) }
-    ensures defined { OnOk result (AreUnboundDefined table.now parts.old.unbound.items → IsDefined table.now value.now → AreUnboundDefined table.now parts.new.unbound.items) }
+    ensures body { OnOk result (kept_in table.now parts.new.body ≡ keep_all (kept_in table.now parts.old.body) (all_resolved (schema_of schema.entry) (record { label = label_at table.now node.0; value = value_in table.now value.now } ∷ []))) }
+    ensures defined { OnOk result (IsKeptDefined table.now parts.old.body → IsDefined table.now value.now → IsKeptDefined table.now parts.new.body) }
 {
     let Some(written) = table.get(node) else {
         unreachable!()
@@ -275,22 +265,6 @@ fn add_write<'t, 'w>(
     add_resolved(alloc, schema, table, position, member, parts, value)
 }
 
-// The write at a place of the list.
-fn write_at<'w>(
-    table: &Schemas,
-    writes: &'w WriteList,
-    place: usize,
-) -> Option<(SchemaIndex, &'w ShapeValue)>
-    requires { AreDefined table.now writes.now }
-    ensures write { option_map (λ w. record { label = label_at table.now w.0.0; value = value_in table.now w.1.now }) result ≡ slice_get (list_of (writes_in table.now writes.now)) place }
-    ensures node { IfSome result (λ w. HasNode table.now w.0.0) }
-    ensures defined { IfSome result (λ w. IsDefined table.now w.1.now) }
-{
-    let node = writes.node(place)?;
-    let value = writes.value(place)?;
-    Some((node, value))
-}
-
 /// Puts the writes, whose nodes are those of the table, into the request, in which nothing is yet.
 pub fn gather_writes<'t, 'w>(
     alloc: Global,
@@ -299,18 +273,17 @@ pub fn gather_writes<'t, 'w>(
     writes: &'w WriteList,
     parts: &mut RequestParts<'t, 'w>,
 ) -> Result<(), SerdeError>
-    requires placeable { IsTrue (is_placeable (schema_of schema)) }
-    requires kinds { IsTrue (list_all has_bound_kind (members_of (schema_of schema))) }
+    requires kinds { IsTrue (list_all has_placed_kind (members_of (schema_of schema))) }
     requires defined { AreDefined table.now writes.now }
     requires empty { gathered_of parts.old ≡ nothing_yet (schema_of schema) }
-    requires empty_body { parts.old.unbound.items ≡ [] }
+    requires empty_body { IsEmpty parts.old.body }
     ensures ok { OnOk result (gather (schema_of schema.entry) (nothing_yet (schema_of schema.entry)) (list_of (writes_in table.now writes.now)) ≡ Ok (gathered_of parts.new)) }
     ensures err { IfErr result (λ e. TellsFault e (λ f. gather (schema_of schema.entry) (nothing_yet (schema_of schema.entry)) (list_of (writes_in table.now writes.now)) ≡ Err f)) }
-    ensures unbound { OnOk result (unbound_writes table.now parts.new.unbound.items ≡ unbound (schema_of schema.entry) (list_of (writes_in table.now writes.now))) }
-    ensures body_defined { OnOk result (AreUnboundDefined table.now parts.new.unbound.items) }
+    ensures body { OnOk result (kept_in table.now parts.new.body ≡ body_parts (schema_of schema.entry) (list_of (writes_in table.now writes.now))) }
+    ensures body_defined { OnOk result (IsKeptDefined table.now parts.new.body) }
 {
     for place in 0..writes.len() {
-        let Some((node, value)) = write_at(table, writes, place) else {
+        let Some((node, value)) = writes.write(place) else {
             unreachable!()
         };
         add_write(alloc, schema, table, parts, node, value)?;

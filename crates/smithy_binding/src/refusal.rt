@@ -5,13 +5,13 @@ ghost use Rattle.smithy_schema.specs.References.{schema_of};
 ghost use Rattle.smithy_serde.specs.StoredValues.{value_in};
 ghost use Rattle.smithy_serde.specs.Values.{label_of};
 ghost use Rattle.smithy_binding.specs.Faults.{wrong_kind as wrong_kind_fault, wrong_item_kind as wrong_item_fault, wrong_header as wrong_header_fault, header_words as words_of, header_or_prefix as given_name};
-ghost use Rattle.smithy_binding.specs.Refusing.{TellsFault, missing_hole as missing_fault, unknown_label, too_long as too_long_fault, not_legal as not_legal_fault, no_year as no_year_fault};
+ghost use Rattle.smithy_binding.specs.Refusing.{TellsFault, missing_hole as missing_fault, unknown_label, too_long as too_long_fault, not_legal as not_legal_fault, no_year as no_year_fault, unmatched_key as unmatched_fault};
 
 use crate::binding::name_of;
-use crate::kinds::{kind_word, written_word};
 use smithy_ids::ShapeType;
 use smithy_schema::SchemaRef;
-use smithy_serde::{SerdeError, ShapeValue};
+use smithy_serde::{SerdeError, ShapeValue, kind_word};
+use smithy_strings::YEAR_OUT_OF_RANGE;
 use std::alloc::Global;
 
 /// No member is the one that this node names.
@@ -28,7 +28,7 @@ pub fn unknown_member(alloc: Global, written: SchemaRef<'_>) -> SerdeError
 pub fn wrong_kind(alloc: Global, member: SchemaRef<'_>, value: &ShapeValue) -> SerdeError
     ensures { (t : Table) → TellsFault result (λ f. f ≡ wrong_kind_fault (schema_of member.entry) (value_in t value.now)) }
 {
-    let written = written_word(value);
+    let written = value.written_word();
     let name = name_of(member);
     let kind = kind_word(member.shape_type());
     match format!(in alloc; "cannot write {written} to member {name} of type {kind}") {
@@ -37,7 +37,7 @@ pub fn wrong_kind(alloc: Global, member: SchemaRef<'_>, value: &ShapeValue) -> S
     }
 }
 
-/// An element of the member's list is not of the kind of its elements.
+/// An element, key or value of the member is not of the kind of its node.
 pub fn wrong_item(
     alloc: Global,
     member: SchemaRef<'_>,
@@ -46,7 +46,7 @@ pub fn wrong_item(
 ) -> SerdeError
     ensures { (t : Table) → TellsFault result (λ f. f ≡ wrong_item_fault (schema_of member.entry) kind (value_in t value.now)) }
 {
-    let written = written_word(value);
+    let written = value.written_word();
     let name = name_of(member);
     let word = kind_word(kind);
     match format!(in alloc;
@@ -57,11 +57,22 @@ pub fn wrong_item(
     }
 }
 
+/// The member's map ends with a key.
+pub fn unmatched_key(alloc: Global, member: SchemaRef<'_>) -> SerdeError
+    ensures { TellsFault result (λ f. f ≡ unmatched_fault (schema_of member.entry)) }
+{
+    let name = name_of(member);
+    match format!(in alloc; "map member {name} ends with a key without a value") {
+        Ok(text) => SerdeError::unsupported(alloc, text.as_str()),
+        Err(_) => SerdeError::OutOfMemory,
+    }
+}
+
 /// The value has no text: a time whose year is not in the calendar of its format.
 pub fn no_year(alloc: Global) -> SerdeError
     ensures { TellsFault result (λ f. f ≡ no_year_fault) }
 {
-    SerdeError::custom(alloc, "failed to format timestamp: year outside 1 to 9999")
+    SerdeError::custom(alloc, YEAR_OUT_OF_RANGE)
 }
 
 // What stands before the name or the prefix of the member's trait.

@@ -3,9 +3,9 @@ ghost use Rattle.smithy_schema.specs.References.{schema_of};
 ghost use Rattle.smithy_serde.specs.Told.{one_write};
 ghost use Rattle.smithy_serde.specs.Values.{label_of, text};
 
-use crate::testing::{KEEP, assert_placeable, inserted, spaced};
+use crate::testing::{KEEP, assert_checked, inserted, shape, spaced};
 use smithy_http::Request;
-use smithy_ids::{HttpTrait, ShapeId, ShapeType};
+use smithy_ids::{HttpTrait, ShapeType};
 use smithy_schema::{Schema, SchemaIndex, SchemaRef, Schemas};
 use smithy_serde::{Codec, OmitFlags, SerdeError, SerializableStruct, ShapeSerializer};
 use smithy_types::Text;
@@ -40,10 +40,6 @@ impl SerializableStruct for Named<'_> {
     }
 }
 
-fn shape() -> ShapeId<'static> {
-    ShapeId::from_parts("ex#In", "ex", "In")
-}
-
 // The request of this text for the only member of a structure.
 fn asked(
     rt: &impl Abort,
@@ -55,7 +51,7 @@ fn asked(
 ) -> Result<Request, SerdeError> {
     let node = table.get(place).expect(rt, "no node");
     let member = node.member_schema_by_index(0).expect(rt, "no member");
-    assert_placeable(rt, alloc, node);
+    assert_checked(rt, alloc, node);
     let name = Text::from_str(alloc, "a").expect(rt, "no memory");
     let input = Named { node, member, name };
     let protocol = spaced();

@@ -1,16 +1,24 @@
-use Rattle.std.proofs.Common.{ap, sym, ◌∙◌}
+use Rattle.std.proofs.Common.{ap, ◌∙◌, ◌&&◌}
+use Rattle.smithy_schema.specs.Nodes.{members_of}
 use Rattle.smithy_schema.specs.References.{schema_of}
-use Rattle.smithy_binding.specs.Checking.{shown}
-use Rattle.smithy_binding.proofs.CheckingLemmas.{order-structure, order-defined}
+use Rattle.smithy_binding.specs.Checked.{has_sound_names, has_sound_http, checked_input}
+use Rattle.smithy_binding.specs.Checking.{shown, are_sound, has_named_members}
+use Rattle.smithy_binding.proofs.JointTests.{first_decides, others_decide}
+use Rattle.smithy_binding.proofs.CheckingLemmas.{checked_in_order-is}
 use Rattle.smithy_binding.proofs.check.checked_input.Goals as goal
 
-pub returns-then-not-is_structure : goal.returns-then-not-is_structure
-returns-then-not-is_structure c = order-structure (schema_of c.args.schema) (sym c.is_structure.ensures ∙ c.if-not-is_structure.true)
-
 pub are_checked-requires : goal.are_checked-requires
-are_checked-requires c =
-    let known = rw c.in-Some.is at c.in_ok-members.ensures in
-    record { structure = sym c.is_structure.ensures ∙ c.if-not-is_structure.false; defined = known.0; members = ap shown c.as_slice.ensures.value ∙ known.1 }
+are_checked-requires c = let known = rw c.in-Some.is at c.in_ok-members.ensures in ap shown c.as_slice.ensures.value ∙ known.1
 
 pub returns-in-None : goal.returns-in-None
-returns-in-None c = order-defined (schema_of c.args.schema) (sym c.is_structure.ensures ∙ c.if-not-is_structure.false) (rw c.in-None.is at c.in_ok-members.ensures)
+returns-in-None c =
+    let schema = schema_of c.args.schema in
+    first_decides (has_named_members schema) (are_sound schema (members_of schema) && has_sound_names schema && has_sound_http schema) (checked_input schema)
+    (rw c.in-None.is at c.in_ok-members.ensures) (checked_in_order-is schema)
+
+pub returns-in_ok-are_checked-in-Some : goal.returns-in_ok-are_checked-in-Some
+returns-in_ok-are_checked-in-Some c =
+    let schema = schema_of c.args.schema in
+    let known = rw c.in-Some.is at c.in_ok-members.ensures in
+    c.in_ok-are_checked-in-Some.ensures
+    ∙ others_decide (has_named_members schema) (are_sound schema (members_of schema) && has_sound_names schema && has_sound_http schema) (checked_input schema) known.0 (checked_in_order-is schema)

@@ -3,10 +3,11 @@ use Rattle.std.specs.List.{starts_with}
 use Rattle.smithy_types.specs.Grammars.{is_token}
 use Rattle.smithy_schema.specs.Nodes.{members_of}
 use Rattle.smithy_schema.specs.References.{schema_of}
-use Rattle.smithy_binding.specs.declared.check.Counted.TheVariants as counted
+use Rattle.smithy_binding.specs.declared.members.Counted.TheVariants as counted
 use Rattle.smithy_binding.specs.declared.name_check.NameKind.TheVariants as names
 use Rattle.smithy_binding.specs.Checking.{texts_shown, names_under, count_of, is_clear_for}
-use Rattle.smithy_binding.proofs.CheckingLemmas.{sound-http, second_fails, third_decides}
+use Rattle.smithy_binding.proofs.CheckingLemmas.{sound-http}
+use Rattle.smithy_binding.proofs.JointTests.{second_fails, third_decides}
 use Rattle.smithy_binding.proofs.check.is_sound_http.Goals as goal
 
 pub returns-then-not-is_clear : goal.returns-then-not-is_clear

@@ -29,7 +29,7 @@ loop-place-preserved c =
     let found : element_text at.Query w ≡ Some text = c.in_ok-text.ensures.ok ∙ ap Some (sym c.as_str.ensures) in
     record {
       texts = so_far.texts ++ text ∷ [];
-      are = AreTexts-more (element_text at.Query) ws c.loop-place.place so_far.texts w text (sym c.in-Some.ensures) found so_far.are;
+      are = AreTexts-more (element_text at.Query) ws c.loop-place.place so_far.texts w text (sym (c.in-Some.ensures.write t)) found so_far.are;
       count = length-append so_far.texts (text ∷ []) ∙ ap (λ n. n + 1) so_far.count;
       written = queries-push (string_bytes c.args.query.now) (string_bytes c.loop-place.query) (string_bytes c.push_pair.new.query) c.args.name.now text so_far.texts so_far.written c.in_ok-push_pair.ensures;
     }
@@ -42,7 +42,7 @@ returns-in_err-text-clause-err c =
     let so_far = c.loop-place.invariant in
     let told : IfErr c.from_residual.result (λ e. TellsFault e (λ f. (f ≡ no_year) × (element_text at.Query w ≡ None))) = search rules in
     IfErr-then c.from_residual.result _ _
-    (λ f e. (e.0, AreTexts-stop (element_text at.Query) ws c.loop-place.place so_far.texts w (sym c.in-Some.ensures) e.1 so_far.are)) told
+    (λ f e. (e.0, AreTexts-stop (element_text at.Query) ws c.loop-place.place so_far.texts w (sym (c.in-Some.ensures.write t)) e.1 so_far.are)) told
 
 pub returns-clause-ok : goal.returns-clause-ok
 returns-clause-ok c =

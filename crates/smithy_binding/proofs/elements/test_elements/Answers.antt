@@ -15,15 +15,15 @@ loop-place-preserved c =
     let t = c.args.table.now in
     let ws = list_of (writes_in t c.args.elements.now) in
     let w : Write = record { label = label_at t c.in-Some._node.0; value = value_in t c.in-Some.value.now } in
-    sym (fault-more (schema_of c.args.member) c.args.kind ws c.loop-place.place w (sym c.in-Some.ensures) (sym (c.fits_kind.ensures t) ∙ c.if-not-fits_kind.false)) ∙ c.loop-place.invariant
+    sym (fault-more (schema_of c.args.member) c.args.kind ws c.loop-place.place w (sym (c.in-Some.ensures.write t)) (sym (c.fits.ensures t) ∙ c.if-not-fits.false)) ∙ c.loop-place.invariant
 
-pub returns-then-not-fits_kind-clause-err : goal.returns-then-not-fits_kind-clause-err
-returns-then-not-fits_kind-clause-err c =
+pub returns-then-not-fits-clause-err : goal.returns-then-not-fits-clause-err
+returns-then-not-fits-clause-err c =
     let t = c.args.table.now in
     let ws = list_of (writes_in t c.args.elements.now) in
     let w : Write = record { label = label_at t c.in-Some._node.0; value = value_in t c.in-Some.value.now } in
     TellsFault-then c.wrong_item.result _ _
-    (λ f e. sym c.loop-place.invariant ∙ fault-stop (schema_of c.args.member) c.args.kind ws c.loop-place.place w (sym c.in-Some.ensures) (sym (c.fits_kind.ensures t) ∙ c.if-not-fits_kind.true) ∙ ap Some (sym e))
+    (λ f e. sym c.loop-place.invariant ∙ fault-stop (schema_of c.args.member) c.args.kind ws c.loop-place.place w (sym (c.in-Some.ensures.write t)) (sym (c.fits.ensures t) ∙ c.if-not-fits.true) ∙ ap Some (sym e))
     (c.wrong_item.ensures t)
 
 pub returns-clause-ok : goal.returns-clause-ok

@@ -1,27 +1,26 @@
 use Rattle.std.proofs.Common.{rules, ◌≡◌, ap, sym, ◌∙◌, refl, Some, None, Ok, Err, IfErr, ℕ, List, length, map, string_bytes}
-use Rattle.std.proofs.lemmas.List.Sums.{list_all-from_AllPass}
-use Rattle.smithy_schema.specs.Nodes.{members_of}
 use Rattle.smithy_schema.specs.References.{schema_of}
 use Rattle.smithy_serde.specs.Recording.{recorded_writes}
 use Rattle.smithy_serde.specs.StoredValues.{writes_in}
-use Rattle.smithy_serde.specs.Values.{list_of, writes_of}
-use Rattle.smithy_serde.specs.Writes.{unbound}
-use Rattle.smithy_binding.specs.Bodies.{Body, unbound_origin, body}
+use Rattle.smithy_serde.specs.Values.{list_of}
+use Rattle.smithy_binding.specs.Bodies.{Body, body}
+use Rattle.smithy_binding.specs.BodyForms.{origin_by, fault_by}
 use Rattle.smithy_binding.specs.DefaultHeaders.{omit_of, with_defaults}
 use Rattle.smithy_binding.specs.Faults.{hole_fault, legal_fault, body_fault}
 use Rattle.smithy_binding.specs.Gather.{gather, nothing_yet}
-use Rattle.smithy_binding.specs.Placing.{Protocol, all_headers}
+use Rattle.smithy_binding.specs.KeptWrites.{body_parts, kept_in}
+use Rattle.smithy_binding.specs.Placing.{Protocol, all_headers, is_codec}
 use Rattle.smithy_binding.specs.Refusing.{TellsFault}
 use Rattle.smithy_binding.specs.Seen.{label_pair, gathered_of}
 use Rattle.smithy_binding.specs.TargetParts.{target_with}
-use Rattle.smithy_binding.specs.UnboundBody.{unbound_fault}
-use Rattle.smithy_binding.specs.UnboundWrites.{unbound_writes}
-use Rattle.smithy_binding.specs.Checked.{has_bound_kind}
-use Rattle.smithy_binding.proofs.CheckedLaws.{IsCheckedInput-from_test}
 use Rattle.smithy_binding.proofs.CheckedMethods.{is_token-method_of}
-use Rattle.smithy_binding.proofs.Ends.{target_by, fault-walk, fault-body, fault-hole, fault-legal, place-is, fault-by, body-by, defaults-unbound, same_request}
+use Rattle.smithy_binding.proofs.Ends.{target_by, fault-walk, fault-body, fault-hole, fault-legal, place-is, fault-by, body-by, same_request}
+use Rattle.smithy_binding.proofs.PlacedKinds.{placed-kinds}
 use Rattle.smithy_binding.proofs.Refusals.{IfErr-then, IfOk-then}
 use Rattle.smithy_binding.proofs.place.place_recorded.Goals as goal
+
+pub gather_writes-requires-clause-kinds : goal.gather_writes-requires-clause-kinds
+gather_writes-requires-clause-kinds g c = placed-kinds (schema_of c.args.schema) c.requires.checked
 
 pub returns-in_err-gather_writes-clause-err : goal.returns-in_err-gather_writes-clause-err
 returns-in_err-gather_writes-clause-err g c =
@@ -38,11 +37,11 @@ returns-in_err-body-clause-err g c =
     let list : writes_in c.table-table.result.now c.writes.result.now ≡ recorded_writes c.args.recorded.now = rw c.table-table.ensures c.writes.ensures.writes in
     let s = gathered_of c.gather_writes.new.parts in
     let walk : gather schema (nothing_yet schema) ws ≡ Ok s = (rw list at c.in_ok-gather_writes.ensures.ok) in
-    let us = writes_of (unbound_writes c.table-table.result.now c.as_slice.result.now) in
-    let same : us ≡ writes_of (unbound schema ws) = ap writes_of (rw (c.as_slice.ensures.value, ← list) c.in_ok-gather_writes.ensures.unbound) in
-    let told : IfErr c.from_residual-in_err-body.result (λ e. TellsFault e (λ f. unbound_fault c.has_unbound_members-has_body.result us ≡ Some f)) = search rules in
+    let parts = kept_in c.table-table.result.now c.gather_writes.new.parts.body in
+    let same : parts ≡ body_parts schema ws = (rw list at c.in_ok-gather_writes.ensures.body) in
+    let told : IfErr c.from_residual-in_err-body.result (λ e. TellsFault e (λ f. fault_by c.body_form-form.result parts ≡ Some f)) = search rules in
     IfErr-then c.from_residual-in_err-body.result _ _
-    (λ f e. fault-body schema ws c.args.endpoint.now s f walk (fault-by schema ws c.has_unbound_members-has_body.result us c.requires.placeable c.has_unbound_members-has_body.ensures same ∙ e)) told
+    (λ f e. fault-body schema ws c.args.endpoint.now s f walk (fault-by schema ws c.body_form-form.result parts c.body_form-form.ensures same ∙ e)) told
 
 pub returns-in_err-target-clause-err : goal.returns-in_err-target-clause-err
 returns-in_err-target-clause-err g c =
@@ -51,12 +50,12 @@ returns-in_err-target-clause-err g c =
     let list : writes_in c.table-table.result.now c.writes.result.now ≡ recorded_writes c.args.recorded.now = rw c.table-table.ensures c.writes.ensures.writes in
     let s = gathered_of c.gather_writes.new.parts in
     let walk : gather schema (nothing_yet schema) ws ≡ Ok s = (rw list at c.in_ok-gather_writes.ensures.ok) in
-    let us = writes_of (unbound_writes c.table-table.result.now c.as_slice.result.now) in
-    let same : us ≡ writes_of (unbound schema ws) = ap writes_of (rw (c.as_slice.ensures.value, ← list) c.in_ok-gather_writes.ensures.unbound) in
-    let none : body_fault schema ws ≡ None = fault-by schema ws c.has_unbound_members-has_body.result us c.requires.placeable c.has_unbound_members-has_body.ensures same ∙ c.in_ok-body.ensures.ok in
-    let told : IfErr c.from_residual-in_err-target.result (λ e. TellsFault e (λ f. hole_fault (target_with c.template_of-template.result.now (map label_pair c.as_slice-2.result.now) c.as_str.result.now) ≡ Some f)) = search rules in
+    let parts = kept_in c.table-table.result.now c.gather_writes.new.parts.body in
+    let same : parts ≡ body_parts schema ws = (rw list at c.in_ok-gather_writes.ensures.body) in
+    let none : body_fault schema ws ≡ None = fault-by schema ws c.body_form-form.result parts c.body_form-form.ensures same ∙ c.in_ok-body.ensures.ok in
+    let told : IfErr c.from_residual-in_err-target.result (λ e. TellsFault e (λ f. hole_fault (target_with c.template_of-template.result.now (map label_pair c.as_slice.result.now) c.as_str.result.now) ≡ Some f)) = search rules in
     IfErr-then c.from_residual-in_err-target.result _ _
-    (λ f e. fault-hole schema ws c.args.endpoint.now s f walk none (rw (c.template_of-template.ensures, c.as_slice-2.ensures.value, c.as_str.ensures.value) at e)) told
+    (λ f e. fault-hole schema ws c.args.endpoint.now s f walk none (rw (c.template_of-template.ensures, c.as_slice.ensures.value, c.as_str.ensures.value) at e)) told
 
 pub request_with-requires : goal.request_with-requires
 request_with-requires g c = rw c.method_of.ensures (is_token-method_of (schema_of c.args.schema) c.requires.checked)
@@ -68,10 +67,10 @@ returns-clause-ok g c =
     let list : writes_in c.table-table.result.now c.writes.result.now ≡ recorded_writes c.args.recorded.now = rw c.table-table.ensures c.writes.ensures.writes in
     let s = gathered_of c.gather_writes.new.parts in
     let walk : gather schema (nothing_yet schema) ws ≡ Ok s = (rw list at c.in_ok-gather_writes.ensures.ok) in
-    let us = writes_of (unbound_writes c.table-table.result.now c.as_slice.result.now) in
-    let same : us ≡ writes_of (unbound schema ws) = ap writes_of (rw (c.as_slice.ensures.value, ← list) c.in_ok-gather_writes.ensures.unbound) in
-    let none : body_fault schema ws ≡ None = fault-by schema ws c.has_unbound_members-has_body.result us c.requires.placeable c.has_unbound_members-has_body.ensures same ∙ c.in_ok-body.ensures.ok in
-    let target : target_by schema c.args.endpoint.now s ≡ Ok (string_bytes c.in_ok-target.target) = (rw (c.template_of-template.ensures, c.as_slice-2.ensures.value, c.as_str.ensures.value) at c.in_ok-target.ensures.ok) in
+    let parts = kept_in c.table-table.result.now c.gather_writes.new.parts.body in
+    let same : parts ≡ body_parts schema ws = (rw list at c.in_ok-gather_writes.ensures.body) in
+    let none : body_fault schema ws ≡ None = fault-by schema ws c.body_form-form.result parts c.body_form-form.ensures same ∙ c.in_ok-body.ensures.ok in
+    let target : target_by schema c.args.endpoint.now s ≡ Ok (string_bytes c.in_ok-target.target) = (rw (c.template_of-template.ensures, c.as_slice.ensures.value, c.as_str.ensures.value) at c.in_ok-target.ensures.ok) in
     IfOk-then c.request_with.result _ _
     (λ r e. fault-legal schema ws c.args.endpoint.now s (string_bytes c.in_ok-target.target) walk none target ∙ ap legal_fault (sym c.as_str-2.ensures.value) ∙ e) c.request_with.ensures.ok
 
@@ -82,10 +81,10 @@ returns-clause-err g c =
     let list : writes_in c.table-table.result.now c.writes.result.now ≡ recorded_writes c.args.recorded.now = rw c.table-table.ensures c.writes.ensures.writes in
     let s = gathered_of c.gather_writes.new.parts in
     let walk : gather schema (nothing_yet schema) ws ≡ Ok s = (rw list at c.in_ok-gather_writes.ensures.ok) in
-    let us = writes_of (unbound_writes c.table-table.result.now c.as_slice.result.now) in
-    let same : us ≡ writes_of (unbound schema ws) = ap writes_of (rw (c.as_slice.ensures.value, ← list) c.in_ok-gather_writes.ensures.unbound) in
-    let none : body_fault schema ws ≡ None = fault-by schema ws c.has_unbound_members-has_body.result us c.requires.placeable c.has_unbound_members-has_body.ensures same ∙ c.in_ok-body.ensures.ok in
-    let target : target_by schema c.args.endpoint.now s ≡ Ok (string_bytes c.in_ok-target.target) = (rw (c.template_of-template.ensures, c.as_slice-2.ensures.value, c.as_str.ensures.value) at c.in_ok-target.ensures.ok) in
+    let parts = kept_in c.table-table.result.now c.gather_writes.new.parts.body in
+    let same : parts ≡ body_parts schema ws = (rw list at c.in_ok-gather_writes.ensures.body) in
+    let none : body_fault schema ws ≡ None = fault-by schema ws c.body_form-form.result parts c.body_form-form.ensures same ∙ c.in_ok-body.ensures.ok in
+    let target : target_by schema c.args.endpoint.now s ≡ Ok (string_bytes c.in_ok-target.target) = (rw (c.template_of-template.ensures, c.as_slice.ensures.value, c.as_str.ensures.value) at c.in_ok-target.ensures.ok) in
     IfErr-then c.request_with.result _ _
     (λ f e. fault-legal schema ws c.args.endpoint.now s (string_bytes c.in_ok-target.target) walk none target ∙ ap legal_fault (sym c.as_str-2.ensures.value) ∙ e) c.request_with.ensures.err
 
@@ -96,21 +95,18 @@ returns-clause-placed g c =
     let list : writes_in c.table-table.result.now c.writes.result.now ≡ recorded_writes c.args.recorded.now = rw c.table-table.ensures c.writes.ensures.writes in
     let s = gathered_of c.gather_writes.new.parts in
     let walk : gather schema (nothing_yet schema) ws ≡ Ok s = (rw list at c.in_ok-gather_writes.ensures.ok) in
-    let us = writes_of (unbound_writes c.table-table.result.now c.as_slice.result.now) in
-    let same : us ≡ writes_of (unbound schema ws) = ap writes_of (rw (c.as_slice.ensures.value, ← list) c.in_ok-gather_writes.ensures.unbound) in
-    let target : target_by schema c.args.endpoint.now s ≡ Ok (string_bytes c.in_ok-target.target) = (rw (c.template_of-template.ensures, c.as_slice-2.ensures.value, c.as_str.ensures.value) at c.in_ok-target.ensures.ok) in
-    let has = c.has_unbound_members-has_body.result in
+    let parts = kept_in c.table-table.result.now c.gather_writes.new.parts.body in
+    let same : parts ≡ body_parts schema ws = (rw list at c.in_ok-gather_writes.ensures.body) in
+    let target : target_by schema c.args.endpoint.now s ≡ Ok (string_bytes c.in_ok-target.target) = (rw (c.template_of-template.ensures, c.as_slice.ensures.value, c.as_str.ensures.value) at c.in_ok-target.ensures.ok) in
+    let form = c.body_form-form.result in
     let protocol : Protocol = record { content_type = c.args.content_type.now; text_of = g.S.ShapeSerializer.text c.args.serializer } in
-    let b : Body = record { bytes = c.in_ok-body.body; origin = unbound_origin has } in
+    let b : Body = record { bytes = c.in_ok-body.body; origin = origin_by form } in
     let omit = omit_of c.args.omit in
-    let body : body protocol.text_of schema ws ≡ b = body-by schema ws protocol.text_of has us c.requires.placeable c.has_unbound_members-has_body.ensures same c.in_ok-body.body c.in_ok-body.ensures.bytes in
+    let body : body protocol.text_of schema ws ≡ b = body-by schema ws protocol.text_of form parts c.body_form-form.ensures same c.in_ok-body.body c.in_ok-body.ensures.bytes in
     let headers : c.add_defaults.new.headers ≡ all_headers protocol b omit s.headers =
-    c.in_ok-add_defaults.ensures ∙ ap (λ (bytes : List ℕ). with_defaults c.args.content_type.now has (length bytes) omit s.headers) c.as_slice-length.ensures
-    ∙ sym (defaults-unbound protocol has c.in_ok-body.body omit s.headers) in
+    c.in_ok-add_defaults.ensures ∙ ap (λ is_codec. with_defaults c.args.content_type.now is_codec (length c.as_slice-length.result.now) omit s.headers) c.is_codec.ensures
+    ∙ ap (λ (bytes : List ℕ). with_defaults c.args.content_type.now (is_codec (origin_by form)) (length bytes) omit s.headers) c.as_slice-length.ensures in
     IfOk-then c.request_with.result _ _
     (λ r e. place-is protocol schema ws c.args.endpoint.now omit s (string_bytes c.in_ok-target.target) b walk body target
     ∙ ap Some (sym (e ∙ same_request c.method_of.result.now _ c.as_str-2.result.now _ c.add_defaults.new.headers _ c.in_ok-body.body _ c.method_of.ensures c.as_str-2.ensures.value headers refl)))
     c.request_with.ensures.request
-
-pub gather_writes-requires-clause-kinds : goal.gather_writes-requires-clause-kinds
-gather_writes-requires-clause-kinds g c = list_all-from_AllPass has_bound_kind (members_of (schema_of c.args.schema)) (IsCheckedInput-from_test (schema_of c.args.schema) c.requires.checked).kinds

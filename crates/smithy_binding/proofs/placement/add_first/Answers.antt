@@ -1,9 +1,37 @@
-use Rattle.std.proofs.Common.{◌≡◌, Some}
+use Rattle.std.proofs.Common.{rules, ◌≡◌, ap, sym, ◌∙◌, true, Some}
 use Rattle.smithy_schema.specs.References.{schema_of}
-use Rattle.smithy_serde.specs.StoredValues.{value_in}
-use Rattle.smithy_binding.specs.Placed.{first_fault}
+use Rattle.smithy_serde.specs.Fits.{fits_member}
+use Rattle.smithy_serde.specs.StoredValues.{value_in, writes_in}
+use Rattle.smithy_serde.specs.Values.{list, map}
+use Rattle.smithy_serde.specs.declared.value.ShapeValue.{ShapeValue}
+use Rattle.smithy_binding.specs.Placed.{first_fault, IsSingle}
+use Rattle.smithy_binding.proofs.FirstKinds.{list-fits, map-fits, map-texts, single-fits}
 use Rattle.smithy_binding.proofs.Refusals.{IfErr-at, OnOk-then}
 use Rattle.smithy_binding.proofs.placement.add_first.Goals as goal
+
+pub add_list-requires : goal.add_list-requires
+unfolding value_in
+add_list-requires c =
+    let m = schema_of c.args.member in
+    let ws = writes_in c.args.table.now c.in-List.elements in
+    let fit : fits_member m (list ws) ≡ true = sym (ap (λ (v : ShapeValue). fits_member m (value_in c.args.table.now v)) c.in-List.is) ∙ c.requires.fits in
+    record { placed = list-fits m ws c.requires.placed c.requires.kinds fit }
+
+pub add_map-requires : goal.add_map-requires
+unfolding value_in
+add_map-requires c =
+    let m = schema_of c.args.member in
+    let ws = writes_in c.args.table.now c.in-Map.entries in
+    let fit : fits_member m (map ws) ≡ true = sym (ap (λ (v : ShapeValue). fits_member m (value_in c.args.table.now v)) c.in-Map.is) ∙ c.requires.fits in
+    let placed = map-fits m ws c.requires.placed c.requires.kinds fit in
+    record { placed = placed; texts = map-texts m c.requires.kinds placed }
+
+pub add_single-requires-clause-placed : goal.add_single-requires-clause-placed
+unfolding value_in
+add_single-requires-clause-placed c =
+    let v = value_in c.args.table.now c.args.value.now in
+    let single : IsSingle v = search rules in
+    single-fits (schema_of c.args.member) v single c.requires.placed c.requires.kinds c.requires.fits
 
 pub returns-in_default : goal.returns-in_default
 returns-in_default c =
@@ -11,6 +39,6 @@ returns-in_default c =
     record {
       ok = OnOk-then c.add_single.result _ _ (λ told. told t) c.add_single.ensures.ok;
       put = OnOk-then c.add_single.result _ _ (λ told. told t) c.add_single.ensures.put;
-      unbound = c.add_single.ensures.unbound;
+      body = c.add_single.ensures.body;
       err = IfErr-at c.add_single.result (λ t f. first_fault (schema_of c.args.member) (value_in t c.args.value.now) ≡ Some f) t c.add_single.ensures.err;
     }

@@ -1,10 +1,10 @@
-use Rattle.std.proofs.Common.{◌≡◌, ◌++◌, drop}
+use Rattle.std.proofs.Common.{◌≡◌, drop}
 use Rattle.smithy_schema.specs.References.{schema_of}
 use Rattle.smithy_serde.specs.StoredValues.{writes_in}
 use Rattle.smithy_serde.specs.Values.{list_of}
+use Rattle.smithy_serde.specs.Writes.{all_resolved}
 use Rattle.smithy_binding.specs.Gather.{gather, nothing_yet}
-use Rattle.smithy_serde.specs.Writes.{unbound}
-use Rattle.smithy_binding.specs.UnboundWrites.{unbound_writes, AreUnboundDefined}
+use Rattle.smithy_binding.specs.KeptWrites.{no_parts, keep_all, kept_in, IsKeptDefined}
 use Rattle.smithy_binding.specs.Seen.{gathered_of}
 use Rattle.smithy_binding.proofs.placement.gather_writes.Given as goal
 
@@ -14,6 +14,6 @@ invariant-loop-place l =
     let ws = list_of (writes_in l.table l.writes) in
     record {
       walk : gather schema (gathered_of l.parts) (drop l.place ws) ≡ gather schema (nothing_yet schema) ws;
-      unbound : unbound_writes l.table l.parts.unbound.items ++ unbound schema (drop l.place ws) ≡ unbound schema ws;
-      defined : AreUnboundDefined l.table l.parts.unbound.items;
+      body : keep_all (kept_in l.table l.parts.body) (all_resolved schema (drop l.place ws)) ≡ keep_all no_parts (all_resolved schema ws);
+      defined : IsKeptDefined l.table l.parts.body;
     }

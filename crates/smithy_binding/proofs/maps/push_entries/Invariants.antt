@@ -1,0 +1,15 @@
+use Rattle.std.proofs.Common.{◌≡◌, ◌++◌, string_bytes}
+use Rattle.smithy_schema.specs.Nodes.{Schema, to_query_map}
+use Rattle.smithy_schema.specs.References.{schema_of}
+use Rattle.smithy_serde.specs.StoredValues.{writes_in}
+use Rattle.smithy_serde.specs.Values.{map}
+use Rattle.smithy_binding.specs.Bindings.{pairs_at, query_names}
+use Rattle.smithy_binding.specs.Entries.{has_key}
+use Rattle.smithy_binding.specs.TargetParts.{queries}
+use Rattle.smithy_binding.proofs.MapEntries.{kept_from}
+use Rattle.smithy_binding.proofs.maps.push_entries.Given as goal
+
+abbrev pub invariant-loop-place : goal.invariant-loop-place
+invariant-loop-place l =
+    let ws = writes_in l.table l.entries in
+    (m : Schema) → string_bytes l.query ++ queries (kept_from (has_key l.names) ws l.place) ≡ string_bytes l.initial.query ++ queries (pairs_at to_query_map (query_names (schema_of l.schema)) m (map ws))

@@ -1,0 +1,11 @@
+use Rattle.std.proofs.Common.{◌≡◌, ◌||◌, ℕ, List}
+use Rattle.smithy_types.specs.Texts.{is_one_of}
+use Rattle.smithy_schema.specs.References.{schema_of}
+use Rattle.smithy_binding.specs.Bindings.{query_names}
+use Rattle.smithy_binding.specs.Entries.{has_key}
+use Rattle.smithy_binding.proofs.MapEntries.{names_from}
+use Rattle.smithy_binding.proofs.maps.query_names.Given as goal
+
+abbrev pub invariant-loop-position : goal.invariant-loop-position
+invariant-loop-position l =
+    (name : List ℕ) → (has_key l.names name || is_one_of name (names_from (schema_of l.schema) l.position)) ≡ is_one_of name (query_names (schema_of l.schema))

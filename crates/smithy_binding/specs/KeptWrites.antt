@@ -1,0 +1,67 @@
+-- What is kept of the writes for the body.
+use Rattle.std.specs.Prelude.{◌≡◌, List, [], ◌∷◌, ◌++◌, map, Option, None, Some, option_map, IfSome}
+use Rattle.std.specs.Option.{option_or}
+use Rattle.smithy_schema.specs.Nodes.{Schema, Table, Binding, to_body, to_payload, binding_of}
+use Rattle.smithy_schema.specs.References.{schema_of}
+use Rattle.smithy_serde.specs.StoredValues.{value_in, IsDefined}
+use Rattle.smithy_serde.specs.Values.{Value, Write, label_of}
+use Rattle.smithy_serde.specs.Writes.{Resolved, unbound}
+use Rattle.smithy_binding.specs.Bodies.{payload_value}
+use Rattle.smithy_binding.specs.declared.body_writes.BodyWrite.{BodyWrite}
+use Rattle.smithy_binding.specs.declared.body_writes.BodyWrites.{BodyWrites}
+
+-- the writes of unbound members in order, and the value of the payload's first write
+pub record BodyParts : Type 0 where
+  pub unbound : List Write
+  pub payload : Option Value
+
+abbrev pub no_parts : BodyParts
+no_parts = record { unbound = []; payload = None }
+
+-- those of a schema's writes
+abbrev pub body_parts : Schema → List Write → BodyParts
+body_parts schema ws = record { unbound = unbound schema ws; payload = payload_value schema ws }
+
+-- with one more write, of a member with this binding
+abbrev pub kept_at : Binding → Schema → Value → BodyParts → BodyParts
+kept_at to_body m v parts = record parts { unbound = parts.unbound ++ record { label = label_of m; value = v } ∷ [] }
+kept_at to_payload m v parts = record parts { payload = option_or parts.payload (Some v) }
+kept_at _ m v parts = parts
+
+abbrev pub keep : BodyParts → Resolved → BodyParts
+keep parts r = kept_at (binding_of r.member) r.member r.value parts
+
+-- with more writes
+abbrev pub keep_all : BodyParts → List Resolved → BodyParts
+keep_all parts [] = parts
+keep_all parts (r ∷ rs) = keep_all (keep parts r) rs
+
+-- the value of a write over the nodes of a table
+abbrev pub value_of : Table → BodyWrite → Value
+value_of t w = value_in t w.value.now
+
+-- the write by the node of its member
+abbrev pub write_in : Table → BodyWrite → Write
+write_in t w = record { label = label_of (schema_of w.member); value = value_of t w }
+
+abbrev pub unbound_in : Table → List BodyWrite → List Write
+unbound_in t ws = map (write_in t) ws
+
+-- what the code keeps
+abbrev pub kept_in : Table → BodyWrites → BodyParts
+kept_in t b = record { unbound = unbound_in t b.unbound.items; payload = option_map (value_of t) b.payload }
+
+-- nothing is kept
+pub record IsEmpty (b : BodyWrites) : Type 0 where
+  pub unbound : b.unbound.items ≡ []
+  pub payload : b.payload ≡ None
+
+-- each node in the values of the writes is one of the table
+abbrev pub AreDefinedWrites : Table → List BodyWrite → Type 0
+AreDefinedWrites t [] = Unit {0}
+AreDefinedWrites t (w ∷ ws) = IsDefined t w.value.now × AreDefinedWrites t ws
+
+-- so it is in all that is kept
+pub record IsKeptDefined (t : Table) (b : BodyWrites) : Type 0 where
+  pub unbound : AreDefinedWrites t b.unbound.items
+  pub payload : IfSome b.payload (λ w. IsDefined t w.value.now)

@@ -1,0 +1,58 @@
+// The writes that a body is made of (Smithy, HTTP protocol bindings).
+ghost use Rattle.std.specs.Prelude.{◌≡◌, OnOk};
+ghost use Rattle.smithy_schema.specs.Nodes.{Table, binding_of as binding};
+ghost use Rattle.smithy_schema.specs.References.{schema_of};
+ghost use Rattle.smithy_serde.specs.StoredValues.{value_in, IsDefined};
+ghost use Rattle.smithy_binding.specs.KeptWrites.{kept_at, kept_in, IsEmpty, IsKeptDefined};
+
+use crate::binding::{Binding, binding_of};
+use smithy_schema::SchemaRef;
+use smithy_serde::ShapeValue;
+use smithy_types::OutOfMemory;
+use std::alloc::Global;
+
+/// A write with its member.
+#[derive(Clone, Copy, Drop)]
+pub struct BodyWrite<'t, 'w> {
+    pub member: SchemaRef<'t>,
+    pub value: &'w ShapeValue,
+}
+
+/// The writes that a body is made of.
+#[derive(Drop)]
+pub struct BodyWrites<'t, 'w> {
+    /// Those of unbound members, in order.
+    pub unbound: Vec<BodyWrite<'t, 'w>>,
+    /// The first of the payload.
+    pub payload: Option<BodyWrite<'t, 'w>>,
+}
+
+impl<'t, 'w> BodyWrites<'t, 'w> {
+    /// None yet. Takes no memory.
+    pub fn new(alloc: Global) -> BodyWrites<'t, 'w>
+        ensures { IsEmpty result }
+    {
+        BodyWrites {
+            unbound: Vec::new(alloc),
+            payload: None,
+        }
+    }
+
+    /// Keeps a write of an unbound member, and the first of the payload. Takes memory.
+    pub fn keep(&mut self, member: SchemaRef<'t>, value: &'w ShapeValue) -> Result<(), OutOfMemory>
+        ensures kept { OnOk result ((t : Table) → kept_in t self.new ≡ kept_at (binding (schema_of member.entry)) (schema_of member.entry) (value_in t value.now) (kept_in t self.old)) }
+        ensures defined { OnOk result ((t : Table) → IsKeptDefined t self.old → IsDefined t value.now → IsKeptDefined t self.new) }
+    {
+        match binding_of(member) {
+            Binding::Body => {
+                self.unbound.push(BodyWrite { member, value })?;
+                Ok(())
+            }
+            Binding::Payload => {
+                self.payload = self.payload.or(Some(BodyWrite { member, value }));
+                Ok(())
+            }
+            _ => Ok(()),
+        }
+    }
+}

@@ -1,0 +1,231 @@
+// The entries of a map in the headers or the query (Smithy, HTTP protocol bindings, httpPrefixHeaders and httpQueryParams).
+ghost use Rattle.std.specs.Prelude.{◌≡◌, ◌∷◌, ◌++◌, [], ℕ, List, IsTrue, IfOk, IfErr, OnOk, None, Some, option_map, option_and_then, string_bytes};
+ghost use Rattle.std.specs.Str.{str_to_ascii_lowercase};
+ghost use Rattle.smithy_types.specs.Texts.{is_one_of};
+ghost use Rattle.smithy_schema.specs.Nodes.{Schema, Table, member_at, to_prefix, to_query_map};
+ghost use Rattle.smithy_schema.specs.References.{schema_of};
+ghost use Rattle.smithy_serde.specs.StoredValues.{value_in, writes_in};
+ghost use Rattle.smithy_serde.specs.Values.{map, text_of_key};
+ghost use Rattle.smithy_http.specs.Headers.{put_all};
+ghost use Rattle.smithy_binding.specs.Bindings.{kind_or_none, inserted_at, pairs_at, query_names as names_of_queries};
+ghost use Rattle.smithy_binding.specs.Entries.{are_texts, text_at as text_in, has_key, unnamed};
+ghost use Rattle.smithy_binding.specs.Faults.{item_fault, value_fault, pairs_fault, ends_with_value as ends_whole};
+ghost use Rattle.smithy_binding.specs.Refusing.{TellsFault};
+ghost use Rattle.smithy_binding.specs.TargetParts.{queries};
+
+use crate::binding::member_count;
+use crate::member_header::put_header;
+use crate::refusal::{unmatched_key, wrong_item};
+use crate::target::push_pair;
+use smithy_http::Headers;
+use smithy_ids::ShapeType;
+use smithy_schema::{SchemaRef, Schemas};
+use smithy_serde::{SerdeError, ShapeValue, WriteList};
+use smithy_types::OutOfMemory;
+use std::alloc::{AllocError, Global};
+use std::collections::BTreeMap;
+
+#[cfg(test)]
+mod tests;
+
+// The names of query members, each with the position of a member that has it.
+type QueryNames<'t> = BTreeMap<&'t str, usize>;
+
+fn kind_of(node: Option<SchemaRef<'_>>) -> ShapeType
+    ensures { result ≡ kind_or_none (option_map schema_of node.entry) }
+{
+    match node {
+        Some(node) => node.shape_type(),
+        None => ShapeType::Member,
+    }
+}
+
+/// Tests that each key and value of the member's map is of the kind of its node. `UnsupportedOperation` for the first
+/// that is not.
+pub fn test_entries(
+    alloc: Global,
+    table: &Schemas,
+    member: SchemaRef<'_>,
+    entries: &WriteList,
+) -> Result<(), SerdeError>
+    ensures ok { OnOk result (item_fault (schema_of member.entry) (map (writes_in table.now entries.now)) ≡ None) }
+    ensures err { IfErr result (λ e. TellsFault e (λ f. item_fault (schema_of member.entry) (map (writes_in table.now entries.now)) ≡ Some f)) }
+{
+    let mut kind = kind_of(member.key());
+    let mut next = kind_of(member.value());
+    for place in 0..entries.len() {
+        let Some((_node, value)) = entries.write(place) else {
+            unreachable!()
+        };
+        if !value.fits(kind) {
+            return Err(wrong_item(alloc, member, kind, value));
+        }
+        let last = kind;
+        kind = next;
+        next = last;
+    }
+    Ok(())
+}
+
+// Whether keys and values in turn end with a value.
+fn ends_with_value(entries: &WriteList) -> bool
+    ensures { (t : Table) → result ≡ ends_whole (writes_in t entries.now) }
+{
+    entries.len() % 2 == 0
+}
+
+/// Tests the member's map: each key and value by its kind, and then that each key has a value. `UnsupportedOperation`
+/// for the first that is not.
+pub fn test_map(
+    alloc: Global,
+    table: &Schemas,
+    member: SchemaRef<'_>,
+    entries: &WriteList,
+) -> Result<(), SerdeError>
+    ensures ok { OnOk result (value_fault (schema_of member.entry) (map (writes_in table.now entries.now)) ≡ None) }
+    ensures err { IfErr result (λ e. TellsFault e (λ f. value_fault (schema_of member.entry) (map (writes_in table.now entries.now)) ≡ Some f)) }
+{
+    test_entries(alloc, table, member, entries)?;
+    if !ends_with_value(entries) {
+        return Err(unmatched_key(alloc, member));
+    }
+    Ok(())
+}
+
+// The text, and the empty one of what is no text.
+#[tactic(auto, unfolding(smithy_serde::specs::StoredValues::value_in))]
+fn text_or_empty<'w>(value: &'w ShapeValue) -> &'w str
+    ensures { (t : Table) → result.now ≡ text_of_key (value_in t value.now) }
+{
+    match value {
+        ShapeValue::String(text) => text.as_str(),
+        _ => "",
+    }
+}
+
+// The text at a place.
+fn text_at<'w>(entries: &'w WriteList, place: usize) -> &'w str
+    ensures { (t : Table) → result.now ≡ text_in (writes_in t entries.now) place }
+{
+    match entries.write(place) {
+        Some((_node, value)) => text_or_empty(value),
+        None => "",
+    }
+}
+
+// Puts a header of an entry.
+fn put_entry(
+    alloc: Global,
+    member: SchemaRef<'_>,
+    headers: &mut Headers,
+    prefix: &str,
+    key: &str,
+    value: &str,
+) -> Result<(), SerdeError>
+    ensures ok { OnOk result (pairs_fault (schema_of member.entry) ((str_to_ascii_lowercase (prefix.now ++ key.now), value.now) ∷ []) ≡ None) }
+    ensures put { OnOk result (headers.new ≡ put_all headers.old ((str_to_ascii_lowercase (prefix.now ++ key.now), value.now) ∷ [])) }
+    ensures err { IfErr result (λ e. TellsFault e (λ f. pairs_fault (schema_of member.entry) ((str_to_ascii_lowercase (prefix.now ++ key.now), value.now) ∷ []) ≡ Some f)) }
+{
+    let name = format!(in alloc; "{prefix}{key}")?;
+    put_header(alloc, member, headers, name.as_str(), value)
+}
+
+/// Puts a header of each entry, named by the prefix and the key, in place of an earlier one with its name (Smithy, HTTP
+/// protocol bindings, httpPrefixHeaders). `InvalidInput` for the first whose name is no token, or else whose value has a
+/// byte that no header value has (RFC 7230, section 3.2). Takes memory, linear in the texts.
+pub fn put_entries(
+    alloc: Global,
+    table: &Schemas,
+    member: SchemaRef<'_>,
+    headers: &mut Headers,
+    prefix: &str,
+    entries: &WriteList,
+) -> Result<(), SerdeError>
+    requires { IsTrue (are_texts (writes_in table.now entries.now)) }
+    ensures ok { OnOk result (pairs_fault (schema_of member.entry) (inserted_at (to_prefix prefix.now) (schema_of member.entry) (map (writes_in table.now entries.now))) ≡ None) }
+    ensures put { OnOk result (headers.new ≡ put_all headers.old (inserted_at (to_prefix prefix.now) (schema_of member.entry) (map (writes_in table.now entries.now)))) }
+    ensures err { IfErr result (λ e. TellsFault e (λ f. pairs_fault (schema_of member.entry) (inserted_at (to_prefix prefix.now) (schema_of member.entry) (map (writes_in table.now entries.now))) ≡ Some f)) }
+{
+    for place in 0..entries.len() / 2 {
+        let key = text_at(entries, 2 * place);
+        let value = text_at(entries, 2 * place + 1);
+        put_entry(alloc, member, headers, prefix, key, value)?;
+    }
+    Ok(())
+}
+
+fn query_name<'t>(member: SchemaRef<'t>) -> Option<&'t str>
+    ensures { option_map (λ n. n.now) result ≡ (schema_of member.entry).node.traits.http_query }
+{
+    match member.http_query() {
+        Some(query) => Some(query.value()),
+        None => None,
+    }
+}
+
+// The query name of the member at a position.
+fn query_name_at<'t>(schema: SchemaRef<'t>, position: usize) -> Option<&'t str>
+    ensures { option_map (λ n. n.now) result ≡ option_and_then (λ m. m.node.traits.http_query) (member_at (schema_of schema.entry) position) }
+{
+    match schema.member_schema_by_index(position) {
+        Some(member) => query_name(member),
+        None => None,
+    }
+}
+
+// The names of the schema's query members, written or not.
+#[tactic(auto, unfolding(crate::specs::Entries::has_key))]
+fn query_names<'t>(alloc: Global, schema: SchemaRef<'t>) -> Result<QueryNames<'t>, AllocError>
+    ensures { IfOk result (λ names. (name : List ℕ) → has_key names name ≡ is_one_of name (names_of_queries (schema_of schema.entry))) }
+{
+    let mut names = BTreeMap::new(alloc);
+    for position in 0..member_count(schema) {
+        if let Some(name) = query_name_at(schema, position) {
+            names.insert(name, position)?;
+        }
+    }
+    Ok(names)
+}
+
+#[tactic(auto, unfolding(crate::specs::Entries::has_key))]
+fn is_named<'n>(names: &QueryNames<'n>, name: &'n str) -> bool
+    ensures { result ≡ has_key names.now name.now }
+{
+    names.get(&name).is_some()
+}
+
+// Adds a pair of an entry, unless its key is one of the names.
+fn push_entry<'n>(
+    query: &mut String,
+    names: &QueryNames<'n>,
+    key: &'n str,
+    value: &str,
+) -> Result<(), OutOfMemory>
+    ensures { OnOk result (string_bytes query.new ≡ string_bytes query.old ++ queries (unnamed names.now ((key.now, value.now) ∷ []))) }
+{
+    if is_named(names, key) {
+        return Ok(());
+    }
+    push_pair(query, key, value)
+}
+
+/// Adds a pair of each entry whose key is no query name of the schema, whether that member is written or not (Smithy,
+/// HTTP protocol bindings, httpQueryParams). Takes memory, linear in the texts and in the number of members.
+pub fn push_entries<'n>(
+    alloc: Global,
+    table: &Schemas,
+    schema: SchemaRef<'n>,
+    query: &mut String,
+    entries: &'n WriteList,
+) -> Result<(), OutOfMemory>
+    requires { IsTrue (are_texts (writes_in table.now entries.now)) }
+    ensures { OnOk result ((m : Schema) → string_bytes query.new ≡ string_bytes query.old ++ queries (pairs_at to_query_map (names_of_queries (schema_of schema.entry)) m (map (writes_in table.now entries.now)))) }
+{
+    let names = query_names(alloc, schema)?;
+    for place in 0..entries.len() / 2 {
+        let key = text_at(entries, 2 * place);
+        let value = text_at(entries, 2 * place + 1);
+        push_entry(query, &names, key, value)?;
+    }
+    Ok(())
+}
