@@ -1,10 +1,9 @@
 -- What a run answers.
-use Rattle.std.specs.Prelude.{ℕ, codes, ◌&&◌, List, Bool, Option, Some, None, option_and_then, is_some, if◌then◌else◌}
+use Rattle.std.specs.Prelude.{ℕ, codes, List, Bool, Option, Some, None, option_and_then, is_some, if◌then◌else◌}
 use Rattle.smithy_http.specs.Requests.{Request}
 use Rattle.smithy_binding.specs.Placing.{Protocol, place}
 use Rattle.smithy_binding.specs.Faults.{Fault, fault}
 use Rattle.smithy_binding.specs.Checked.{checked_input}
-use Rattle.smithy_binding.specs.Placeable.{is_placeable}
 use Rattle.smithy_types.specs.Documents.{Document}
 use Rattle.smithy_document.specs.JsonText.{json_text}
 use Rattle.smithy_bind.specs.Json.{json_of}
@@ -34,7 +33,7 @@ told None None = no_job
 -- the answer to a job, by a protocol; a schema that a request can't be placed by makes none
 unfoldable pub answered : Protocol → Job → Outcome
 answered protocol j =
-    if checked_input j.schema && is_placeable j.schema
+    if checked_input j.schema
     then told (fault j.schema j.writes j.endpoint) (place protocol j.schema j.writes j.endpoint j.omit)
     else no_job
 

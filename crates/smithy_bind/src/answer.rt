@@ -5,7 +5,6 @@ ghost use Rattle.smithy_serde.specs.Values.{list_of};
 ghost use Rattle.smithy_serde.specs.StoredValues.{AreDefined};
 ghost use Rattle.smithy_serde.specs.StructValues.{members_of};
 ghost use Rattle.smithy_binding.specs.Checked.{checked_input};
-ghost use Rattle.smithy_binding.specs.Placeable.{is_placeable};
 ghost use Rattle.smithy_binding.specs.Placing.{place};
 ghost use Rattle.smithy_binding.specs.Faults.{fault};
 ghost use Rattle.smithy_binding.specs.Protocols.{codec_of, content_type_of};
@@ -86,7 +85,6 @@ fn answer_struct<C: Codec>(
 ) -> Result<Answer, OutOfMemory>
     requires lawful { C.lawful (codec_of protocol.now) }
     requires checked { IsTrue (checked_input (schema_of schema)) }
-    requires placeable { IsTrue (is_placeable (schema_of schema)) }
     ensures { IfOk result (λ a. outcome_view a ≡ told (fault (schema_of schema.entry) (list_of (members_of input.now)) []) (place (record { content_type = content_type_of protocol.now; text_of = C.text (codec_of protocol.now) }) (schema_of schema.entry) (list_of (members_of input.now)) [] keep_all)) }
 {
     answer_input(alloc, protocol, schema, input)
@@ -101,7 +99,6 @@ fn answer_input<C: Codec>(
 ) -> Result<Answer, OutOfMemory>
     requires lawful { C.lawful (codec_of protocol.now) }
     requires checked { IsTrue (checked_input (schema_of schema)) }
-    requires placeable { IsTrue (is_placeable (schema_of schema)) }
     ensures { IfOk result (λ a. outcome_view a ≡ told (fault (schema_of schema.entry) (list_of (writes input.now)) []) (place (record { content_type = content_type_of protocol.now; text_of = C.text (codec_of protocol.now) }) (schema_of schema.entry) (list_of (writes input.now)) [] keep_all)) }
 {
     let omit = OmitFlags {
