@@ -122,113 +122,72 @@ fn runs_in_memory(rt: HostRuntime) {
 }
 
 // Each row has an operation, an input, what is asked, and the end.
+// A run of `request` with a job of these parts ends so.
+fn ends(
+    rt: &impl Abort,
+    alloc: Global,
+    operation: &str,
+    input: &str,
+    asked: &str,
+    status: Status,
+) -> Result<(), OutOfMemory> {
+    let job = job_of(alloc, operation, input, asked)?;
+    let found = run_of(alloc, &["request"], job.as_bytes())?;
+    assert_eq!(rt; found.status, status, "{operation} {input} {asked}");
+    Ok(())
+}
+
 #[test]
-fn reads_jobs_by_their_form(rt: HostRuntime) -> Result<(), Fail> {
-    let alloc = rt.alloc();
+fn reads_what_is_asked_by_its_form(rt: HostRuntime) -> Result<(), Fail> {
     let rows = [
-        (OPERATION, INPUT, r#""operation":"ex#Get""#, Status::Job),
-        (
-            OPERATION,
-            INPUT,
-            r#""operation":"ex#None","input":[]"#,
-            Status::Job,
-        ),
-        (
-            OPERATION,
-            INPUT,
-            r#""operation":"ex#GetIn","input":[]"#,
-            Status::Job,
-        ),
-        (
-            OPERATION,
-            INPUT,
-            r#""operation":"ex#Get","input":{}"#,
-            Status::Job,
-        ),
-        (
-            OPERATION,
-            INPUT,
-            r#""operation":"ex#Get","input":[["Id",1.0]]"#,
-            Status::Job,
-        ),
-        (
-            OPERATION,
-            INPUT,
-            r#""operation":"ex#Get","input":[["Id",2147483648]]"#,
-            Status::Job,
-        ),
-        (
-            OPERATION,
-            INPUT,
-            r#""operation":"ex#Get","input":[["Id","7"]]"#,
-            Status::Job,
-        ),
-        (
-            OPERATION,
-            INPUT,
-            r#""operation":"ex#Get","input":[["Id",7,7]]"#,
-            Status::Job,
-        ),
-        (
-            OPERATION,
-            INPUT,
-            r#""operation":"ex#Get","input":[["Zed",7]]"#,
-            Status::Job,
-        ),
-        (
-            OPERATION,
-            INPUT,
-            r#""operation":"ex#Get","input":[],"endpoint":null"#,
-            Status::Job,
-        ),
-        (
-            OPERATION,
-            r#"{"type":"structure"}"#,
-            r#""operation":"ex#Get","input":[]"#,
-            Status::Job,
-        ),
-        (
-            OPERATION,
-            r#"{"type":"structure","members":{"Bucket":{"target":"ex#None","traits":{"smithy.api#httpLabel":{}}}}}"#,
-            r#""operation":"ex#Get","input":[]"#,
-            Status::Job,
-        ),
-        (
-            OPERATION,
-            r#"{"type":"structure","members":{"Id":{"target":"smithy.api#Integer","traits":{"smithy.api#httpHeader":5}}}}"#,
-            r#""operation":"ex#Get","input":[]"#,
-            Status::Job,
-        ),
-        (
-            r#"{"type":"operation","input":{"target":"ex#GetIn"},"traits":{"smithy.api#http":{"method":"GET","uri":"/","code":65536}}}"#,
-            r#"{"type":"structure","members":{}}"#,
-            r#""operation":"ex#Get","input":[]"#,
-            Status::Job,
-        ),
-        (
-            r#"{"type":"operation","input":{"target":"ex#GetIn"},"traits":{"smithy.api#http":{"method":"GET","uri":"/"}}}"#,
-            r#"{"type":"structure","members":{},"traits":{"internal":{}}}"#,
-            r#""operation":"ex#Get","input":[]"#,
-            Status::Job,
-        ),
-        (
-            r#"{"type":"operation","input":{"target":"smithy.api#Unit"},"traits":{"smithy.api#http":{"method":"GET","uri":"/"}}}"#,
-            "5",
-            r#""operation":"ex#Get","input":[]"#,
-            Status::Done,
-        ),
-        (
-            OPERATION,
-            INPUT,
-            r#""operation":"ex#None","operation":"ex#Get","input":[["Bucket","b"],["Key","k"]],"more":1.5"#,
-            Status::Done,
-        ),
+        r#""operation":"ex#Get""#,
+        r#""operation":"ex#None","input":[]"#,
+        r#""operation":"ex#GetIn","input":[]"#,
+        r#""operation":"ex#Get","input":{}"#,
+        r#""operation":"ex#Get","input":[["Id",1.0]]"#,
+        r#""operation":"ex#Get","input":[["Id",2147483648]]"#,
+        r#""operation":"ex#Get","input":[["Id","7"]]"#,
+        r#""operation":"ex#Get","input":[["Id",7,7]]"#,
+        r#""operation":"ex#Get","input":[["Zed",7]]"#,
+        r#""operation":"ex#Get","input":[],"endpoint":null"#,
     ];
-    for (operation, input, asked, status) in rows {
-        let job = job_of(alloc, operation, input, asked)?;
-        let found = run_of(alloc, &["request"], job.as_bytes())?;
-        assert_eq!(rt; found.status, status, "{operation} {input} {asked}");
+    for asked in rows {
+        ends(&rt, rt.alloc(), OPERATION, INPUT, asked, Status::Job)?;
     }
+    let asked =
+        r#""operation":"ex#None","operation":"ex#Get","input":[["Bucket","b"],["Key","k"]],"more":1.5"#;
+    ends(&rt, rt.alloc(), OPERATION, INPUT, asked, Status::Done)?;
+    Ok(())
+}
+
+const ROOT: &str =
+    r#"{"type":"operation","input":{"target":"ex#GetIn"},"traits":{"smithy.api#http":{"method":"GET","uri":"/"}}}"#;
+
+const NOTHING_ASKED: &str = r#""operation":"ex#Get","input":[]"#;
+
+#[test]
+fn reads_inputs_by_their_form(rt: HostRuntime) -> Result<(), Fail> {
+    let rows = [
+        r#"{"type":"structure"}"#,
+        r#"{"type":"structure","members":{"Name":{"target":"ex#None"}}}"#,
+        r#"{"type":"structure","members":{"Id":{"target":"smithy.api#Integer","traits":{"smithy.api#httpHeader":5}}}}"#,
+        r#"{"type":"structure","members":{},"traits":{"internal":{}}}"#,
+    ];
+    for input in rows {
+        ends(&rt, rt.alloc(), ROOT, input, NOTHING_ASKED, Status::Job)?;
+    }
+    Ok(())
+}
+
+#[test]
+fn reads_operations_by_their_form(rt: HostRuntime) -> Result<(), Fail> {
+    let code =
+        r#"{"type":"operation","input":{"target":"ex#GetIn"},"traits":{"smithy.api#http":{"method":"GET","uri":"/","code":65536}}}"#;
+    let empty = r#"{"type":"structure","members":{}}"#;
+    ends(&rt, rt.alloc(), code, empty, NOTHING_ASKED, Status::Job)?;
+    let unit =
+        r#"{"type":"operation","input":{"target":"smithy.api#Unit"},"traits":{"smithy.api#http":{"method":"GET","uri":"/"}}}"#;
+    ends(&rt, rt.alloc(), unit, "5", NOTHING_ASKED, Status::Done)?;
     Ok(())
 }
 

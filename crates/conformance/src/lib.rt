@@ -5,3 +5,5 @@
 mod codecs;
 #[cfg(test)]
 mod jobs;
+#[cfg(test)]
+mod texts;
