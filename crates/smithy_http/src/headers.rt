@@ -15,14 +15,13 @@ use crate::pairs::{
 use crate::values::{GetAll, GetAllBytes, text_in};
 use smithy_types::OutOfMemory;
 use std::alloc::Global;
-use std::collections::BTreeMap;
 use std::marker::Model;
 
 /// Header fields, seen as the list of their pairs of a lower-case name and value bytes, in order.
 #[derive(Drop)]
 pub struct Headers {
     pairs: Vec<Pair>,
-    // Kept as long as no name stands twice.
+    // Kept from the seventeenth pair on, as long as no name stands twice.
     places: Option<Places>,
 }
 
@@ -45,7 +44,7 @@ impl Headers {
     {
         Headers {
             pairs: Vec::new(alloc),
-            places: Some(BTreeMap::new(alloc)),
+            places: None,
         }
     }
 
@@ -87,8 +86,8 @@ impl Headers {
         remove_named(&mut self.pairs, &mut self.places, name);
     }
 
-    /// The first value of the name, where it is UTF-8. Names are compared without ASCII case; a name in lower case
-    /// is found without a search as long as no name stands twice and none was removed. Takes no memory.
+    /// The first value of the name, where it is UTF-8. Names are compared without ASCII case; among more than 16 pairs a
+    /// name in lower case is found without a search as long as no name stands twice and none was removed. Takes no memory.
     pub fn get(&self, name: &str) -> Option<&str>
         ensures { option_copied result ≡ first_text (values_at (str_to_ascii_lowercase name.now) self.now) }
     {

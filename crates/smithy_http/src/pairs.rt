@@ -24,6 +24,9 @@ pub(crate) struct Pair {
 // The place of each name.
 pub(crate) type Places = BTreeMap<String, usize>;
 
+// So many pairs have no map of their places: to search through them costs less than to copy each name into a map.
+const FEW_PAIRS: usize = 16;
+
 // The pair of a name in lower case and a value, once both are tested.
 pub(crate) fn tested_pair(alloc: Global, name: &str, value: &[u8]) -> Result<Pair, HttpError>
     ensures ok { IfOk result (λ p. pair_of p ≡ (str_to_ascii_lowercase name.now, value.now)) }
@@ -230,11 +233,41 @@ fn add_place(
     ensures ok { OnOk result (ForSome places.new (λ m. IsIndex m (map name_of pairs.now ++ name.now ∷ []))) }
     ensures err { OnErr result (ForSome places.new (λ m. IsIndex m (map name_of pairs.now))) }
 {
-    let name = String::from_str(alloc, name)?;
     match places {
-        Some(places) => insert_place(places, pairs, name),
+        Some(places) => insert_place(places, pairs, String::from_str(alloc, name)?),
         None => Ok(()),
     }
+}
+
+// The place of each name, where none stands twice.
+fn indexed(alloc: Global, pairs: &[Pair]) -> Result<Option<Places>, OutOfMemory>
+    ensures { IfOk result (λ places. ForSome places (λ m. IsIndex m (map name_of pairs.now))) }
+{
+    let mut places = BTreeMap::new(alloc);
+    for (place, pair) in pairs.iter().enumerate() {
+        let name = pair.name.as_str();
+        if places.get(name).is_some() {
+            return Ok(None);
+        }
+        insert_place(&mut places, &pairs[..place], String::from_str(alloc, name)?)?;
+    }
+    Ok(Some(places))
+}
+
+// Begins to keep places once there are few pairs no longer. That is tried at one number of pairs alone, so that where a
+// name stands twice, it isn't tried at each further pair.
+fn keep_places(
+    alloc: Global,
+    places: &mut Option<Places>,
+    pairs: &[Pair],
+) -> Result<(), OutOfMemory>
+    requires { ForSome places.old (λ m. IsIndex m (map name_of pairs.now)) }
+    ensures { ForSome places.new (λ m. IsIndex m (map name_of pairs.now)) }
+{
+    if pairs.len() == FEW_PAIRS && places.is_none() {
+        *places = indexed(alloc, pairs)?;
+    }
+    Ok(())
 }
 
 // Adds a pair of a new name at the end.
@@ -250,6 +283,7 @@ fn push_new(
     ensures index { ForSome places.new (λ m. IsIndex m (map name_of pairs.new.items)) }
 {
     pairs.reserve(1)?;
+    keep_places(*pairs.allocator(), places, pairs)?;
     add_place(*pairs.allocator(), places, pairs, pair.name.as_str())?;
     pairs.push(pair).unwrap();
     Ok(())

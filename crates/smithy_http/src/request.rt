@@ -1,5 +1,5 @@
 // Requests.
-ghost use Rattle.std.specs.Prelude.{◌≡◌, ◌↔◌, [], false, codes, IsTrue, IfOk, OnOk, OnErr, IsErrOf};
+ghost use Rattle.std.specs.Prelude.{◌≡◌, ◌↔◌, [], false, codes, IsTrue, IfOk, IfErr, OnOk, OnErr, IsErrOf};
 ghost use Rattle.std.specs.Borrow.{sem};
 ghost use Rattle.smithy_types.specs.Grammars.{is_token, is_legal_target};
 ghost use Rattle.smithy_http.specs.Lends.{LendsHeaders};
@@ -40,6 +40,30 @@ impl Request {
             method: Text::from_str(alloc, "GET")?,
             target: Text::from_str(alloc, "/")?,
             headers: Headers::new(alloc),
+            body,
+        })
+    }
+
+    /// The request of this method, a token (RFC 7231, section 4.1), target, headers and body. `Target` where the target is
+    /// no legal one (RFC 7230, section 5.3). Takes no memory.
+    pub fn from_parts(
+        method: Text,
+        target: Text,
+        headers: Headers,
+        body: Blob,
+    ) -> Result<Request, HttpError>
+        requires { IsTrue (is_token method) }
+        ensures ok { IfOk result (λ r. r ≡ record { method = method; target = target; headers = headers; body = body }) }
+        ensures target { IsErrOf result HttpError.Target ↔ (is_legal_target target ≡ false) }
+        ensures err { IfErr result (λ e. e ≡ HttpError.Target) }
+    {
+        if !legal_target(target.as_str()) {
+            return Err(HttpError::Target);
+        }
+        Ok(Request {
+            method,
+            target,
+            headers,
             body,
         })
     }

@@ -1,5 +1,5 @@
 use crate::{Headers, HttpError, ListFault, Request, dates, one_text, quote_header_value, tokens};
-use smithy_types::{Blob, Format};
+use smithy_types::{Blob, Format, Text};
 use std::alloc::Global;
 use std::test::Fail;
 
@@ -27,6 +27,33 @@ fn two_values(alloc: Global, first: &[u8], second: &[u8]) -> Result<Headers, Htt
     headers.append("A", first)?;
     headers.append("a", second)?;
     Ok(headers)
+}
+
+// Puts each letter as a name with the value `1`.
+fn put_letters(headers: &mut Headers, letters: &str) -> Result<(), HttpError> {
+    for letter in letters.split(' ') {
+        headers.try_insert(letter, "1")?;
+    }
+    Ok(())
+}
+
+// Headers with twenty names.
+fn twenty(alloc: Global) -> Result<Headers, HttpError> {
+    let mut headers = Headers::new(alloc);
+    put_letters(&mut headers, "a b c d e f g h i j k l m n o p q r s t")?;
+    Ok(headers)
+}
+
+// Whether these are the names in order, each a letter.
+fn are_letters(headers: &Headers, letters: &str) -> bool {
+    let mut left = letters.as_bytes();
+    for (name, _) in headers.iter_bytes() {
+        let Some(rest) = left.strip_prefix(name.as_bytes()) else {
+            return false;
+        };
+        left = rest;
+    }
+    left.is_empty()
 }
 
 #[test]
@@ -59,6 +86,48 @@ fn a_name_is_removed(rt: HostRuntime) -> Result<(), Fail> {
     headers.remove("A");
     assert!(rt; is_alone(&headers, "b", b"3"));
     assert_eq!(rt; copy.get("a"), Some("1"));
+    Ok(())
+}
+
+#[test]
+fn a_value_is_put_in_place_among_many(rt: HostRuntime) -> Result<(), Fail> {
+    let mut headers = twenty(rt.alloc())?;
+    headers.try_insert("S", "19")?;
+    assert!(rt; are_letters(&headers, "abcdefghijklmnopqrst"));
+    assert!(rt; is_text(&headers, "s", "19"));
+    assert_eq!(rt; headers.get("t"), Some("1"));
+    assert_eq!(rt; headers.get("u"), None);
+    Ok(())
+}
+
+#[test]
+fn a_name_is_removed_among_many(rt: HostRuntime) -> Result<(), Fail> {
+    let mut headers = twenty(rt.alloc())?;
+    headers.remove("B");
+    headers.try_insert("b", "2")?;
+    assert!(rt; are_letters(&headers, "acdefghijklmnopqrstb"));
+    assert_eq!(rt; headers.get("b"), Some("2"));
+    Ok(())
+}
+
+#[test]
+fn a_name_stands_twice_before_the_sixteenth(rt: HostRuntime) -> Result<(), Fail> {
+    let mut headers = two_values(rt.alloc(), b"1", b"2")?;
+    put_letters(&mut headers, "b c d e f g h i j k l m n o p q r s t")?;
+    assert!(rt; are_bytes(&headers, "a", b"1", b"2"));
+    assert!(rt; are_letters(&headers, "aabcdefghijklmnopqrst"));
+    headers.try_insert("a", "3")?;
+    assert!(rt; are_letters(&headers, "abcdefghijklmnopqrst"));
+    Ok(())
+}
+
+#[test]
+fn a_name_stands_twice_behind_the_sixteenth(rt: HostRuntime) -> Result<(), Fail> {
+    let mut headers = twenty(rt.alloc())?;
+    headers.append("R", b"18")?;
+    assert!(rt; are_bytes(&headers, "r", b"1", b"18"));
+    headers.remove("r");
+    assert!(rt; are_letters(&headers, "abcdefghijklmnopqst"));
     Ok(())
 }
 
@@ -140,6 +209,29 @@ fn a_request_is_set(rt: HostRuntime) -> Result<(), Fail> {
     assert_eq!(rt; request.body().as_slice(), b"a".as_slice());
     request.set_body(Blob::new(rt.alloc(), b"")?);
     assert_eq!(rt; request.body().as_slice(), b"".as_slice());
+    Ok(())
+}
+
+#[test]
+fn a_request_is_made_of_its_parts(rt: HostRuntime) -> Result<(), Fail> {
+    let headers = two_values(rt.alloc(), b"1", b"\xFF")?;
+    let method = Text::from_str(rt.alloc(), "PUT")?;
+    let target = Text::from_str(rt.alloc(), "/a?b=c")?;
+    let request = Request::from_parts(method, target, headers, Blob::new(rt.alloc(), b"d")?)?;
+    assert_eq!(rt; request.method(), "PUT");
+    assert_eq!(rt; request.uri(), "/a?b=c");
+    assert!(rt; are_bytes(request.headers(), "a", b"1", b"\xFF"));
+    assert_eq!(rt; request.body().as_slice(), b"d".as_slice());
+    Ok(())
+}
+
+#[test]
+fn an_illegal_target_makes_no_request(rt: HostRuntime) -> Result<(), Fail> {
+    let method = Text::from_str(rt.alloc(), "GET")?;
+    let target = Text::from_str(rt.alloc(), "a")?;
+    let body = Blob::new(rt.alloc(), b"")?;
+    let request = Request::from_parts(method, target, Headers::new(rt.alloc()), body);
+    assert!(rt; request.is_err_and(|e| e == HttpError::Target));
     Ok(())
 }
 

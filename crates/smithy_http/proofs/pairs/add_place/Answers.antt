@@ -6,4 +6,4 @@ use Rattle.smithy_http.proofs.pairs.add_place.Goals as goal
 
 pub insert_place-requires-clause-new : goal.insert_place-requires-clause-new
 insert_place-requires-clause-new c =
-    rw c.in_ok-name.ensures.ok (position-map (λ n. same_text n c.args.name.now) name_of c.args.pairs.now ∙ c.requires.new)
+    rw c.in_ok-from_str-in-Some.ensures.ok (position-map (λ n. same_text n c.args.name.now) name_of c.args.pairs.now ∙ c.requires.new)
