@@ -11,5 +11,6 @@ pub mod PreludeNodes
 pub mod PreludePlaces
 pub mod References
 pub mod Routing
+pub mod ShownBindings
 pub mod Stored
 pub mod Templates

@@ -119,6 +119,16 @@ impl<'t> SchemaRef<'t> {
         }
     }
 
+    /// Its table, None for the prelude's node. Takes no memory.
+    pub fn table(&self) -> Option<&'t Schemas>
+        ensures { MatchOption result (index_of self.now ≡ None) (λ t. t.now ≡ (schema_of self.now).table) }
+    {
+        match self.spot {
+            Spot::Table(place) => Some(place.table),
+            Spot::Prelude(_) => None,
+        }
+    }
+
     /// The place in its table, None for the prelude's node.
     pub fn index(&self) -> Option<SchemaIndex>
         ensures place { place_of result ≡ index_of self.now }
@@ -137,6 +147,16 @@ impl<'t> SchemaRef<'t> {
         match self.spot {
             Spot::Table(place) => place.shape_id(),
             Spot::Prelude(shape_type) => prelude_id(shape_type),
+        }
+    }
+
+    /// The full name of the identifier. Takes no memory.
+    pub fn full_name(&self) -> &'t str
+        ensures { result.now ≡ (schema_of self.now).node.full_name }
+    {
+        match self.spot {
+            Spot::Table(place) => place.stored().full_name.as_str(),
+            Spot::Prelude(shape_type) => prelude_id(shape_type).as_str(),
         }
     }
 

@@ -1,5 +1,5 @@
 // What tables refuse, and the names of the prelude.
-use crate::{Schema, SchemaError, SchemaIndex, SchemaRef, Schemas, ShapeIdBuf, prelude};
+use crate::{Binding, Schema, SchemaError, SchemaIndex, SchemaRef, Schemas, ShapeIdBuf, prelude};
 use smithy_ids::{HttpTrait, PayloadHint, ShapeId, ShapeType, TimestampFormat};
 use std::process::Abort;
 
@@ -414,4 +414,66 @@ fn a_node_keeps_its_further_marks(rt: HostRuntime) {
     assert!(rt; node.event_header().is_some() & node.event_payload().is_some());
     assert!(rt; node.xml_flattened() & node.xml_unwrapped_output());
     assert!(rt; !(node.xml_attribute() | node.streaming() | node.has_http_response_binding()));
+}
+
+// The name or prefix of a binding, or a word for one that has none.
+fn shown<'t>(binding: Binding<'t>) -> &'t str {
+    match binding {
+        Binding::Header(name) => name,
+        Binding::Prefix(prefix) => prefix,
+        Binding::Query(name) => name,
+        Binding::QueryMap => "query map",
+        Binding::Label => "label",
+        Binding::Payload => "payload",
+        Binding::Body => "body",
+    }
+}
+
+// Where a member of this description stands.
+fn binding_of(rt: &impl Abort, table: &mut Schemas, schema: Schema<'_>) -> String {
+    let place = inserted(rt, table, schema);
+    let binding = node_at(rt, table, place).request_binding();
+    String::from_str(table.alloc, shown(binding)).expect(rt, "no memory")
+}
+
+#[test]
+fn the_first_trait_says_where_a_member_stands(rt: HostRuntime) {
+    let mut table = Schemas::new(rt.alloc());
+    let header = member(0).with_http_query("q").with_http_header("H");
+    assert_eq!(rt; binding_of(&rt, &mut table, header).as_str(), "H");
+    let prefix = member(0)
+        .with_http_query("q")
+        .with_http_prefix_headers("P-");
+    assert_eq!(rt; binding_of(&rt, &mut table, prefix).as_str(), "P-");
+    let query = member(0).with_http_label().with_http_query("q");
+    assert_eq!(rt; binding_of(&rt, &mut table, query).as_str(), "q");
+    let map = member(0).with_http_payload().with_http_query_params();
+    assert_eq!(rt; binding_of(&rt, &mut table, map).as_str(), "query map");
+}
+
+#[test]
+fn a_mark_says_where_a_member_stands(rt: HostRuntime) {
+    let mut table = Schemas::new(rt.alloc());
+    let label = member(0).with_http_payload().with_http_label();
+    assert_eq!(rt; binding_of(&rt, &mut table, label).as_str(), "label");
+    let payload = member(0).with_http_payload().with_host_label();
+    assert_eq!(rt; binding_of(&rt, &mut table, payload).as_str(), "payload");
+    let body = member(0).with_host_label().with_event_payload();
+    assert_eq!(rt; binding_of(&rt, &mut table, body).as_str(), "body");
+    assert_eq!(rt;
+        shown(SchemaRef::prelude(ShapeType::Blob).request_binding()),
+        "body"
+    );
+}
+
+#[test]
+fn a_node_names_its_table(rt: HostRuntime) {
+    let mut table = Schemas::new(rt.alloc());
+    let place = inserted(&rt, &mut table, member(0));
+    let node = node_at(&rt, &table, place);
+    assert_eq!(rt; node.full_name(), "ex#Owner$name");
+    assert_eq!(rt; node.table().expect(&rt, "no table").len(), 1);
+    let byte = SchemaRef::prelude(ShapeType::Byte);
+    assert_eq!(rt; byte.full_name(), "smithy.api#Byte");
+    assert!(rt; byte.table().is_none());
 }

@@ -18,7 +18,7 @@ use smithy_ids::{
 
 impl<'t> SchemaRef<'t> {
     // The traits as the table keeps them, None for the prelude's node.
-    fn traits_kept(&self) -> Option<&'t StoredTraits>
+    pub(crate) fn traits_kept(&self) -> Option<&'t StoredTraits>
         ensures { MatchOption result ((schema_of self.now).node.traits ≡ no_traits) (λ t. (schema_of self.now).node.traits ≡ traits_stored t.now) }
     {
         match self.stored() {

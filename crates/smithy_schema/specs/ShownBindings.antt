@@ -1,0 +1,14 @@
+-- Where a request member stands, as the getter answers it.
+use Rattle.smithy_schema.specs.Nodes as nodes
+use Rattle.smithy_schema.specs.declared.request_binding.Binding.{Binding}
+use Rattle.smithy_schema.specs.declared.request_binding.Binding.TheVariants as answered
+
+-- where a member stands
+abbrev pub binding_shown : Binding → nodes.Binding
+binding_shown (answered.Header name) = nodes.to_header name.now
+binding_shown (answered.Prefix prefix) = nodes.to_prefix prefix.now
+binding_shown (answered.Query name) = nodes.to_query name.now
+binding_shown answered.QueryMap = nodes.to_query_map
+binding_shown answered.Label = nodes.to_label
+binding_shown answered.Payload = nodes.to_payload
+binding_shown answered.Body = nodes.to_body
