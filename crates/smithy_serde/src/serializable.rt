@@ -1,8 +1,9 @@
 // What tells itself to a serializer, and the functions that open, tell and close.
-ghost use Rattle.std.specs.Prelude.{◌≡◌, ◌*◌, length as size, OnOk};
+ghost use Rattle.std.specs.Prelude.{◌≡◌, ◌*◌, length as size, OnOk, IfSome};
 ghost use Rattle.smithy_schema.specs.Nodes.{Schema};
 ghost use Rattle.smithy_schema.specs.References.{schema_of};
 ghost use Rattle.smithy_serde.specs.Values.{Writes, label_of, list_of, list, map, structure};
+ghost use Rattle.smithy_serde.specs.StoredValues.{writes_in, AreDefined};
 ghost use Rattle.smithy_serde.specs.Told.{one_write, written, all_written};
 ghost use Rattle.smithy_serde.specs.Writing.{IsWriteAnswer, IsWritesAnswer, Carries};
 ghost use Rattle.smithy_serde.specs.Refusing.{RefusesByRule};
@@ -10,7 +11,8 @@ ghost use Rattle.smithy_serde.specs.ToldParts.{LeavesPart};
 
 use crate::error::SerdeError;
 use crate::serializer::ShapeSerializer;
-use smithy_schema::SchemaRef;
+use crate::value::WriteList;
+use smithy_schema::{SchemaRef, Schemas};
 
 /// What has a schema and tells its members. Its meaning is one finite list of writes.
 pub trait SerializableStruct {
@@ -23,6 +25,15 @@ pub trait SerializableStruct {
     /// The node of its structure.
     fn schema(&self) -> SchemaRef<'_>
         ensures { schema_of result ≡ node self.now };
+
+    /// The table of its writes' nodes, and its writes, where it keeps them: then they need not be told to be known. None
+    /// unless it is implemented. Takes no memory.
+    fn stored_writes(&self) -> Option<(&Schemas, &WriteList)>
+        ensures writes { IfSome result (λ s. writes_in s.0.now s.1.now ≡ writes self.now) }
+        ensures defined { IfSome result (λ s. AreDefined s.0.now s.1.now) }
+    {
+        None
+    }
 
     /// Tells the members: where it answers Ok exactly its writes were added, and the lists that were open are open. It
     /// fails only where a write was refused, with that refusal.
@@ -174,6 +185,10 @@ impl<T: SerializableStruct> SerializableStruct for Box<T> {
 
     fn schema(&self) -> SchemaRef<'_> {
         (**self).schema()
+    }
+
+    fn stored_writes(&self) -> Option<(&Schemas, &WriteList)> {
+        (**self).stored_writes()
     }
 
     fn serialize_members(&self, serializer: &mut dyn ShapeSerializer) -> Result<(), SerdeError> {
