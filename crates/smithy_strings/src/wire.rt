@@ -1,5 +1,6 @@
 // The texts of scalars (Smithy, HTTP protocol bindings).
-ghost use Rattle.std.specs.Prelude.{◌≡◌, Some, IfOk, IfErr, is_some};
+ghost use Rattle.std.specs.Prelude.{◌≡◌, Some, IfOk, IfErr, is_some, option_map};
+ghost use Rattle.std.specs.Cow.{cow_str_bytes};
 ghost use Rattle.smithy_types.specs.Timestamps.{timestamp_text};
 ghost use Rattle.smithy_schema.specs.Nodes.{Table};
 ghost use Rattle.smithy_schema.specs.References.{schema_of};
@@ -18,6 +19,7 @@ use smithy_schema::SchemaRef;
 use smithy_serde::{SerdeError, ShapeValue};
 use smithy_types::{DateTime, Format, OutOfMemory, Text, TypesError};
 use std::alloc::Global;
+use std::borrow::CowStr;
 
 /// Where a text stands in a request.
 #[derive(Clone, Copy, PartialEq, Eq)]
@@ -44,18 +46,20 @@ pub fn wire_text(
 {
     let format = format_in(schema);
     let has_media_type = schema.media_type().is_some();
-    scalar_text(alloc, format, has_media_type, place, value)
+    let text = scalar_text(alloc, format, has_media_type, place, value)?;
+    Ok(Text::from_string(text.into_owned(alloc)?))
 }
 
-/// The text of a scalar, as `wire_text` gives it, by a time format and whether there is a media type. Takes memory.
-pub fn scalar_text(
+/// The text of a scalar, as `wire_text` gives it, by a time format and whether there is a media type. It is the value's
+/// own text, borrowed, for a truth value, a big number, and a text without a media type; else it is made, and takes memory.
+pub fn scalar_text<'w>(
     alloc: Global,
     format: Option<TimestampFormat>,
     has_media_type: bool,
     place: Place,
-    value: &ShapeValue,
-) -> Result<Text, SerdeError>
-    ensures ok { IfOk result (λ text. (t : Table) → wire format has_media_type place (value_in t value.now) ≡ Some text) }
+    value: &'w ShapeValue,
+) -> Result<CowStr<'w, Global>, SerdeError>
+    ensures ok { IfOk result (λ text. (t : Table) → wire format has_media_type place (value_in t value.now) ≡ Some (cow_str_bytes text)) }
     ensures err { IfErr result (λ e. (t : Table) → IsWireRefusal e (wire format has_media_type place (value_in t value.now)) (value_in t value.now)) }
 {
     match text_or_none(alloc, format, has_media_type, place, value) {
@@ -67,31 +71,50 @@ pub fn scalar_text(
 
 // The text of a scalar, or none of another value, of bytes outside headers, and of a year that the calendar has not.
 #[tactic(auto, unfolding(smithy_serde::specs::StoredValues::value_in))]
-fn text_or_none(
+fn text_or_none<'w>(
     alloc: Global,
     format: Option<TimestampFormat>,
     has_media_type: bool,
     place: Place,
-    value: &ShapeValue,
-) -> Result<Option<Text>, OutOfMemory>
-    ensures { IfOk result (λ text. (t : Table) → text ≡ wire format has_media_type place (value_in t value.now)) }
+    value: &'w ShapeValue,
+) -> Result<Option<CowStr<'w, Global>>, OutOfMemory>
+    ensures { IfOk result (λ text. (t : Table) → option_map cow_str_bytes text ≡ wire format has_media_type place (value_in t value.now)) }
 {
     match value {
-        ShapeValue::Boolean(b) => Ok(Some(Text::from_str(alloc, truth_word(*b))?)),
-        ShapeValue::Byte(n) => Ok(Some(number_text(alloc, i64::from(*n))?)),
-        ShapeValue::Short(n) => Ok(Some(number_text(alloc, i64::from(*n))?)),
-        ShapeValue::Integer(n) => Ok(Some(number_text(alloc, i64::from(*n))?)),
-        ShapeValue::Long(n) => Ok(Some(number_text(alloc, *n)?)),
-        ShapeValue::BigInteger(n) => Ok(Some(Text::from_str(alloc, n.as_str())?)),
-        ShapeValue::BigDecimal(n) => Ok(Some(Text::from_str(alloc, n.as_str())?)),
+        ShapeValue::Boolean(b) => Ok(Some(CowStr::Borrowed(truth_word(*b)))),
+        ShapeValue::Byte(n) => Ok(Some(made(number_text(alloc, i64::from(*n))?))),
+        ShapeValue::Short(n) => Ok(Some(made(number_text(alloc, i64::from(*n))?))),
+        ShapeValue::Integer(n) => Ok(Some(made(number_text(alloc, i64::from(*n))?))),
+        ShapeValue::Long(n) => Ok(Some(made(number_text(alloc, *n)?))),
+        ShapeValue::BigInteger(n) => Ok(Some(CowStr::Borrowed(n.as_str()))),
+        ShapeValue::BigDecimal(n) => Ok(Some(CowStr::Borrowed(n.as_str()))),
         ShapeValue::String(text) => Ok(Some(string_text(alloc, has_media_type, text.as_str())?)),
-        ShapeValue::Blob(bytes) => blob_text(alloc, place, bytes.as_slice()),
-        ShapeValue::Timestamp(time) => time_text(alloc, time_format(format, place), time),
+        ShapeValue::Blob(bytes) => Ok(made_or_none(blob_text(alloc, place, bytes.as_slice())?)),
+        ShapeValue::Timestamp(time) => {
+            let format = time_format(format, place);
+            Ok(made_or_none(time_text(alloc, format, time)?))
+        }
         ShapeValue::Document(_) => Ok(None),
         ShapeValue::Null => Ok(None),
         ShapeValue::List(_) => Ok(None),
         ShapeValue::Map(_) => Ok(None),
         ShapeValue::Struct(_) => Ok(None),
+    }
+}
+
+// A text that was made for the value.
+fn made<'w>(text: Text) -> CowStr<'w, Global>
+    ensures { cow_str_bytes result ≡ text }
+{
+    CowStr::Owned(text.into_string())
+}
+
+fn made_or_none<'w>(text: Option<Text>) -> Option<CowStr<'w, Global>>
+    ensures { option_map cow_str_bytes result ≡ text }
+{
+    match text {
+        Some(text) => Some(made(text)),
+        None => None,
     }
 }
 
@@ -131,13 +154,17 @@ pub(crate) fn truth_word(value: bool) -> &'static str
 }
 
 // A text, or its base64.
-fn string_text(alloc: Global, has_media_type: bool, text: &str) -> Result<Text, OutOfMemory>
-    ensures { IfOk result (λ t. t ≡ string_text_lem has_media_type text.now) }
+fn string_text<'w>(
+    alloc: Global,
+    has_media_type: bool,
+    text: &'w str,
+) -> Result<CowStr<'w, Global>, OutOfMemory>
+    ensures { IfOk result (λ t. cow_str_bytes t ≡ string_text_lem has_media_type text.now) }
 {
     if has_media_type {
-        return base64_text(alloc, text.as_bytes());
+        return Ok(made(base64_text(alloc, text.as_bytes())?));
     }
-    Text::from_str(alloc, text)
+    Ok(CowStr::Borrowed(text))
 }
 
 /// The base64 text of bytes (RFC 4648, section 4).
