@@ -1,6 +1,7 @@
 -- The map from names to texts, a label at a time.
 use Rattle.std.proofs.Common.{◌≡◌, ap, ◌∙◌, ℕ, ◌+◌, ◌<◌, Bool, true, false, cond, List, length, get_or, map, find, drop, Option, Some, option_map}
 use Rattle.std.specs.Borrow.{Bor}
+use Rattle.std.specs.Cow.{cow_str_bytes}
 use Rattle.std.proofs.lemmas.List.{drop_more}
 use Rattle.std.proofs.lemmas.Map.Text.{btree_map_updates_str}
 use Rattle.std.specs.BTreeMap.{BTreeMap, UpdatesBy, get_by}
@@ -14,7 +15,7 @@ use Rattle.smithy_binding.specs.Seen.{label_pair}
 
 -- the label at p goes in before those behind it
 pub text-more : (labels : List Label) (p q : ℕ) (label : Label) (old new : BTreeMap (Bor (List ℕ)) (Bor (List ℕ))) (text : Bor (List ℕ)) → p < length labels → q ≡ p + 1
-    → label ≡ get_or labels p label → text.now ≡ label.text
+    → label ≡ get_or labels p label → text.now ≡ cow_str_bytes label.text
     → UpdatesBy (λ x y. slice_cmp nat_cmp x.now y.now) (λ k. slice_cmp nat_cmp label.name.now k.now) old new (Some text)
     → ((name : List ℕ) → text_under old name ≡ found name (map label_pair (drop q labels)))
     → (name : List ℕ) → text_under new name ≡ found name (map label_pair (drop p labels))

@@ -1,14 +1,15 @@
 // What a body is, by the members of a schema (Smithy, HTTP protocol bindings, httpPayload).
-ghost use Rattle.std.specs.Prelude.{◌≡◌};
-ghost use Rattle.smithy_schema.specs.Nodes.{member_at};
+ghost use Rattle.std.specs.Prelude.{◌≡◌, Some, false, not};
+ghost use Rattle.std.specs.Option.{option_map_or};
+ghost use Rattle.smithy_schema.specs.Nodes.{member_at, is_bound};
 ghost use Rattle.smithy_schema.specs.References.{schema_of};
-ghost use Rattle.smithy_binding.specs.Bodies.{payload_kind as kind_of_payload};
-ghost use Rattle.smithy_binding.specs.BodyForms.{form_in, kind_if_payload, origin_by, unbound_form as form_without};
+ghost use Rattle.smithy_binding.specs.Bodies.{has_unbound_member as has_unbound};
+ghost use Rattle.smithy_binding.specs.BodyForms.{form_at, form_in, kind_if_payload, origin_by, unbound_form as form_without};
 ghost use Rattle.smithy_binding.specs.Placing.{is_codec};
 
-use crate::binding::{Binding, binding_of, has_unbound_members, member_count};
+use crate::binding::{has_unbound_members, member_count};
 use smithy_ids::ShapeType;
-use smithy_schema::SchemaRef;
+use smithy_schema::{Binding, SchemaRef};
 
 /// What a body is.
 #[derive(Clone, Copy, Drop)]
@@ -37,28 +38,45 @@ impl BodyForm {
     }
 }
 
-// The kind of the member at the position, where it is the payload.
-fn payload_kind_at(schema: SchemaRef<'_>, position: usize) -> Option<ShapeType>
-    ensures { result ≡ kind_if_payload (member_at (schema_of schema.entry) position) }
+// What a position of the members says of the body.
+#[derive(Clone, Copy, Drop)]
+struct BodyPart {
+    // The kind of its member, where that is the payload.
+    payload: Option<ShapeType>,
+    is_unbound: bool,
+}
+
+fn part_of(member: SchemaRef<'_>) -> BodyPart
+    ensures payload { result.payload ≡ kind_if_payload (Some (schema_of member.entry)) }
+    ensures unbound { result.is_unbound ≡ not (is_bound (schema_of member.entry)) }
 {
-    let member = schema.member_schema_by_index(position)?;
-    match binding_of(member) {
-        Binding::Payload => Some(member.shape_type()),
-        _ => None,
+    match member.request_binding() {
+        Binding::Payload => BodyPart {
+            payload: Some(member.shape_type()),
+            is_unbound: false,
+        },
+        Binding::Body => BodyPart {
+            payload: None,
+            is_unbound: true,
+        },
+        _ => BodyPart {
+            payload: None,
+            is_unbound: false,
+        },
     }
 }
 
-// The kind of the payload member, if there is one. Linear in the number of members.
-#[tactic(auto, using(crate::proofs::PayloadMembers::finding_payload))]
-fn payload_kind(schema: SchemaRef<'_>) -> Option<ShapeType>
-    ensures { result ≡ kind_of_payload (schema_of schema.entry) }
+fn part_at(schema: SchemaRef<'_>, position: usize) -> BodyPart
+    ensures payload { result.payload ≡ kind_if_payload (member_at (schema_of schema.entry) position) }
+    ensures unbound { result.is_unbound ≡ option_map_or (λ m. not (is_bound m)) (member_at (schema_of schema.entry) position) false }
 {
-    for position in 0..member_count(schema) {
-        if let Some(kind) = payload_kind_at(schema, position) {
-            return Some(kind);
-        }
+    match schema.member_schema_by_index(position) {
+        Some(member) => part_of(member),
+        None => BodyPart {
+            payload: None,
+            is_unbound: false,
+        },
     }
-    None
 }
 
 fn unbound_form(has_unbound: bool) -> BodyForm
@@ -71,15 +89,31 @@ fn unbound_form(has_unbound: bool) -> BodyForm
     }
 }
 
+// The form beside a payload of this kind.
+fn payload_form(schema: SchemaRef<'_>, kind: ShapeType) -> BodyForm
+    ensures { result ≡ form_at (Some kind) (has_unbound (schema_of schema.entry)) }
+{
+    match kind {
+        ShapeType::Blob => BodyForm::Raw,
+        ShapeType::String => BodyForm::Raw,
+        ShapeType::Structure => BodyForm::Payload,
+        ShapeType::Union => BodyForm::Payload,
+        _ => unbound_form(has_unbound_members(schema)),
+    }
+}
+
 /// What the body of a request by this schema is. Linear in the number of members; takes no memory.
+#[tactic(auto, using(crate::proofs::PayloadMembers::finding_payload, crate::proofs::UnboundMembers::finding_unbound))]
 pub fn body_form(schema: SchemaRef<'_>) -> BodyForm
     ensures { result ≡ form_in (schema_of schema.entry) }
 {
-    match payload_kind(schema) {
-        Some(ShapeType::Blob) => BodyForm::Raw,
-        Some(ShapeType::String) => BodyForm::Raw,
-        Some(ShapeType::Structure) => BodyForm::Payload,
-        Some(ShapeType::Union) => BodyForm::Payload,
-        _ => unbound_form(has_unbound_members(schema)),
+    let mut has_unbound = false;
+    for position in 0..member_count(schema) {
+        let part = part_at(schema, position);
+        if let Some(kind) = part.payload {
+            return payload_form(schema, kind);
+        }
+        has_unbound = has_unbound || part.is_unbound;
     }
+    unbound_form(has_unbound)
 }

@@ -1,12 +1,12 @@
 // The writes that a body is made of (Smithy, HTTP protocol bindings).
 ghost use Rattle.std.specs.Prelude.{◌≡◌, OnOk};
-ghost use Rattle.smithy_schema.specs.Nodes.{Table, binding_of as binding};
+ghost use Rattle.smithy_schema.specs.Nodes.{Table};
 ghost use Rattle.smithy_schema.specs.References.{schema_of};
+ghost use Rattle.smithy_schema.specs.ShownBindings.{binding_shown};
 ghost use Rattle.smithy_serde.specs.StoredValues.{value_in, IsDefined};
 ghost use Rattle.smithy_binding.specs.KeptWrites.{kept_at, kept_in, IsEmpty, IsKeptDefined};
 
-use crate::binding::{Binding, binding_of};
-use smithy_schema::SchemaRef;
+use smithy_schema::{Binding, SchemaRef};
 use smithy_serde::ShapeValue;
 use smithy_types::OutOfMemory;
 use std::alloc::Global;
@@ -38,12 +38,17 @@ impl<'t, 'w> BodyWrites<'t, 'w> {
         }
     }
 
-    /// Keeps a write of an unbound member, and the first of the payload. Takes memory.
-    pub fn keep(&mut self, member: SchemaRef<'t>, value: &'w ShapeValue) -> Result<(), OutOfMemory>
-        ensures kept { OnOk result ((t : Table) → kept_in t self.new ≡ kept_at (binding (schema_of member.entry)) (schema_of member.entry) (value_in t value.now) (kept_in t self.old)) }
+    /// Keeps a write of a member with this binding: each of an unbound member, and the first of the payload. Takes memory.
+    pub fn keep(
+        &mut self,
+        member: SchemaRef<'t>,
+        binding: Binding<'_>,
+        value: &'w ShapeValue,
+    ) -> Result<(), OutOfMemory>
+        ensures kept { OnOk result ((t : Table) → kept_in t self.new ≡ kept_at (binding_shown binding.entry) (schema_of member.entry) (value_in t value.now) (kept_in t self.old)) }
         ensures defined { OnOk result ((t : Table) → IsKeptDefined t self.old → IsDefined t value.now → IsKeptDefined t self.new) }
     {
-        match binding_of(member) {
+        match binding {
             Binding::Body => {
                 self.unbound.push(BodyWrite { member, value })?;
                 Ok(())

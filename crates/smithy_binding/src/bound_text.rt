@@ -1,29 +1,30 @@
 // The text of a value where its member is bound (Smithy, HTTP protocol bindings; timestampFormat, mediaType).
 ghost use Rattle.std.specs.Prelude.{◌≡◌, IfOk, IfErr, None, Some, false, is_some};
+ghost use Rattle.std.specs.Cow.{cow_str_bytes};
 ghost use Rattle.smithy_schema.specs.Nodes.{Table};
 ghost use Rattle.smithy_schema.specs.References.{schema_of};
+ghost use Rattle.smithy_schema.specs.ShownBindings.{binding_shown};
 ghost use Rattle.smithy_serde.specs.StoredValues.{value_in, label_at};
 ghost use Rattle.smithy_strings.specs.Wire.{wire};
-ghost use Rattle.smithy_binding.specs.Bindings.{place_of as place, member_text, element_text as element};
+ghost use Rattle.smithy_binding.specs.Bindings.{place_at, member_text, element_text as element};
 ghost use Rattle.smithy_binding.specs.Refusing.{TellsFault, no_year as no_year_fault};
 
-use crate::binding::{Binding, binding_of};
 use crate::refusal::no_year;
 use smithy_ids::TimestampFormat;
-use smithy_schema::{SchemaIndex, SchemaRef, Schemas};
+use smithy_schema::{Binding, SchemaIndex, SchemaRef, Schemas};
 use smithy_serde::{SerdeError, ShapeValue};
 use smithy_strings::{Place, format_in, scalar_text};
-use smithy_types::Text;
 use std::alloc::Global;
+use std::borrow::CowStr;
 
 #[cfg(test)]
 mod tests;
 
-// Where the texts of the member stand.
-fn place_of(member: SchemaRef<'_>) -> Place
-    ensures { result ≡ place (schema_of member.entry) }
+/// Where the texts of a member with this binding stand.
+pub fn place_of(binding: Binding<'_>) -> Place
+    ensures { result ≡ place_at (binding_shown binding.entry) }
 {
-    match binding_of(member) {
+    match binding {
         Binding::Header(_) => Place::Header,
         Binding::Prefix(_) => Place::Header,
         Binding::Label => Place::Label,
@@ -51,14 +52,14 @@ fn format_at(table: &Schemas, node: SchemaIndex) -> Option<TimestampFormat>
 }
 
 // The text of a scalar. Of the values that a binding takes, only a time may have none.
-fn text_or_no_year(
+fn text_or_no_year<'w>(
     alloc: Global,
     format: Option<TimestampFormat>,
     has_media_type: bool,
     place: Place,
-    value: &ShapeValue,
-) -> Result<Text, SerdeError>
-    ensures ok { IfOk result (λ s. (t : Table) → wire format has_media_type place (value_in t value.now) ≡ Some s) }
+    value: &'w ShapeValue,
+) -> Result<CowStr<'w, Global>, SerdeError>
+    ensures ok { IfOk result (λ s. (t : Table) → wire format has_media_type place (value_in t value.now) ≡ Some (cow_str_bytes s)) }
     ensures err { IfErr result (λ e. (t : Table) → TellsFault e (λ f. (f ≡ no_year_fault) × (wire format has_media_type place (value_in t value.now) ≡ None))) }
 {
     match scalar_text(alloc, format, has_media_type, place, value) {
@@ -68,31 +69,37 @@ fn text_or_no_year(
     }
 }
 
-/// The text of a scalar by the time format and the media type of its member. `Custom` for a time whose year is not in
-/// the calendar of its format. Takes memory.
-pub fn text_of(alloc: Global, member: SchemaRef<'_>, value: &ShapeValue) -> Result<Text, SerdeError>
-    ensures ok { IfOk result (λ s. (t : Table) → member_text (place (schema_of member.entry)) (schema_of member.entry) (value_in t value.now) ≡ Some s) }
-    ensures err { IfErr result (λ e. (t : Table) → TellsFault e (λ f. (f ≡ no_year_fault) × (member_text (place (schema_of member.entry)) (schema_of member.entry) (value_in t value.now) ≡ None))) }
+/// The text of a scalar at a place, by the time format and the media type of its member; the value's own text, borrowed,
+/// where it stands ready. `Custom` for a time whose year is not in the calendar of its format. Takes memory for a text
+/// that is made.
+pub fn text_of<'w>(
+    alloc: Global,
+    member: SchemaRef<'_>,
+    place: Place,
+    value: &'w ShapeValue,
+) -> Result<CowStr<'w, Global>, SerdeError>
+    ensures ok { IfOk result (λ s. (t : Table) → member_text place (schema_of member.entry) (value_in t value.now) ≡ Some (cow_str_bytes s)) }
+    ensures err { IfErr result (λ e. (t : Table) → TellsFault e (λ f. (f ≡ no_year_fault) × (member_text place (schema_of member.entry) (value_in t value.now) ≡ None))) }
 {
     text_or_no_year(
         alloc,
         format_in(member),
         has_media_type(member),
-        place_of(member),
+        place,
         value,
     )
 }
 
-/// The text of an element by the time format of the node with which it was written. `Custom` as of `text_of`. Takes
-/// memory.
-pub fn element_text(
+/// The text of an element by the time format of the node with which it was written, borrowed as `text_of` gives it, with
+/// the same refusal and memory.
+pub fn element_text<'w>(
     alloc: Global,
     table: &Schemas,
     place: Place,
     node: SchemaIndex,
-    value: &ShapeValue,
-) -> Result<Text, SerdeError>
-    ensures ok { IfOk result (λ s. element place (record { label = label_at table.now node.0; value = value_in table.now value.now }) ≡ Some s) }
+    value: &'w ShapeValue,
+) -> Result<CowStr<'w, Global>, SerdeError>
+    ensures ok { IfOk result (λ s. element place (record { label = label_at table.now node.0; value = value_in table.now value.now }) ≡ Some (cow_str_bytes s)) }
     ensures err { IfErr result (λ e. TellsFault e (λ f. (f ≡ no_year_fault) × (element place (record { label = label_at table.now node.0; value = value_in table.now value.now }) ≡ None))) }
 {
     text_or_no_year(alloc, format_at(table, node), false, place, value)

@@ -2,7 +2,7 @@
 ghost use Rattle.std.specs.Prelude.{IsTrue};
 ghost use Rattle.smithy_types.specs.Grammars.{is_header_value};
 
-use crate::place::place_recorded;
+use crate::place::place_writes;
 use smithy_http::Request;
 use smithy_ids::ShapeId;
 use smithy_schema::SchemaRef;
@@ -146,14 +146,28 @@ impl<C: Codec> HttpBindingProtocol<C> {
         ensures placed { IfOk result (λ r. place (record { content_type = content_type_of self.now; text_of = C.text (codec_of self.now) }) (schema_of schema.entry) (list_of (writes input.now)) endpoint.now (omit_of omit) ≡ Some r) }
         ensures err { IfErr result (λ e. TellsFault e (λ f. fault (schema_of schema.entry) (list_of (writes input.now)) endpoint.now ≡ Some f)) }
     {
+        let content_type = self.content_type;
+        if let Some((table, writes)) = input.stored_writes() {
+            return place_writes(
+                alloc,
+                body,
+                table,
+                writes,
+                schema,
+                endpoint,
+                content_type,
+                omit,
+            );
+        }
         let recorded = record_members(alloc, input)?;
-        place_recorded(
+        place_writes(
             alloc,
             body,
-            &recorded,
+            recorded.table(),
+            recorded.writes(),
             schema,
             endpoint,
-            self.content_type,
+            content_type,
             omit,
         )
     }

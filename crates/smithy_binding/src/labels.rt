@@ -4,15 +4,15 @@ ghost use Rattle.smithy_types.specs.Texts.{found};
 ghost use Rattle.smithy_binding.specs.Seen.{label_pair};
 ghost use Rattle.smithy_binding.specs.LabelTexts.{text_under};
 
-use smithy_types::Text;
 use std::alloc::{AllocError, Global};
+use std::borrow::CowStr;
 use std::collections::BTreeMap;
 
-/// The text of a label member, by the member's name.
+/// The text of a label member, by the member's name. The text is borrowed where it stands ready in the value.
 #[derive(Drop)]
-pub struct Label<'t> {
+pub struct Label<'t, 'w> {
     pub name: &'t str,
-    pub text: Text,
+    pub text: CowStr<'w, Global>,
 }
 
 /// The text of each label by its name.
@@ -22,7 +22,7 @@ pub type LabelTexts<'l> = BTreeMap<&'l str, &'l str>;
 #[tactic(auto, unfolding(crate::specs::LabelTexts::text_under))]
 pub fn texts_by_name<'l>(
     alloc: Global,
-    labels: &'l [Label<'l>],
+    labels: &'l [Label<'l, 'l>],
 ) -> Result<LabelTexts<'l>, AllocError>
     ensures { IfOk result (λ m. text_under m ≡ (λ name. found name (map label_pair labels.now))) }
 {

@@ -126,7 +126,9 @@ fn put_entry(
     ensures put { OnOk result (headers.new ≡ put_all headers.old ((str_to_ascii_lowercase (prefix.now ++ key.now), value.now) ∷ [])) }
     ensures err { IfErr result (λ e. TellsFault e (λ f. pairs_fault (schema_of member.entry) ((str_to_ascii_lowercase (prefix.now ++ key.now), value.now) ∷ []) ≡ Some f)) }
 {
-    let name = format!(in alloc; "{prefix}{key}")?;
+    let mut name = String::with_capacity(alloc, prefix.len() + key.len())?;
+    name.push_str(prefix)?;
+    name.push_str(key)?;
     put_header(alloc, member, headers, name.as_str(), value)
 }
 

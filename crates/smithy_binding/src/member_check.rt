@@ -9,9 +9,9 @@ ghost use Rattle.smithy_binding.specs.CheckedOutput.{is_response_bound_once as r
 ghost use Rattle.smithy_binding.specs.Checking.{is_map_binding as map_binding, has_prefix_kind as prefix_kind, has_code_kind as code_kind, is_sound_member as sound_request_member, is_sound_response_member as sound_response_member, is_sound_in, is_payload_in, is_bound_in as bound_in};
 ghost use Rattle.smithy_binding.specs.Bodies.{is_payload as payload};
 
-use crate::binding::{Binding, binding_of, is_bound};
+use crate::binding::is_bound;
 use smithy_ids::{ShapeType, TimestampFormat};
-use smithy_schema::SchemaRef;
+use smithy_schema::{Binding, SchemaRef};
 
 /// Whose members they are: those of an input stand in a request, those of an output in a response.
 #[derive(Clone, Copy)]
@@ -294,7 +294,7 @@ pub fn is_sound_member(member: SchemaRef<'_>, way: Direction) -> bool
 fn is_request_payload(member: SchemaRef<'_>) -> bool
     ensures { result ≡ payload (binding (schema_of member.entry)) }
 {
-    match binding_of(member) {
+    match member.request_binding() {
         Binding::Payload => true,
         _ => false,
     }

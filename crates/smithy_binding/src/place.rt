@@ -1,9 +1,8 @@
 // The request of an input (Smithy, HTTP protocol bindings).
-ghost use Rattle.std.specs.Prelude.{◌≡◌, IsTrue, IfOk, IfErr, None, Some};
+ghost use Rattle.std.specs.Prelude.{◌≡◌, IsTrue, IfOk, IfErr, None, Some, string_bytes};
 ghost use Rattle.smithy_types.specs.Grammars.{is_token, is_header_value};
 ghost use Rattle.smithy_schema.specs.References.{schema_of};
 ghost use Rattle.smithy_serde.specs.StoredValues.{writes_in, AreDefined};
-ghost use Rattle.smithy_serde.specs.Recording.{recorded_writes, IsSoundRecord};
 ghost use Rattle.smithy_serde.specs.Told.{empty_state};
 ghost use Rattle.smithy_serde.specs.Values.{list_of};
 ghost use Rattle.smithy_binding.specs.Checked.{checked_input};
@@ -18,10 +17,10 @@ use crate::default_headers::add_defaults;
 use crate::placement::{RequestParts, gather_writes};
 use crate::refusal::{not_legal, too_long};
 use crate::target::whole_target;
-use smithy_http::{Headers, HttpError, Request};
+use smithy_http::{Headers, Request};
 use smithy_schema::{SchemaRef, Schemas};
-use smithy_serde::{FinishSerializer, OmitFlags, Recorded, SerdeError, WriteList};
-use smithy_types::{Blob, MAX_TARGET_LEN};
+use smithy_serde::{FinishSerializer, OmitFlags, SerdeError, WriteList};
+use smithy_types::{Blob, MAX_TARGET_LEN, Text};
 use std::alloc::Global;
 
 #[cfg(test)]
@@ -50,53 +49,49 @@ fn template_of<'t>(schema: SchemaRef<'t>, endpoint: &'t str) -> &'t str
 fn request_with(
     alloc: Global,
     method: &str,
-    target: &str,
+    target: String,
     headers: Headers,
     body: Blob,
 ) -> Result<Request, SerdeError>
     requires { IsTrue (is_token method.now) }
-    ensures request { IfOk result (λ r. r ≡ record { method = method.now; target = target.now; headers = headers; body = body }) }
-    ensures ok { IfOk result (λ _. legal_fault target.now ≡ None) }
-    ensures err { IfErr result (λ e. TellsFault e (λ f. legal_fault target.now ≡ Some f)) }
+    ensures request { IfOk result (λ r. r ≡ record { method = method.now; target = string_bytes target; headers = headers; body = body }) }
+    ensures ok { IfOk result (λ _. legal_fault (string_bytes target) ≡ None) }
+    ensures err { IfErr result (λ e. TellsFault e (λ f. legal_fault (string_bytes target) ≡ Some f)) }
 {
     if target.len() > MAX_TARGET_LEN {
         return Err(too_long(alloc));
     }
-    let mut request = Request::new(alloc, body)?;
-    request.set_method(method)?;
-    match request.set_uri(target) {
-        Ok(()) => {}
-        Err(HttpError::Target) => return Err(not_legal(alloc)),
-        Err(_) => return Err(SerdeError::OutOfMemory),
+    let method = Text::from_str(alloc, method)?;
+    match Request::from_parts(method, Text::from_string(target), headers, body) {
+        Ok(request) => Ok(request),
+        Err(_) => Err(not_legal(alloc)),
     }
-    *request.headers_mut() = headers;
-    Ok(request)
 }
 
-/// The request of what was recorded of an input, placed by a checked input schema; `serializer` writes the body. Its
-/// refusals are those of `HttpBindingProtocol::serialize_request`. Takes memory.
-pub fn place_recorded<S: FinishSerializer + Drop>(
+/// The request of the writes, whose nodes are those of the table, placed by a checked input schema; `serializer` writes
+/// the body. Its refusals are those of `HttpBindingProtocol::serialize_request`. Takes memory.
+pub fn place_writes<S: FinishSerializer + Drop>(
     alloc: Global,
     serializer: S,
-    recorded: &Recorded,
+    table: &Schemas,
+    writes: &WriteList,
     schema: SchemaRef<'_>,
     endpoint: &str,
     content_type: &str,
     omit: OmitFlags,
 ) -> Result<Request, SerdeError>
     requires checked { IsTrue (checked_input (schema_of schema)) }
-    requires sound { IsSoundRecord recorded.now }
+    requires defined { AreDefined table.now writes.now }
     requires content_type { IsTrue (is_header_value content_type.now) }
     requires lawful { S.lawful serializer }
     requires told { S.stands_for serializer empty_state }
     requires unrefused { S.first_refusal serializer ≡ None }
-    ensures ok { IfOk result (λ _. fault (schema_of schema.entry) (list_of (recorded_writes recorded.now)) endpoint.now ≡ None) }
-    ensures placed { IfOk result (λ r. place (record { content_type = content_type.now; text_of = S.text serializer }) (schema_of schema.entry) (list_of (recorded_writes recorded.now)) endpoint.now (omit_of omit) ≡ Some r) }
-    ensures err { IfErr result (λ e. TellsFault e (λ f. fault (schema_of schema.entry) (list_of (recorded_writes recorded.now)) endpoint.now ≡ Some f)) }
+    ensures ok { IfOk result (λ _. fault (schema_of schema.entry) (list_of (writes_in table.now writes.now)) endpoint.now ≡ None) }
+    ensures placed { IfOk result (λ r. place (record { content_type = content_type.now; text_of = S.text serializer }) (schema_of schema.entry) (list_of (writes_in table.now writes.now)) endpoint.now (omit_of omit) ≡ Some r) }
+    ensures err { IfErr result (λ e. TellsFault e (λ f. fault (schema_of schema.entry) (list_of (writes_in table.now writes.now)) endpoint.now ≡ Some f)) }
 {
-    let table = recorded.table();
     let mut parts = RequestParts::new(alloc, schema)?;
-    gather_writes(alloc, schema, table, recorded.writes(), &mut parts)?;
+    gather_writes(alloc, schema, table, writes, &mut parts)?;
     let form = body_form(schema);
     let body = request_body(alloc, serializer, schema, form, table, &parts.body)?;
     let template = template_of(schema, endpoint);
@@ -115,11 +110,5 @@ pub fn place_recorded<S: FinishSerializer + Drop>(
         length,
         omit,
     )?;
-    request_with(
-        alloc,
-        method_of(schema),
-        target.as_str(),
-        parts.headers,
-        body,
-    )
+    request_with(alloc, method_of(schema), target, parts.headers, body)
 }

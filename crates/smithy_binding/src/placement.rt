@@ -1,8 +1,9 @@
 // What the writes put into a request, one by one.
 ghost use Rattle.std.specs.Prelude.{◌≡◌, ◌∷◌, ◌++◌, [], IsTrue, IfOk, IfErr, OnOk, Ok, Err, Some, None, true, false, ℕ, length, drop, option_map, slice_index_or, slice_set};
 ghost use Rattle.std.specs.List.{list_all};
-ghost use Rattle.smithy_schema.specs.Nodes.{Table, element_of, members_of, to_header, binding_of as binding};
+ghost use Rattle.smithy_schema.specs.Nodes.{Table, element_of, members_of, to_header, binding_of};
 ghost use Rattle.smithy_schema.specs.References.{schema_of};
+ghost use Rattle.smithy_schema.specs.ShownBindings.{binding_shown};
 ghost use Rattle.smithy_serde.specs.Fits.{fits_member as fits};
 ghost use Rattle.smithy_serde.specs.StoredValues.{value_in, writes_in, label_at, IsDefined, AreDefined, HasNode};
 ghost use Rattle.smithy_serde.specs.Values.{label_of, list, list_of, map};
@@ -17,9 +18,9 @@ ghost use Rattle.smithy_binding.specs.Refusing.{TellsFault};
 ghost use Rattle.smithy_binding.specs.Seen.{gathered_of};
 ghost use Rattle.smithy_binding.specs.KeptWrites.{body_parts, keep, keep_all, kept_in, IsEmpty, IsKeptDefined};
 
-use crate::binding::{Binding, binding_of, is_placed, name_of};
+use crate::binding::{is_placed, name_of};
 use crate::body_writes::BodyWrites;
-use crate::bound_text::text_of;
+use crate::bound_text::{place_of, text_of};
 use crate::elements::{element_kind, listed_text, push_elements, test_elements};
 use crate::kinds::fits_member;
 use crate::labels::Label;
@@ -29,7 +30,7 @@ use crate::refusal::{unknown_member, wrong_kind};
 use crate::resolve::resolve;
 use crate::target::push_pair;
 use smithy_http::Headers;
-use smithy_schema::{SchemaIndex, SchemaRef, Schemas};
+use smithy_schema::{Binding, SchemaIndex, SchemaRef, Schemas};
 use smithy_serde::{SerdeError, ShapeValue, WriteList};
 use smithy_types::OutOfMemory;
 use std::alloc::{AllocError, Global};
@@ -42,7 +43,7 @@ pub struct RequestParts<'t, 'w> {
     pub headers: Headers,
     /// Each pair behind a `&`.
     pub query: String,
-    pub labels: Vec<Label<'t>>,
+    pub labels: Vec<Label<'t, 'w>>,
     pub body: BodyWrites<'t, 'w>,
 }
 
@@ -78,13 +79,15 @@ fn mark(seen: &mut Vec<bool>, position: usize)
 }
 
 // Puts the first write of one value.
-fn add_single<'t>(
+fn add_single<'t, 'w>(
     alloc: Global,
     schema: SchemaRef<'_>,
     member: SchemaRef<'t>,
-    parts: &mut RequestParts<'t, '_>,
-    value: &ShapeValue,
+    binding: Binding<'_>,
+    parts: &mut RequestParts<'t, 'w>,
+    value: &'w ShapeValue,
 ) -> Result<(), SerdeError>
+    requires bound { binding_shown binding ≡ binding_of (schema_of member) }
     requires placed { IsTrue (is_text_member (schema_of member)) }
     requires single { (t : Table) → IsSingle (value_in t value.now) }
     ensures ok { OnOk result ((t : Table) → first_fault (schema_of member.entry) (value_in t value.now) ≡ None) }
@@ -92,8 +95,8 @@ fn add_single<'t>(
     ensures body { OnOk result (parts.new.body ≡ parts.old.body) }
     ensures err { IfErr result (λ e. (t : Table) → TellsFault e (λ f. first_fault (schema_of member.entry) (value_in t value.now) ≡ Some f)) }
 {
-    let text = text_of(alloc, member, value)?;
-    match binding_of(member) {
+    let text = text_of(alloc, member, place_of(binding), value)?;
+    match binding {
         Binding::Header(name) => put_header(alloc, member, &mut parts.headers, name, text.as_str()),
         Binding::Query(name) => {
             push_pair(&mut parts.query, name, text.as_str())?;
@@ -117,7 +120,7 @@ fn put_list(
     name: &str,
     elements: &WriteList,
 ) -> Result<(), SerdeError>
-    requires header { to_header name.now ≡ binding (schema_of member) }
+    requires header { to_header name.now ≡ binding_of (schema_of member) }
     requires kinds { element_fault (schema_of member) (kind_or_none (element_of (schema_of member))) (writes_in table.now elements.now) ≡ None }
     ensures ok { OnOk result (first_fault (schema_of member.entry) (list (writes_in table.now elements.now)) ≡ None) }
     ensures put { OnOk result (headers.new ≡ put_all headers.old (inserted_at (to_header name.now) (schema_of member.entry) (list (writes_in table.now elements.now)))) }
@@ -133,17 +136,19 @@ fn add_list<'t>(
     schema: SchemaRef<'_>,
     table: &Schemas,
     member: SchemaRef<'t>,
+    binding: Binding<'_>,
     parts: &mut RequestParts<'t, '_>,
     elements: &WriteList,
 ) -> Result<(), SerdeError>
-    requires placed { IsTrue (is_list_binding (binding (schema_of member))) }
+    requires bound { binding_shown binding ≡ binding_of (schema_of member) }
+    requires placed { IsTrue (is_list_binding (binding_of (schema_of member))) }
     ensures ok { OnOk result (first_fault (schema_of member.entry) (list (writes_in table.now elements.now)) ≡ None) }
     ensures put { OnOk result (gathered_of parts.new ≡ placed_first (schema_of schema.entry) (schema_of member.entry) (list (writes_in table.now elements.now)) (gathered_of parts.old)) }
     ensures body { OnOk result (parts.new.body ≡ parts.old.body) }
     ensures err { IfErr result (λ e. TellsFault e (λ f. first_fault (schema_of member.entry) (list (writes_in table.now elements.now)) ≡ Some f)) }
 {
     test_elements(alloc, table, member, element_kind(member), elements)?;
-    match binding_of(member) {
+    match binding {
         Binding::Header(name) => {
             put_list(alloc, table, member, &mut parts.headers, name, elements)
         }
@@ -158,10 +163,12 @@ fn add_map<'t>(
     schema: SchemaRef<'_>,
     table: &Schemas,
     member: SchemaRef<'t>,
+    binding: Binding<'_>,
     parts: &mut RequestParts<'t, '_>,
     entries: &WriteList,
 ) -> Result<(), SerdeError>
-    requires placed { IsTrue (takes_map (binding (schema_of member))) }
+    requires bound { binding_shown binding ≡ binding_of (schema_of member) }
+    requires placed { IsTrue (takes_map (binding_of (schema_of member))) }
     requires texts { IsTrue (is_text_map (schema_of member)) }
     ensures ok { OnOk result (first_fault (schema_of member.entry) (map (writes_in table.now entries.now)) ≡ None) }
     ensures put { OnOk result (gathered_of parts.new ≡ placed_first (schema_of schema.entry) (schema_of member.entry) (map (writes_in table.now entries.now)) (gathered_of parts.old)) }
@@ -169,7 +176,7 @@ fn add_map<'t>(
     ensures err { IfErr result (λ e. TellsFault e (λ f. first_fault (schema_of member.entry) (map (writes_in table.now entries.now)) ≡ Some f)) }
 {
     test_map(alloc, table, member, entries)?;
-    match binding_of(member) {
+    match binding {
         Binding::Prefix(prefix) => {
             put_entries(alloc, table, member, &mut parts.headers, prefix, entries)
         }
@@ -183,15 +190,17 @@ fn add_map<'t>(
 
 // Puts the first write of a member in the headers, the query or a label, which fits.
 #[tactic(auto, unfolding(smithy_serde::specs::StoredValues::value_in))]
-fn add_first<'t>(
+fn add_first<'t, 'w>(
     alloc: Global,
     schema: SchemaRef<'_>,
     table: &Schemas,
     member: SchemaRef<'t>,
-    parts: &mut RequestParts<'t, '_>,
-    value: &ShapeValue,
+    binding: Binding<'_>,
+    parts: &mut RequestParts<'t, 'w>,
+    value: &'w ShapeValue,
 ) -> Result<(), SerdeError>
-    requires placed { IsTrue (is_placed_at (binding (schema_of member))) }
+    requires bound { binding_shown binding ≡ binding_of (schema_of member) }
+    requires placed { IsTrue (is_placed_at (binding_of (schema_of member))) }
     requires kinds { IsTrue (has_placed_kind (schema_of member)) }
     requires fits { IsTrue (fits (schema_of member) (value_in table.now value.now)) }
     ensures ok { OnOk result (first_fault (schema_of member.entry) (value_in table.now value.now) ≡ None) }
@@ -200,9 +209,11 @@ fn add_first<'t>(
     ensures err { IfErr result (λ e. TellsFault e (λ f. first_fault (schema_of member.entry) (value_in table.now value.now) ≡ Some f)) }
 {
     match value {
-        ShapeValue::List(elements) => add_list(alloc, schema, table, member, parts, elements),
-        ShapeValue::Map(entries) => add_map(alloc, schema, table, member, parts, entries),
-        _ => add_single(alloc, schema, member, parts, value),
+        ShapeValue::List(elements) => add_list(
+            alloc, schema, table, member, binding, parts, elements,
+        ),
+        ShapeValue::Map(entries) => add_map(alloc, schema, table, member, binding, parts, entries),
+        _ => add_single(alloc, schema, member, binding, parts, value),
     }
 }
 
@@ -225,15 +236,16 @@ fn add_resolved<'t, 'w>(
     if !fits_member(member, value) {
         return Err(wrong_kind(alloc, member, value));
     }
-    parts.body.keep(member, value)?;
+    let binding = member.request_binding();
+    parts.body.keep(member, binding, value)?;
     if is_seen(parts.seen.as_slice(), position) {
         return Ok(());
     }
     mark(&mut parts.seen, position);
-    if !is_placed(member) {
+    if !is_placed(binding) {
         return Ok(());
     }
-    add_first(alloc, schema, table, member, parts, value)
+    add_first(alloc, schema, table, member, binding, parts, value)
 }
 
 // Puts a write of this node.

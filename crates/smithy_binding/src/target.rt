@@ -124,7 +124,11 @@ fn fill_by<'l>(
 }
 
 // The template with the text of each hole, which the labels have by its name.
-fn fill<'l>(alloc: Global, template: &'l str, labels: &'l [Label<'l>]) -> Result<String, SerdeError>
+fn fill<'l>(
+    alloc: Global,
+    template: &'l str,
+    labels: &'l [Label<'l, 'l>],
+) -> Result<String, SerdeError>
     ensures ok { IfOk result (λ t. filled (pieces template.now) (map label_pair labels.now) ≡ Ok (string_bytes t)) }
     ensures err { IfErr result (λ e. TellsFault e (λ f. hole_fault (filled (pieces template.now) (map label_pair labels.now)) ≡ Some f)) }
 {
@@ -179,7 +183,7 @@ fn push_query(path: &mut String, query: &str) -> Result<(), OutOfMemory>
 pub fn whole_target<'l>(
     alloc: Global,
     template: &'l str,
-    labels: &'l [Label<'l>],
+    labels: &'l [Label<'l, 'l>],
     query: &str,
 ) -> Result<String, SerdeError>
     ensures ok { IfOk result (λ t. target_with template.now (map label_pair labels.now) query.now ≡ Ok (string_bytes t)) }

@@ -20,7 +20,7 @@ loop-place-preserved c =
     let w : Write = record { label = label_at t c.in-Some.node.0; value = value_in t c.in-Some.value.now } in
     let so_far = c.loop-place.invariant in
     let text = c.as_str.result.now in
-    let found : element_text at.Header w ≡ Some text = c.in_ok-text.ensures.ok ∙ ap Some (sym c.as_str.ensures) in
+    let found : element_text at.Header w ≡ Some text = c.in_ok-text.ensures.ok ∙ ap Some (sym c.as_str.ensures.value) in
     record {
       texts = so_far.texts ++ text ∷ [];
       are = AreTexts-more (element_text at.Header) ws c.loop-place.place so_far.texts w text (sym (c.in-Some.ensures.write t)) found so_far.are;

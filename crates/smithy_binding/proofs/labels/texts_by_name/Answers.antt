@@ -15,5 +15,5 @@ pub loop-i-preserved : goal.loop-i-preserved
 loop-i-preserved c = record {
   within = omega arith;
   found = text-more c.args.labels.now (c.loop-i.i - 1) c.loop-i.i c.index-labels-i.result c.loop-i.texts c.insert.new.self c.as_str.result (omega arith) (omega arith)
-      c.index-labels-i.is c.as_str.ensures c.in_ok-insert.ensures.updates c.loop-i.invariant.found;
+      c.index-labels-i.is c.as_str.ensures.value c.in_ok-insert.ensures.updates c.loop-i.invariant.found;
 }

@@ -15,7 +15,7 @@ add_list-requires c =
     let m = schema_of c.args.member in
     let ws = writes_in c.args.table.now c.in-List.elements in
     let fit : fits_member m (list ws) ≡ true = sym (ap (λ (v : ShapeValue). fits_member m (value_in c.args.table.now v)) c.in-List.is) ∙ c.requires.fits in
-    record { placed = list-fits m ws c.requires.placed c.requires.kinds fit }
+    record { bound = c.requires.bound; placed = list-fits m ws c.requires.placed c.requires.kinds fit }
 
 pub add_map-requires : goal.add_map-requires
 unfolding value_in
@@ -24,7 +24,7 @@ add_map-requires c =
     let ws = writes_in c.args.table.now c.in-Map.entries in
     let fit : fits_member m (map ws) ≡ true = sym (ap (λ (v : ShapeValue). fits_member m (value_in c.args.table.now v)) c.in-Map.is) ∙ c.requires.fits in
     let placed = map-fits m ws c.requires.placed c.requires.kinds fit in
-    record { placed = placed; texts = map-texts m c.requires.kinds placed }
+    record { bound = c.requires.bound; placed = placed; texts = map-texts m c.requires.kinds placed }
 
 pub add_single-requires-clause-placed : goal.add_single-requires-clause-placed
 unfolding value_in

@@ -1,5 +1,6 @@
-use Rattle.std.proofs.Common.{string_bytes}
+use Rattle.std.proofs.Common.{ap, sym, ◌∙◌, string_bytes}
 use Rattle.smithy_schema.specs.References.{schema_of}
+use Rattle.smithy_schema.specs.ShownBindings.{binding_shown}
 use Rattle.smithy_serde.specs.StoredValues.{writes_in}
 use Rattle.smithy_serde.specs.Values.{map}
 use Rattle.smithy_binding.specs.Seen.{gathered_of}
@@ -15,5 +16,5 @@ push_entries-requires c = whole-texts (schema_of c.args.member) (writes_in c.arg
 
 pub returns-in_ok-push_entries-in-QueryMap-clause-put : goal.returns-in_ok-push_entries-in-QueryMap-clause-put
 returns-in_ok-push_entries-in-QueryMap-clause-put c =
-    placed-query_map (schema_of c.args.schema) (schema_of c.args.member) (map (writes_in c.args.table.now c.args.entries.now)) (gathered_of c.args.parts.now) (string_bytes c.push_entries.new.query) c.in-QueryMap.ensures
+    placed-query_map (schema_of c.args.schema) (schema_of c.args.member) (map (writes_in c.args.table.now c.args.entries.now)) (gathered_of c.args.parts.now) (string_bytes c.push_entries.new.query) (ap binding_shown (sym c.in-QueryMap.is) ∙ c.requires.bound)
     c.in_ok-push_entries-in-QueryMap.ensures

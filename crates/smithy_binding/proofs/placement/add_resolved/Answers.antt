@@ -1,13 +1,14 @@
 use Rattle.std.proofs.Common.{◌≡◌, ℕ, ap, sym, ◌∙◌, subst, Bool, List, true, false, slice_set, Ok, Err}
-use Rattle.smithy_schema.specs.Nodes.{Schema}
+use Rattle.smithy_schema.specs.Nodes.{Schema, Binding}
 use Rattle.smithy_schema.specs.References.{schema_of}
 use Rattle.smithy_serde.specs.StoredValues.{value_in}
 use Rattle.smithy_serde.specs.Values.{Value}
 use Rattle.smithy_serde.specs.Writes.{Resolved}
+use Rattle.smithy_binding.specs.Faults.{is_placed_at}
 use Rattle.smithy_binding.specs.Gather.{Gathered, is_seen}
 use Rattle.smithy_binding.specs.Placed.{placed_first}
 use Rattle.smithy_binding.specs.Seen.{gathered_of}
-use Rattle.smithy_binding.specs.KeptWrites.{kept_in, IsKeptDefined}
+use Rattle.smithy_binding.specs.KeptWrites.{kept_at, kept_in, IsKeptDefined}
 use Rattle.smithy_binding.proofs.Refusals.{TellsFault-then, IfErr-then, OnOk-then, OnOk-both}
 use Rattle.smithy_binding.proofs.KeptSteps.{add-unplaced}
 use Rattle.smithy_binding.proofs.WriteSteps.{add-wrong, add-again, add-first, add-fault}
@@ -61,13 +62,15 @@ returns-then-not-is_placed-clause-ok c =
     let seen : is_seen s c.args.position ≡ false = (rw c.as_slice.ensures.value at (sym c.is_seen.ensures)) ∙ c.if-is_seen.false in
     let t = c.args.table.now in
     let marked : c.mark.new.seen.items ≡ slice_set s.seen c.args.position true = c.mark.ensures in
-    add-unplaced (schema_of c.args.schema) s (write_of c.args.position m (value_in t c.args.value.now)) (sym (c.fits_member.ensures t) ∙ c.if-not-fits_member.false) seen (sym c.is_placed.ensures ∙ c.if-not-is_placed.true)
+    add-unplaced (schema_of c.args.schema) s (write_of c.args.position m (value_in t c.args.value.now)) (sym (c.fits_member.ensures t) ∙ c.if-not-fits_member.false) seen (ap is_placed_at (sym c.request_binding-binding.ensures) ∙ sym c.is_placed.ensures ∙ c.if-not-is_placed.true)
     ∙ ap (λ (xs : List Bool). Ok (record s { seen = xs })) (sym marked)
 
 pub returns-clause-body : goal.returns-clause-body
 returns-clause-body c =
     let t = c.args.table.now in
-    OnOk-then c.add_first.result _ _ (λ same. ap (kept_in t) same ∙ c.in_ok-keep.ensures.kept t) c.add_first.ensures.body
+    let m = schema_of c.args.member in
+    let v = value_in t c.args.value.now in
+    OnOk-then c.add_first.result _ _ (λ same. ap (kept_in t) same ∙ c.in_ok-keep.ensures.kept t ∙ ap (λ (b : Binding). kept_at b m v (kept_in t c.args.parts.now.body)) c.request_binding-binding.ensures) c.add_first.ensures.body
 
 pub returns-clause-defined : goal.returns-clause-defined
 returns-clause-defined c =

@@ -1,6 +1,5 @@
 use Rattle.std.proofs.Common.{rules, ◌≡◌, ap, sym, ◌∙◌, refl, Some, None, Ok, Err, IfErr, ℕ, List, length, map, string_bytes}
 use Rattle.smithy_schema.specs.References.{schema_of}
-use Rattle.smithy_serde.specs.Recording.{recorded_writes}
 use Rattle.smithy_serde.specs.StoredValues.{writes_in}
 use Rattle.smithy_serde.specs.Values.{list_of}
 use Rattle.smithy_binding.specs.Bodies.{Body, body}
@@ -17,7 +16,7 @@ use Rattle.smithy_binding.proofs.CheckedMethods.{is_token-method_of}
 use Rattle.smithy_binding.proofs.Ends.{target_by, fault-walk, fault-body, fault-hole, fault-legal, place-is, fault-by, body-by, same_request}
 use Rattle.smithy_binding.proofs.PlacedKinds.{placed-kinds}
 use Rattle.smithy_binding.proofs.Refusals.{IfErr-then, IfOk-then}
-use Rattle.smithy_binding.proofs.place.place_recorded.Goals as goal
+use Rattle.smithy_binding.proofs.place.place_writes.Goals as goal
 
 pub gather_writes-requires-clause-kinds : goal.gather_writes-requires-clause-kinds
 gather_writes-requires-clause-kinds g c = placed-kinds (schema_of c.args.schema) c.requires.checked
@@ -25,20 +24,18 @@ gather_writes-requires-clause-kinds g c = placed-kinds (schema_of c.args.schema)
 pub returns-in_err-gather_writes-clause-err : goal.returns-in_err-gather_writes-clause-err
 returns-in_err-gather_writes-clause-err g c =
     let schema = schema_of c.args.schema in
-    let ws = list_of (recorded_writes c.args.recorded.now) in
-    let list : writes_in c.table-table.result.now c.writes.result.now ≡ recorded_writes c.args.recorded.now = rw c.table-table.ensures c.writes.ensures.writes in
-    let told : IfErr c.from_residual-in_err-gather_writes.result (λ e. TellsFault e (λ f. gather schema (nothing_yet schema) (list_of (writes_in c.table-table.result.now c.writes.result.now)) ≡ Err f)) = search rules in
-    IfErr-then c.from_residual-in_err-gather_writes.result _ _ (λ f e. fault-walk schema ws c.args.endpoint.now f (rw list at e)) told
+    let ws = list_of (writes_in c.args.table.now c.args.writes.now) in
+    let told : IfErr c.from_residual-in_err-gather_writes.result (λ e. TellsFault e (λ f. gather schema (nothing_yet schema) (list_of (writes_in c.args.table.now c.args.writes.now)) ≡ Err f)) = search rules in
+    IfErr-then c.from_residual-in_err-gather_writes.result _ _ (λ f e. fault-walk schema ws c.args.endpoint.now f e) told
 
 pub returns-in_err-body-clause-err : goal.returns-in_err-body-clause-err
 returns-in_err-body-clause-err g c =
     let schema = schema_of c.args.schema in
-    let ws = list_of (recorded_writes c.args.recorded.now) in
-    let list : writes_in c.table-table.result.now c.writes.result.now ≡ recorded_writes c.args.recorded.now = rw c.table-table.ensures c.writes.ensures.writes in
+    let ws = list_of (writes_in c.args.table.now c.args.writes.now) in
     let s = gathered_of c.gather_writes.new.parts in
-    let walk : gather schema (nothing_yet schema) ws ≡ Ok s = (rw list at c.in_ok-gather_writes.ensures.ok) in
-    let parts = kept_in c.table-table.result.now c.gather_writes.new.parts.body in
-    let same : parts ≡ body_parts schema ws = (rw list at c.in_ok-gather_writes.ensures.body) in
+    let walk : gather schema (nothing_yet schema) ws ≡ Ok s = c.in_ok-gather_writes.ensures.ok in
+    let parts = kept_in c.args.table.now c.gather_writes.new.parts.body in
+    let same : parts ≡ body_parts schema ws = c.in_ok-gather_writes.ensures.body in
     let told : IfErr c.from_residual-in_err-body.result (λ e. TellsFault e (λ f. fault_by c.body_form-form.result parts ≡ Some f)) = search rules in
     IfErr-then c.from_residual-in_err-body.result _ _
     (λ f e. fault-body schema ws c.args.endpoint.now s f walk (fault-by schema ws c.body_form-form.result parts c.body_form-form.ensures same ∙ e)) told
@@ -46,12 +43,11 @@ returns-in_err-body-clause-err g c =
 pub returns-in_err-target-clause-err : goal.returns-in_err-target-clause-err
 returns-in_err-target-clause-err g c =
     let schema = schema_of c.args.schema in
-    let ws = list_of (recorded_writes c.args.recorded.now) in
-    let list : writes_in c.table-table.result.now c.writes.result.now ≡ recorded_writes c.args.recorded.now = rw c.table-table.ensures c.writes.ensures.writes in
+    let ws = list_of (writes_in c.args.table.now c.args.writes.now) in
     let s = gathered_of c.gather_writes.new.parts in
-    let walk : gather schema (nothing_yet schema) ws ≡ Ok s = (rw list at c.in_ok-gather_writes.ensures.ok) in
-    let parts = kept_in c.table-table.result.now c.gather_writes.new.parts.body in
-    let same : parts ≡ body_parts schema ws = (rw list at c.in_ok-gather_writes.ensures.body) in
+    let walk : gather schema (nothing_yet schema) ws ≡ Ok s = c.in_ok-gather_writes.ensures.ok in
+    let parts = kept_in c.args.table.now c.gather_writes.new.parts.body in
+    let same : parts ≡ body_parts schema ws = c.in_ok-gather_writes.ensures.body in
     let none : body_fault schema ws ≡ None = fault-by schema ws c.body_form-form.result parts c.body_form-form.ensures same ∙ c.in_ok-body.ensures.ok in
     let told : IfErr c.from_residual-in_err-target.result (λ e. TellsFault e (λ f. hole_fault (target_with c.template_of-template.result.now (map label_pair c.as_slice.result.now) c.as_str.result.now) ≡ Some f)) = search rules in
     IfErr-then c.from_residual-in_err-target.result _ _
@@ -63,40 +59,37 @@ request_with-requires g c = rw c.method_of.ensures (is_token-method_of (schema_o
 pub returns-clause-ok : goal.returns-clause-ok
 returns-clause-ok g c =
     let schema = schema_of c.args.schema in
-    let ws = list_of (recorded_writes c.args.recorded.now) in
-    let list : writes_in c.table-table.result.now c.writes.result.now ≡ recorded_writes c.args.recorded.now = rw c.table-table.ensures c.writes.ensures.writes in
+    let ws = list_of (writes_in c.args.table.now c.args.writes.now) in
     let s = gathered_of c.gather_writes.new.parts in
-    let walk : gather schema (nothing_yet schema) ws ≡ Ok s = (rw list at c.in_ok-gather_writes.ensures.ok) in
-    let parts = kept_in c.table-table.result.now c.gather_writes.new.parts.body in
-    let same : parts ≡ body_parts schema ws = (rw list at c.in_ok-gather_writes.ensures.body) in
+    let walk : gather schema (nothing_yet schema) ws ≡ Ok s = c.in_ok-gather_writes.ensures.ok in
+    let parts = kept_in c.args.table.now c.gather_writes.new.parts.body in
+    let same : parts ≡ body_parts schema ws = c.in_ok-gather_writes.ensures.body in
     let none : body_fault schema ws ≡ None = fault-by schema ws c.body_form-form.result parts c.body_form-form.ensures same ∙ c.in_ok-body.ensures.ok in
     let target : target_by schema c.args.endpoint.now s ≡ Ok (string_bytes c.in_ok-target.target) = (rw (c.template_of-template.ensures, c.as_slice.ensures.value, c.as_str.ensures.value) at c.in_ok-target.ensures.ok) in
     IfOk-then c.request_with.result _ _
-    (λ r e. fault-legal schema ws c.args.endpoint.now s (string_bytes c.in_ok-target.target) walk none target ∙ ap legal_fault (sym c.as_str-2.ensures.value) ∙ e) c.request_with.ensures.ok
+    (λ r e. fault-legal schema ws c.args.endpoint.now s (string_bytes c.in_ok-target.target) walk none target ∙ e) c.request_with.ensures.ok
 
 pub returns-clause-err : goal.returns-clause-err
 returns-clause-err g c =
     let schema = schema_of c.args.schema in
-    let ws = list_of (recorded_writes c.args.recorded.now) in
-    let list : writes_in c.table-table.result.now c.writes.result.now ≡ recorded_writes c.args.recorded.now = rw c.table-table.ensures c.writes.ensures.writes in
+    let ws = list_of (writes_in c.args.table.now c.args.writes.now) in
     let s = gathered_of c.gather_writes.new.parts in
-    let walk : gather schema (nothing_yet schema) ws ≡ Ok s = (rw list at c.in_ok-gather_writes.ensures.ok) in
-    let parts = kept_in c.table-table.result.now c.gather_writes.new.parts.body in
-    let same : parts ≡ body_parts schema ws = (rw list at c.in_ok-gather_writes.ensures.body) in
+    let walk : gather schema (nothing_yet schema) ws ≡ Ok s = c.in_ok-gather_writes.ensures.ok in
+    let parts = kept_in c.args.table.now c.gather_writes.new.parts.body in
+    let same : parts ≡ body_parts schema ws = c.in_ok-gather_writes.ensures.body in
     let none : body_fault schema ws ≡ None = fault-by schema ws c.body_form-form.result parts c.body_form-form.ensures same ∙ c.in_ok-body.ensures.ok in
     let target : target_by schema c.args.endpoint.now s ≡ Ok (string_bytes c.in_ok-target.target) = (rw (c.template_of-template.ensures, c.as_slice.ensures.value, c.as_str.ensures.value) at c.in_ok-target.ensures.ok) in
     IfErr-then c.request_with.result _ _
-    (λ f e. fault-legal schema ws c.args.endpoint.now s (string_bytes c.in_ok-target.target) walk none target ∙ ap legal_fault (sym c.as_str-2.ensures.value) ∙ e) c.request_with.ensures.err
+    (λ f e. fault-legal schema ws c.args.endpoint.now s (string_bytes c.in_ok-target.target) walk none target ∙ e) c.request_with.ensures.err
 
 pub returns-clause-placed : goal.returns-clause-placed
 returns-clause-placed g c =
     let schema = schema_of c.args.schema in
-    let ws = list_of (recorded_writes c.args.recorded.now) in
-    let list : writes_in c.table-table.result.now c.writes.result.now ≡ recorded_writes c.args.recorded.now = rw c.table-table.ensures c.writes.ensures.writes in
+    let ws = list_of (writes_in c.args.table.now c.args.writes.now) in
     let s = gathered_of c.gather_writes.new.parts in
-    let walk : gather schema (nothing_yet schema) ws ≡ Ok s = (rw list at c.in_ok-gather_writes.ensures.ok) in
-    let parts = kept_in c.table-table.result.now c.gather_writes.new.parts.body in
-    let same : parts ≡ body_parts schema ws = (rw list at c.in_ok-gather_writes.ensures.body) in
+    let walk : gather schema (nothing_yet schema) ws ≡ Ok s = c.in_ok-gather_writes.ensures.ok in
+    let parts = kept_in c.args.table.now c.gather_writes.new.parts.body in
+    let same : parts ≡ body_parts schema ws = c.in_ok-gather_writes.ensures.body in
     let target : target_by schema c.args.endpoint.now s ≡ Ok (string_bytes c.in_ok-target.target) = (rw (c.template_of-template.ensures, c.as_slice.ensures.value, c.as_str.ensures.value) at c.in_ok-target.ensures.ok) in
     let form = c.body_form-form.result in
     let protocol : Protocol = record { content_type = c.args.content_type.now; text_of = g.S.ShapeSerializer.text c.args.serializer } in
@@ -108,5 +101,5 @@ returns-clause-placed g c =
     ∙ ap (λ (bytes : List ℕ). with_defaults c.args.content_type.now (is_codec (origin_by form)) (length bytes) omit s.headers) c.as_slice-length.ensures in
     IfOk-then c.request_with.result _ _
     (λ r e. place-is protocol schema ws c.args.endpoint.now omit s (string_bytes c.in_ok-target.target) b walk body target
-    ∙ ap Some (sym (e ∙ same_request c.method_of.result.now _ c.as_str-2.result.now _ c.add_defaults.new.headers _ c.in_ok-body.body _ c.method_of.ensures c.as_str-2.ensures.value headers refl)))
+    ∙ ap Some (sym (e ∙ same_request c.method_of.result.now _ (string_bytes c.in_ok-target.target) _ c.add_defaults.new.headers _ c.in_ok-body.body _ c.method_of.ensures refl headers refl)))
     c.request_with.ensures.request

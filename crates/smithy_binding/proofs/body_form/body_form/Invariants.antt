@@ -1,0 +1,12 @@
+use Rattle.std.proofs.Common.{◌≡◌, ◌||◌}
+use Rattle.smithy_schema.specs.References.{schema_of}
+use Rattle.smithy_binding.specs.Bodies.{payload_kind, has_unbound_member}
+use Rattle.smithy_binding.proofs.PayloadMembers.{payload_from}
+use Rattle.smithy_binding.proofs.UnboundMembers.{unbound_from}
+use Rattle.smithy_binding.proofs.body_form.body_form.Given as goal
+
+abbrev pub invariant-loop-position : goal.invariant-loop-position
+invariant-loop-position l = record {
+  payload : payload_from (schema_of l.schema) l.position ≡ payload_kind (schema_of l.schema);
+  unbound : (l.has_unbound || unbound_from (schema_of l.schema) l.position) ≡ has_unbound_member (schema_of l.schema);
+}
