@@ -25,7 +25,7 @@ def taken(path):
 
 sample, times = sys.argv[1], int(sys.argv[2])
 (few, all_few), (many, all_many) = taken(sys.argv[3]), taken(sys.argv[4])
-print(f"{sample}: {(all_many - all_few) / times:,.0f} instructions a request")
+print(f"{sample.strip()}: {(all_many - all_few) / times:,.0f} instructions a request")
 each = {name: (many[name] - few[name]) / times for name in many}
 for name in sorted(each, key=each.get, reverse=True)[:30]:
     if each[name] >= 1:

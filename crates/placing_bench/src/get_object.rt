@@ -4,7 +4,7 @@ ghost use Rattle.smithy_serde.specs.StoredValues.{AreDefined};
 
 use crate::failed::Failed;
 use crate::inputs::{add, text_value};
-use crate::placing::place;
+use crate::placing::{Giving, place};
 use smithy_ids::{HttpTrait, ShapeId, ShapeType};
 use smithy_schema::{Schema, SchemaError, SchemaIndex, Schemas};
 use smithy_serde::{ShapeValue, WriteList};
@@ -44,9 +44,9 @@ fn get_writes(alloc: Global, table: &Schemas) -> Result<WriteList, Failed>
 }
 
 /// Places the input so many times.
-pub fn place_get(alloc: Global, times: u32) -> Result<(), Failed> {
+pub fn place_get(alloc: Global, giving: Giving, times: u32) -> Result<(), Failed> {
     let mut table = Schemas::new(alloc);
     let node = insert(&mut table)?;
     let writes = get_writes(alloc, &table)?;
-    place(alloc, &table, node, writes, times)
+    place(alloc, &table, node, writes, giving, times)
 }

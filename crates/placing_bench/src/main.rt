@@ -1,4 +1,4 @@
-// Places a sample input so many times, as `get 1000` or `put 1000`: a program to count instructions in.
+// Places a sample input so many times, as `get 1000` or `put 1000 told`: a program to count instructions in.
 #![tactic(auto)]
 
 mod failed;
@@ -6,9 +6,11 @@ mod get_object;
 mod inputs;
 mod placing;
 mod put_object;
+mod told_struct;
 
 use crate::failed::Failed;
 use crate::get_object::place_get;
+use crate::placing::Giving;
 use crate::put_object::place_put;
 use std::env;
 use std::process::ExitCode;
@@ -21,7 +23,16 @@ fn main(rt: HostRuntime) -> ExitCode {
     }
 }
 
-// Places the sample that the first word names, as often as the second says.
+// How an input gives its writes, by the third word.
+fn giving_of(word: &str) -> Result<Giving, Failed> {
+    match word {
+        "told" => Ok(Giving::Told),
+        _ => Err(Failed),
+    }
+}
+
+// Places the sample that the first word names, as often as the second says. Behind a third word, `told`, its writes are told
+// one by one.
 fn run<R: Env + AllocGlobal>(rt: &R) -> Result<(), Failed> {
     let mut words = env::args(rt)?;
     let _ = words.next();
@@ -34,9 +45,13 @@ fn run<R: Env + AllocGlobal>(rt: &R) -> Result<(), Failed> {
     let Ok(times) = times.as_str().parse::<u32>() else {
         return Err(Failed);
     };
+    let giving = match words.next() {
+        Some(word) => giving_of(word.as_str())?,
+        None => Giving::Kept,
+    };
     match sample.as_str() {
-        "get" => place_get(rt.alloc(), times),
-        "put" => place_put(rt.alloc(), times),
+        "get" => place_get(rt.alloc(), giving, times),
+        "put" => place_put(rt.alloc(), giving, times),
         _ => Err(Failed),
     }
 }

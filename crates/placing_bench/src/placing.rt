@@ -6,6 +6,7 @@ ghost use Rattle.smithy_binding.specs.Checked.{checked_input as checked};
 ghost use Rattle.smithy_binding.specs.Protocols.{codec_of};
 
 use crate::failed::Failed;
+use crate::told_struct::ToldStruct;
 use smithy_binding::{HttpBindingProtocol, checked_input};
 use smithy_document::{JsonCodec, json_is_lawful};
 use smithy_ids::ShapeId;
@@ -17,6 +18,13 @@ const KEEP: OmitFlags = OmitFlags {
     content_type: false,
     content_length: false,
 };
+
+/// How an input gives its writes: it keeps them ready, or tells them one by one.
+#[derive(Clone, Copy)]
+pub enum Giving {
+    Kept,
+    Told,
+}
 
 // Places the input so many times, and drops each request.
 fn place_checked(
@@ -42,6 +50,7 @@ pub fn place(
     table: &Schemas,
     node: SchemaIndex,
     writes: WriteList,
+    giving: Giving,
     times: u32,
 ) -> Result<(), Failed>
     requires { AreDefined table.now writes }
@@ -55,6 +64,9 @@ pub fn place(
     let id = ShapeId::from_parts("aws.protocols#restJson1", "aws.protocols", "restJson1");
     let protocol = HttpBindingProtocol::new(id, JsonCodec, "application/json");
     json_is_lawful(protocol.codec());
-    let input = StructValue::with_writes(table, node, writes);
-    place_checked(alloc, &protocol, &input, schema, times)
+    let value = StructValue::with_writes(table, node, writes);
+    match giving {
+        Giving::Kept => place_checked(alloc, &protocol, &value, schema, times),
+        Giving::Told => place_checked(alloc, &protocol, &ToldStruct { value }, schema, times),
+    }
 }
