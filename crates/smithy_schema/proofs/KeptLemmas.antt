@@ -1,19 +1,28 @@
 -- The faults of a table and what it keeps, over the nodes that it keeps.
 use Rattle.std.proofs.Common.{◌≡◌, refl, sym, ap, subst, ◌∙◌, ℕ, ◌+◌, ◌<◌, ◌≤◌, ◌==◌, Bool, true, false, List, [], ◌∷◌, ◌++◌, length, set, option_map, Option, Some, None}
 use Rattle.std.proofs.lemmas.Bool.{eqb-true, eqb-false}
+use Rattle.std.specs.BTreeMap.{get_by_text}
+use Rattle.std.specs.List.{position, slice_get}
 use Rattle.std.proofs.lemmas.List.{map-set}
 use Rattle.std.proofs.Math.Seq.{set-append_seam}
+use Rattle.smithy_schema.specs.declared.stored.StoredDetails.{StoredDetails}
+use Rattle.smithy_schema.specs.declared.stored.StoredDetails.TheVariants.{Outline, Full}
+use Rattle.smithy_schema.specs.declared.stored.FullDetails.{FullDetails}
 use Rattle.smithy_schema.specs.declared.stored.StoredNode.{StoredNode}
+use Rattle.smithy_ids.specs.declared.traits.TimestampFormat.{TimestampFormat}
 use Rattle.smithy_schema.specs.declared.error.SchemaError.{SchemaError}
 use Rattle.smithy_schema.specs.declared.error.SchemaError.TheVariants as refusal
-use Rattle.smithy_schema.specs.Nodes.{Node, Table, node_at}
-use Rattle.smithy_schema.specs.Stored.{node_stored, table_stored}
+use Rattle.smithy_schema.specs.Nodes.{Node, Table, node_at, position_of_name}
+use Rattle.smithy_schema.specs.Places.{places_of}
+use Rattle.smithy_schema.specs.Outlines.{outline_of}
+use Rattle.smithy_schema.specs.Details.{Details}
+use Rattle.smithy_schema.specs.MemberNames.{is_named_at, HasPositions}
+use Rattle.smithy_schema.specs.Stored.{node_stored, details_full, details_stored, table_stored}
 use Rattle.smithy_schema.specs.Defining.{citing_fault, define_fault, declared_more, is_whole}
-use Rattle.smithy_schema.specs.Kept.{IsKept, kept_at}
-use Rattle.smithy_schema.specs.MemberNames.{HasPositions}
+use Rattle.smithy_schema.specs.Kept.{IsKept, HasNames, kept_at}
 use Rattle.smithy_schema.proofs.NamedLemmas.{HasPositions-same}
 use Rattle.smithy_schema.proofs.TableLemmas.{length-table_stored, node_at-table_stored, table_stored-push}
-use Rattle.smithy_schema.proofs.SoundLemmas.{no_fault, no_fault-in_place, kept_members, node_at-declared_more, node_at-set_same, node_at-set_other, define_fault-past, define_fault-defined, define_fault-hole, define_fault-fresh, IsSound-declared_more, IsSound-set}
+use Rattle.smithy_schema.proofs.SoundLemmas.{no_fault, no_fault-in_place, kept_members, node_at-declared_more, node_at-set_same, node_at-set_other, define_fault-past, define_fault-defined, define_fault-hole, define_fault-fresh, IsSound-declared_more, IsSound-set, outline-no_fault}
 
 pub past : (nodes seen : List (Option StoredNode)) (index : ℕ) (node : Node) → seen ≡ nodes → length seen ≤ index → Some refusal.Unknown ≡ define_fault (table_stored nodes) index node
 past nodes seen index node same above =
@@ -45,8 +54,13 @@ pub node_at-kept : (nodes : List (Option StoredNode)) (place : ℕ) (n : StoredN
 node_at-kept nodes place n at = node_at-table_stored nodes place ∙ ap (λ (o : Option StoredNode). option_map node_stored o) at
 
 -- the positions of the names of a node that is kept
-pub names_at : (nodes seen : List (Option StoredNode)) (place : ℕ) (n : StoredNode) → IsKept nodes → seen ≡ nodes → Some n ≡ kept_at seen place → HasPositions (table_stored nodes) (node_stored n).members n.positions
+pub names_at : (nodes seen : List (Option StoredNode)) (place : ℕ) (n : StoredNode) → IsKept nodes → seen ≡ nodes → Some n ≡ kept_at seen place → HasNames (table_stored nodes) n.details
 names_at nodes seen place n kept same at = kept.names place n (rw (← same) (sym at))
+
+-- they stay where the table keeps what stands at the members' places
+HasNames-same : (old new : Table) (d : StoredDetails) → ((position member : ℕ) → slice_get (details_stored d).members position ≡ Some member → node_at new member ≡ node_at old member) → HasNames old d → HasNames new d
+HasNames-same old new (Outline format) same has = has
+HasNames-same old new (Full d) same has = HasPositions-same old new (places_of d.value.members.items) d.value.positions same has
 
 pub IsKept-declared : (nodes : List (Option StoredNode)) → IsKept nodes → IsKept (nodes ++ None ∷ [])
 IsKept-declared nodes kept =
@@ -54,46 +68,61 @@ IsKept-declared nodes kept =
     record {
       sound = rw more (IsSound-declared_more (table_stored nodes) kept.sound);
       names = λ place n at. rw more
-          (HasPositions-same (table_stored nodes) (declared_more (table_stored nodes)) (node_stored n).members n.positions (λ position member _. node_at-declared_more (table_stored nodes) member)
+          (HasNames-same (table_stored nodes) (declared_more (table_stored nodes)) n.details (λ position member _. node_at-declared_more (table_stored nodes) member)
           (kept.names place n (sym (node_at-declared_more nodes place) ∙ at)));
     }
 
--- a hole that is filled by the copy of a node without fault
-pub IsKept-filled : (nodes : List (Option StoredNode)) (index : ℕ) (n : StoredNode) (node : Node) → IsKept nodes → define_fault (table_stored nodes) index node ≡ None → node_stored n ≡ node → is_whole (node_stored n) ≡ true → HasPositions (table_stored nodes) node.members n.positions → IsKept (set nodes index (Some n))
-IsKept-filled nodes index n node kept none same whole has = record {
-  sound = rw table_is (IsSound-set table index node kept.sound none (rw (← same) whole));
+-- a hole that is filled by a node without fault
+filled : (nodes : List (Option StoredNode)) (index : ℕ) (n : StoredNode) → IsKept nodes → define_fault (table_stored nodes) index (node_stored n) ≡ None → is_whole (node_stored n) ≡ true → HasNames (table_stored nodes) n.details → IsKept (set nodes index (Some n))
+filled nodes index n kept none whole has = record {
+  sound = rw table_is (IsSound-set table index (node_stored n) kept.sound none whole);
   names = λ place other at. rw table_is (names place other at (place == index) refl);
 }
   where
     table : Table
     table = table_stored nodes
 
-    table_is : table_stored (set nodes index (Some n)) ≡ set table index (Some node)
-    table_is = table_stored-set nodes index n ∙ ap (λ (m : Node). set table index (Some m)) same
+    new : Table
+    new = set table index (Some (node_stored n))
+
+    table_is : table_stored (set nodes index (Some n)) ≡ new
+    table_is = table_stored-set nodes index n
 
     hole : node_at table index ≡ None
-    hole = (no_fault table index node none).hole
+    hole = (no_fault table index (node_stored n) none).hole
 
-    names : (place : ℕ) (other : StoredNode) → kept_at (set nodes index (Some n)) place ≡ Some other → (b : Bool) → (place == index) ≡ b → HasPositions (set table index (Some node)) (node_stored other).members other.positions
+    names : (place : ℕ) (other : StoredNode) → kept_at (set nodes index (Some n)) place ≡ Some other → (b : Bool) → (place == index) ≡ b → HasNames new other.details
     names place other at true e =
         let here : place ≡ index = eqb-true place index e in
-        let is : n ≡ other = (let found : Some n ≡ Some other = sym (node_at-set_same nodes index (Some n) (within nodes index node none)) ∙ (rw here at at) in cc found) in
-        let here_kept : HasPositions (set table index (Some node)) node.members n.positions =
-        HasPositions-same table (set table index (Some node)) node.members n.positions
-        (kept_members table index node (record { table = table; node = node }) refl hole (no_fault-in_place table index node kept.sound none)) has in
-        let stored : HasPositions (set table index (Some node)) (node_stored n).members n.positions = subst (λ (m : Node). HasPositions (set table index (Some node)) m.members n.positions) (sym same) here_kept in
-        subst (λ (o : StoredNode). HasPositions (set table index (Some node)) (node_stored o).members o.positions) is stored
+        let is : n ≡ other = (let found : Some n ≡ Some other = sym (node_at-set_same nodes index (Some n) (within nodes index (node_stored n) none)) ∙ (rw here at at) in cc found) in
+        subst (λ (o : StoredNode). HasNames new o.details) is
+        (HasNames-same table new n.details
+        (kept_members table index (node_stored n) (record { table = table; node = node_stored n }) refl hole (no_fault-in_place table index (node_stored n) kept.sound none)) has)
     names place other at false e =
         let old : kept_at nodes place ≡ Some other = sym (node_at-set_other nodes index place (Some n) (eqb-false place index e)) ∙ at in
-        HasPositions-same table (set table index (Some node)) (node_stored other).members other.positions
-        (kept_members table index node (record { table = table; node = node_stored other }) refl hole (λ position member found. kept.sound.members place (node_stored other) (node_at-kept nodes place other old) position member found))
+        HasNames-same table new other.details
+        (kept_members table index (node_stored n) (record { table = table; node = node_stored other }) refl hole (λ position member found. kept.sound.members place (node_stored other) (node_at-kept nodes place other old) position member found))
         (kept.names place other old)
 
+-- the same by the description that was copied
+pub IsKept-filled : (nodes : List (Option StoredNode)) (index : ℕ) (n : StoredNode) (node : Node) → IsKept nodes → define_fault (table_stored nodes) index node ≡ None → node_stored n ≡ node → is_whole (node_stored n) ≡ true → HasNames (table_stored nodes) n.details → IsKept (set nodes index (Some n))
+IsKept-filled nodes index n node kept none same whole has = filled nodes index n kept (rw same none) whole has
+
 -- the copy of a node without fault at a fresh place
-pub IsKept-pushed : (nodes : List (Option StoredNode)) (n : StoredNode) (node : Node) → IsKept nodes → define_fault (declared_more (table_stored nodes)) (length (table_stored nodes)) node ≡ None → node_stored n ≡ node → is_whole (node_stored n) ≡ true → HasPositions (table_stored nodes) node.members n.positions → IsKept (nodes ++ Some n ∷ [])
+pub IsKept-pushed : (nodes : List (Option StoredNode)) (n : StoredNode) (node : Node) → IsKept nodes → define_fault (declared_more (table_stored nodes)) (length (table_stored nodes)) node ≡ None → node_stored n ≡ node → is_whole (node_stored n) ≡ true → HasNames (table_stored nodes) n.details → IsKept (nodes ++ Some n ∷ [])
 IsKept-pushed nodes n node kept none same whole has =
     let more : table_stored (nodes ++ None ∷ []) ≡ declared_more (table_stored nodes) = table_stored-push nodes None in
-    let still : HasPositions (table_stored (nodes ++ None ∷ [])) node.members n.positions =
-    rw more (HasPositions-same (table_stored nodes) (declared_more (table_stored nodes)) node.members n.positions (λ position member _. node_at-declared_more (table_stored nodes) member) has) in
+    let still : HasNames (table_stored (nodes ++ None ∷ [])) n.details =
+    rw more (HasNames-same (table_stored nodes) (declared_more (table_stored nodes)) n.details (λ position member _. node_at-declared_more (table_stored nodes) member) has) in
     let no : define_fault (table_stored (nodes ++ None ∷ [])) (length nodes) node ≡ None = rw (more, ← length-table_stored nodes) none in
     rw (← set-append_seam nodes None [] (Some n)) (IsKept-filled (nodes ++ None ∷ []) (length nodes) n node (IsKept-declared nodes kept) no same whole still)
+
+-- an outline at a fresh place
+pub IsKept-outlined : (nodes : List (Option StoredNode)) (n : StoredNode) (node : Node) (format : Option TimestampFormat) → IsKept nodes → node_stored n ≡ outline_of node → is_whole (node_stored n) ≡ true → n.details ≡ Outline format → IsKept (nodes ++ Some n ∷ [])
+IsKept-outlined nodes n node format kept same whole is =
+    IsKept-pushed nodes n (outline_of node) kept (outline-no_fault (table_stored nodes) node) same whole (rw is tt)
+
+-- what is kept of a node with members finds the first position of a name
+pub position_kept : (table : Table) (n : StoredNode) (full : FullDetails) (node : Node) (name : List ℕ) → details_stored n.details ≡ details_full full → HasPositions table (places_of full.members.items) full.positions → node_stored n ≡ node → get_by_text full.positions name ≡ position_of_name (record { table = table; node = node }) name
+position_kept table n full node name is has same =
+    has.at name ∙ ap (λ (d : Details). position (is_named_at table name) d.members) (sym is) ∙ ap (λ (m : Node). position (is_named_at table name) m.members) same

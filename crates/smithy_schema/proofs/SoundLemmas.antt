@@ -9,6 +9,7 @@ use Rattle.smithy_types.specs.Results.{unless}
 use Rattle.smithy_schema.specs.declared.error.SchemaError.{SchemaError}
 use Rattle.smithy_schema.specs.declared.error.SchemaError.TheVariants as refusal
 use Rattle.smithy_schema.specs.Nodes.{Node, Table, Schema, node_at, bare_node}
+use Rattle.smithy_schema.specs.Outlines.{outline_of}
 use Rattle.smithy_schema.specs.Defining.{index_at, position_fault, member_fault, members_fault, citing_fault, define_fault, declared_more, has_declared_places, is_whole, is_member, HasMembersInPlace, IsSound}
 
 -- what stands at a place after one is declared
@@ -203,3 +204,8 @@ define_fault-fresh table node =
 pub bare-no_fault : (table : Table) (name : List ℕ) (shape_type : ShapeType) → define_fault (declared_more table) (length table) (bare_node name shape_type) ≡ None
 unfolding citing_fault
 bare-no_fault table name shape_type = define_fault-fresh table (bare_node name shape_type)
+
+-- nor has an outline
+pub outline-no_fault : (table : Table) (node : Node) → define_fault (declared_more table) (length table) (outline_of node) ≡ None
+unfolding citing_fault
+outline-no_fault table node = define_fault-fresh table (outline_of node)

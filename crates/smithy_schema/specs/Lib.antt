@@ -2,6 +2,7 @@ pub mod MarksOf
 pub mod Nodes
 pub mod Defining
 pub mod Described
+pub mod Details
 pub mod Formats
 pub mod Kept
 pub mod MemberNames

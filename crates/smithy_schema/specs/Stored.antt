@@ -5,7 +5,11 @@ use Rattle.smithy_schema.specs.declared.stored.StoredMember.TheVariants.{Shape, 
 use Rattle.smithy_schema.specs.declared.stored.StoredHttp.{StoredHttp}
 use Rattle.smithy_schema.specs.declared.stored.StoredNamespace.{StoredNamespace}
 use Rattle.smithy_schema.specs.declared.stored.StoredTraits.{StoredTraits}
+use Rattle.smithy_schema.specs.declared.stored.FullDetails.{FullDetails}
+use Rattle.smithy_schema.specs.declared.stored.StoredDetails.{StoredDetails}
+use Rattle.smithy_schema.specs.declared.stored.StoredDetails.TheVariants.{Outline, Full}
 use Rattle.smithy_schema.specs.declared.stored.StoredNode.{StoredNode}
+use Rattle.smithy_schema.specs.Details.{Details, outlined}
 use Rattle.smithy_schema.specs.Places.{place_of, places_of}
 use Rattle.smithy_schema.specs.Nodes.{Http, Namespace, Traits, Node, Table}
 
@@ -51,21 +55,38 @@ traits_stored t = record {
   others = None;
 }
 
+abbrev pub details_full : FullDetails → Details
+details_full d = record {
+  original_name = d.original_name;
+  target = place_of d.places.target;
+  members = places_of d.members.items;
+  element = place_of d.places.element;
+  key = place_of d.places.key;
+  value = place_of d.places.value;
+  traits = traits_stored d.traits;
+  has_no_body_members = d.no_body_members;
+  hint = d.hint;
+}
+
+abbrev pub details_stored : StoredDetails → Details
+details_stored (Outline format) = outlined format
+details_stored (Full d) = details_full d.value
+
 abbrev pub node_stored : StoredNode → Node
 node_stored n = record {
   full_name = n.full_name;
   kind = n.shape_type;
   member_name = name_stored n.membership;
-  original_name = n.original_name;
+  original_name = (details_stored n.details).original_name;
   member_index = index_stored n.membership;
-  target = place_of n.places.target;
-  members = places_of n.members.items;
-  element = place_of n.places.element;
-  key = place_of n.places.key;
-  value = place_of n.places.value;
-  traits = traits_stored n.traits;
-  has_no_body_members = n.no_body_members;
-  hint = n.hint;
+  target = (details_stored n.details).target;
+  members = (details_stored n.details).members;
+  element = (details_stored n.details).element;
+  key = (details_stored n.details).key;
+  value = (details_stored n.details).value;
+  traits = (details_stored n.details).traits;
+  has_no_body_members = (details_stored n.details).has_no_body_members;
+  hint = (details_stored n.details).hint;
 }
 
 abbrev pub table_stored : List (Option StoredNode) → Table

@@ -26,8 +26,8 @@ impl<'t> SchemaRef<'t> {
         ensures key { place_of result.key ≡ (schema_of self.now).node.key }
         ensures value { place_of result.value ≡ (schema_of self.now).node.value }
     {
-        match self.stored() {
-            Some(node) => node.places,
+        match self.details() {
+            Some(details) => details.places,
             None => NO_PLACES,
         }
     }

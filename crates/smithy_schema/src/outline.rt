@@ -1,39 +1,72 @@
 // What is left of a node without what it cites.
-use crate::schema::Schema;
+ghost use Rattle.std.specs.Prelude.{◌≡◌, ◌++◌, ◌∷◌, [], true, Some, IfOk, OnOk, OnErr, length};
+ghost use Rattle.smithy_schema.specs.declared.stored.StoredDetails.TheVariants as details;
+ghost use Rattle.smithy_schema.specs.Defining.{is_whole};
+ghost use Rattle.smithy_schema.specs.Described.{name_in, index_in};
+ghost use Rattle.smithy_schema.specs.Outlines.{outline_of};
+ghost use Rattle.smithy_schema.specs.References.{schema_of};
+ghost use Rattle.smithy_schema.specs.Stored.{node_stored};
+
+use crate::parts::SchemaIndex;
+use crate::schema::Membership;
 use crate::schema_ref::SchemaRef;
-use crate::stored::StoredMember;
+use crate::schemas::Schemas;
+use crate::stored::{StoredDetails, StoredMember, StoredNode, copied_membership};
+use smithy_ids::TimestampFormat;
+use smithy_types::{OutOfMemory, Text};
+use std::alloc::Global;
 
 impl<'t> SchemaRef<'t> {
-    ghost use Rattle.std.specs.Prelude.{◌≡◌};
-    ghost use Rattle.smithy_schema.specs.References.{schema_of};
-    ghost use Rattle.smithy_schema.specs.Outlines.{named_part, outline_of};
-
-    fn named_part(&self) -> Schema<'t>
-        ensures { result ≡ named_part (schema_of self.now).node }
+    // Whether and how the node is a member.
+    fn membership(&self) -> Membership<'t>
+        ensures name { name_in result ≡ (schema_of self.now).node.member_name }
+        ensures index { index_in result ≡ (schema_of self.now).node.member_index }
     {
-        let id = self.shape_id();
-        let kind = self.shape_type();
         match self.stored() {
             Some(node) => match &node.membership {
-                StoredMember::Shape => Schema::new(id, kind),
-                StoredMember::Named(name) => Schema::new_unindexed(id, kind, name.as_str()),
-                StoredMember::Indexed(name, index) => {
-                    Schema::new_member(id, kind, name.as_str(), *index)
-                }
+                StoredMember::Shape => Membership::Shape,
+                StoredMember::Named(name) => Membership::Named(name.as_str()),
+                StoredMember::Indexed(name, index) => Membership::Indexed(name.as_str(), *index),
             },
-            None => Schema::new(id, kind),
+            None => Membership::Shape,
         }
     }
 
-    /// The description of a node with the same full name, kind, member name, member index and time format, and with
-    /// nothing else: it cites no node. Takes no memory.
-    pub fn outline(&self) -> Schema<'t>
-        ensures { result ≡ outline_of (schema_of self.now).node }
+    // The format of timestamps.
+    fn time_format(&self) -> Option<TimestampFormat>
+        ensures { result ≡ (schema_of self.now).node.traits.timestamp_format }
     {
-        let named = self.named_part();
         match self.timestamp_format() {
-            Some(format) => named.with_timestamp_format(format.format()),
-            None => named,
+            Some(format) => Some(format.format()),
+            None => None,
         }
+    }
+}
+
+fn outlined_node(alloc: Global, schema: SchemaRef<'_>) -> Result<StoredNode, OutOfMemory>
+    ensures node { IfOk result (λ n. node_stored n ≡ outline_of (schema_of schema.entry).node) }
+    ensures whole { IfOk result (λ n. is_whole (node_stored n) ≡ true) }
+    ensures details { IfOk result (λ n. n.details ≡ details.Outline (schema_of schema.entry).node.traits.timestamp_format) }
+{
+    Ok(StoredNode {
+        full_name: Text::from_str(alloc, schema.full_name())?,
+        shape_type: schema.shape_type(),
+        membership: copied_membership(alloc, schema.membership())?,
+        details: StoredDetails::Outline(schema.time_format()),
+    })
+}
+
+impl Schemas {
+    /// Adds a node with the full name, kind, member name, member index and time format of one of any table, and with nothing
+    /// else: it cites no node. It copies the two names. After a refusal the table is unchanged.
+    pub fn insert_outline(&mut self, schema: SchemaRef<'_>) -> Result<SchemaIndex, OutOfMemory>
+        ensures place { IfOk result (λ i. i.0 ≡ length self.old) }
+        ensures ok { OnOk result (self.new ≡ self.old ++ Some (outline_of (schema_of schema.entry).node) ∷ []) }
+        ensures err { OnErr result (self.new ≡ self.old) }
+    {
+        let place = self.nodes.len();
+        let node = outlined_node(self.alloc, schema)?;
+        self.nodes.push(Some(node))?;
+        Ok(SchemaIndex(place))
     }
 }

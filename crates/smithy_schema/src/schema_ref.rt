@@ -9,7 +9,7 @@ ghost use Rattle.smithy_schema.specs.PreludeNodes.{prelude_name};
 use crate::defining::stored_at;
 use crate::parts::SchemaIndex;
 use crate::schemas::Schemas;
-use crate::stored::{StoredMember, StoredNode};
+use crate::stored::{FullDetails, StoredDetails, StoredMember, StoredNode};
 use smithy_ids::{PayloadHint, ShapeId, ShapeType};
 use smithy_types::Text;
 
@@ -38,8 +38,9 @@ pub struct SchemaRef<'t> {
 impl<'t> TableRef<'t> {
     ghost use Rattle.smithy_schema.specs.Stored.{node_stored};
     ghost use Rattle.smithy_schema.specs.References.{node_in};
-    ghost use Rattle.smithy_schema.specs.Defining.{is_whole, IsSound};
-    ghost use Rattle.smithy_schema.specs.MemberNames.{HasPositions};
+    ghost use Rattle.smithy_schema.specs.Defining.{is_whole, HasMembersInPlace, IsSound};
+    ghost use Rattle.smithy_schema.specs.Kept.{HasNames};
+    ghost use Rattle.smithy_schema.specs.Places.{places_of};
     ghost use Rattle.smithy_schema.specs.Nodes.{position_of_name};
 
     fn stored(self) -> &'t StoredNode
@@ -47,7 +48,7 @@ impl<'t> TableRef<'t> {
         ensures whole { is_whole (node_stored result.now) ≡ true }
         ensures place { node_at self.entry.table.now self.entry.index.0 ≡ Some (node_stored result.now) }
         ensures sound { IsSound self.entry.table.now }
-        ensures names { HasPositions self.entry.table.now (node_stored result.now).members result.now.positions }
+        ensures names { HasNames self.entry.table.now result.now.details }
     {
         let table = self.table;
         let Some(node) = stored_at(table.nodes.as_slice(), self.index.0) else {
@@ -60,7 +61,21 @@ impl<'t> TableRef<'t> {
     fn position_of(self, name: &str) -> Option<usize>
         ensures { result ≡ position_of_name (record { table = self.entry.table.now; node = node_in self.entry.table.now self.entry.index.0 }) name.now }
     {
-        self.stored().positions.get(name).copied()
+        match &self.stored().details {
+            StoredDetails::Outline(_) => None,
+            StoredDetails::Full(details) => details.positions.get(name).copied(),
+        }
+    }
+
+    fn members(self) -> &'t [SchemaIndex]
+        ensures places { places_of result.now ≡ (node_in self.entry.table.now self.entry.index.0).members }
+        ensures in_place { HasMembersInPlace (record { table = self.entry.table.now; node = node_in self.entry.table.now self.entry.index.0 }) }
+        ensures sound { IsSound self.entry.table.now }
+    {
+        match &self.stored().details {
+            StoredDetails::Outline(_) => &[],
+            StoredDetails::Full(details) => details.members.as_slice(),
+        }
     }
 
     fn shape_id(self) -> ShapeId<'t>
@@ -76,14 +91,15 @@ impl<'t> TableRef<'t> {
 impl<'t> SchemaRef<'t> {
     ghost use Rattle.std.specs.Prelude.{[], not, Some, None, IfSome, MatchOption, option_map};
     ghost use Rattle.smithy_ids.specs.Kinds.{is_simple};
-    ghost use Rattle.smithy_ids.specs.ShapeIds.{parts_in};
+    ghost use Rattle.smithy_ids.specs.ShapeIds.{has_hash, parts_in};
     ghost use Rattle.smithy_ids.specs.ShapeIdParts.{parts_of};
     ghost use Rattle.smithy_schema.specs.Nodes.{at_place, position_of_name};
     ghost use Rattle.smithy_schema.specs.Places.{place_of, places_of};
     ghost use Rattle.smithy_schema.specs.PreludeNodes.{prelude_node, IsBare};
     ghost use Rattle.smithy_schema.specs.Defining.{HasMembersInPlace, IsSound};
     ghost use Rattle.smithy_schema.specs.References.{schema_of, index_of};
-    ghost use Rattle.smithy_schema.specs.Stored.{node_stored};
+    ghost use Rattle.smithy_schema.specs.Details.{details_of, outlined};
+    ghost use Rattle.smithy_schema.specs.Stored.{node_stored, details_full};
 
     // The node at a place of a table.
     pub(crate) fn at(table: &'t Schemas, index: SchemaIndex) -> Option<SchemaRef<'t>>
@@ -105,6 +121,16 @@ impl<'t> SchemaRef<'t> {
         match self.spot {
             Spot::Table(place) => Some(place.stored()),
             Spot::Prelude(_) => None,
+        }
+    }
+
+    // What the table keeps of the node in full, None where the node has a time format at most.
+    pub(crate) fn details(&self) -> Option<&'t FullDetails>
+        ensures { MatchOption result (details_of (schema_of self.now).node ≡ outlined (schema_of self.now).node.traits.timestamp_format) (λ d. details_of (schema_of self.now).node ≡ details_full d.now) }
+    {
+        match &self.stored()?.details {
+            StoredDetails::Outline(_) => None,
+            StoredDetails::Full(details) => Some(&**details),
         }
     }
 
@@ -150,9 +176,10 @@ impl<'t> SchemaRef<'t> {
         }
     }
 
-    /// The full name of the identifier. Takes no memory.
+    /// The full name of the identifier, which has a `#`. Takes no memory.
     pub fn full_name(&self) -> &'t str
-        ensures { result.now ≡ (schema_of self.now).node.full_name }
+        ensures name { result.now ≡ (schema_of self.now).node.full_name }
+        ensures hash { has_hash result.now ≡ true }
     {
         match self.spot {
             Spot::Table(place) => place.stored().full_name.as_str(),
@@ -174,8 +201,8 @@ impl<'t> SchemaRef<'t> {
     pub fn payload_hint(&self) -> PayloadHint
         ensures { result ≡ (schema_of self.now).node.hint }
     {
-        match self.stored() {
-            Some(node) => node.hint,
+        match self.details() {
+            Some(details) => details.hint,
             None => PayloadHint::Unknown,
         }
     }
@@ -205,7 +232,7 @@ impl<'t> SchemaRef<'t> {
     pub fn original_name(&self) -> Option<&'t str>
         ensures { option_map (λ t. t.now) result ≡ (schema_of self.now).node.original_name }
     {
-        as_str(&self.stored()?.original_name)
+        as_str(&self.details()?.original_name)
     }
 
     /// The places of the members, in order. At each position stands a member with that index and a name.
@@ -215,7 +242,7 @@ impl<'t> SchemaRef<'t> {
         ensures sound { IsSound (schema_of self.now).table }
     {
         match self.spot {
-            Spot::Table(place) => place.stored().members.as_slice(),
+            Spot::Table(place) => place.members(),
             Spot::Prelude(_) => &[],
         }
     }
@@ -234,8 +261,8 @@ impl<'t> SchemaRef<'t> {
     pub fn has_body_members(&self) -> bool
         ensures { result ≡ not (schema_of self.now).node.has_no_body_members }
     {
-        match self.stored() {
-            Some(node) => !node.no_body_members,
+        match self.details() {
+            Some(details) => !details.no_body_members,
             None => true,
         }
     }

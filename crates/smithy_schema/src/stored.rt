@@ -1,7 +1,9 @@
 // A node as a table keeps it: with texts of its own.
 ghost use Rattle.std.specs.Prelude.{◌≡◌, true, IfOk, option_map};
-ghost use Rattle.smithy_schema.specs.Stored.{http_stored, namespace_stored, name_stored, index_stored, node_stored, table_stored, traits_stored};
+ghost use Rattle.smithy_schema.specs.Details.{details_of};
+ghost use Rattle.smithy_schema.specs.Stored.{http_stored, namespace_stored, name_stored, index_stored, node_stored, table_stored, traits_stored, details_full};
 ghost use Rattle.smithy_schema.specs.MemberNames.{HasPositions};
+ghost use Rattle.smithy_schema.specs.Kept.{HasNames};
 ghost use Rattle.smithy_schema.specs.Defining.{is_whole};
 ghost use Rattle.smithy_schema.specs.Described.{name_in, index_in};
 
@@ -47,11 +49,9 @@ pub(crate) struct StoredTraits {
     pub(crate) timestamp_format: Option<TimestampFormat>,
 }
 
+// What a node has beside its names, its kind and its index.
 #[derive(Debug, Drop)]
-pub(crate) struct StoredNode {
-    pub(crate) full_name: Text,
-    pub(crate) shape_type: ShapeType,
-    pub(crate) membership: StoredMember,
+pub(crate) struct FullDetails {
     pub(crate) original_name: Option<Text>,
     pub(crate) places: Places,
     pub(crate) members: Vec<SchemaIndex>,
@@ -59,6 +59,21 @@ pub(crate) struct StoredNode {
     pub(crate) traits: StoredTraits,
     pub(crate) no_body_members: bool,
     pub(crate) hint: PayloadHint,
+}
+
+// The same, where an outline, which has a time format at most, takes no memory of its own.
+#[derive(Debug, Drop)]
+pub(crate) enum StoredDetails {
+    Outline(Option<TimestampFormat>),
+    Full(Box<FullDetails>),
+}
+
+#[derive(Debug, Drop)]
+pub(crate) struct StoredNode {
+    pub(crate) full_name: Text,
+    pub(crate) shape_type: ShapeType,
+    pub(crate) membership: StoredMember,
+    pub(crate) details: StoredDetails,
 }
 
 // A copy of the text, where there is one.
@@ -102,7 +117,10 @@ fn copied_namespace(
     }
 }
 
-fn copied_membership(alloc: Global, membership: Membership<'_>) -> Result<StoredMember, OutOfMemory>
+pub(crate) fn copied_membership(
+    alloc: Global,
+    membership: Membership<'_>,
+) -> Result<StoredMember, OutOfMemory>
     ensures name { IfOk result (λ m. name_stored m ≡ name_in membership.entry) }
     ensures index { IfOk result (λ m. index_stored m ≡ index_in membership.entry) }
 {
@@ -132,6 +150,27 @@ fn copied_traits(alloc: Global, schema: &Schema<'_>) -> Result<StoredTraits, Out
     })
 }
 
+fn copied_details(
+    alloc: Global,
+    nodes: &[Option<StoredNode>],
+    schema: &Schema<'_>,
+) -> Result<FullDetails, OutOfMemory>
+    ensures details { IfOk result (λ d. details_full d ≡ details_of schema.now) }
+    ensures names { IfOk result (λ d. HasPositions (table_stored nodes.now) schema.now.members d.positions) }
+{
+    let traits = copied_traits(alloc, schema)?;
+    let positions = first_positions(alloc, nodes, schema.members)?;
+    Ok(FullDetails {
+        original_name: copied(alloc, schema.original_name)?,
+        places: schema.places,
+        members: Vec::from_slice(alloc, schema.members)?,
+        positions,
+        traits,
+        no_body_members: schema.no_body_members,
+        hint: schema.hint,
+    })
+}
+
 /// The node of this description, whose members stand among these nodes. It takes time linear in the texts and members,
 /// up to the logarithm of the map of their names.
 pub(crate) fn copied_node(
@@ -141,20 +180,13 @@ pub(crate) fn copied_node(
 ) -> Result<StoredNode, OutOfMemory>
     ensures node { IfOk result (λ n. node_stored n ≡ schema.now) }
     ensures whole { IfOk result (λ n. is_whole (node_stored n) ≡ true) }
-    ensures names { IfOk result (λ n. HasPositions (table_stored nodes.now) schema.now.members n.positions) }
+    ensures names { IfOk result (λ n. HasNames (table_stored nodes.now) n.details) }
 {
-    let traits = copied_traits(alloc, schema)?;
-    let positions = first_positions(alloc, nodes, schema.members)?;
+    let details = copied_details(alloc, nodes, schema)?;
     Ok(StoredNode {
         full_name: Text::from_str(alloc, schema.id.as_str())?,
         shape_type: schema.shape_type,
         membership: copied_membership(alloc, schema.membership)?,
-        original_name: copied(alloc, schema.original_name)?,
-        places: schema.places,
-        members: Vec::from_slice(alloc, schema.members)?,
-        positions,
-        traits,
-        no_body_members: schema.no_body_members,
-        hint: schema.hint,
+        details: StoredDetails::Full(Box::new(alloc, details)?),
     })
 }

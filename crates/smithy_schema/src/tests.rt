@@ -303,7 +303,9 @@ fn an_outline_has_names_and_a_time_format(rt: HostRuntime) {
         .with_timestamp_format(TimestampFormat::DateTime);
     let place = inserted(&rt, &mut table, schema);
     let mut other = Schemas::new(rt.alloc());
-    let copied = inserted(&rt, &mut other, node_at(&rt, &table, place).outline());
+    let copied = other
+        .insert_outline(node_at(&rt, &table, place))
+        .expect(&rt, "no place");
     let node = node_at(&rt, &other, copied);
     assert_eq!(rt; node.shape_id().as_str(), "ex#Owner$name");
     assert_eq!(rt; node.member_name(), Some("name"));

@@ -1,14 +1,15 @@
 // The traits of a node. A getter gives the trait by value, None where the node doesn't have it, and takes no memory.
 ghost use Rattle.std.specs.Prelude.{◌≡◌, MatchOption};
 ghost use Rattle.std.specs.Option.{is_some};
-ghost use Rattle.smithy_schema.specs.Nodes.{no_traits, is_response_bound};
+ghost use Rattle.smithy_schema.specs.Details.{outlined};
+ghost use Rattle.smithy_schema.specs.Nodes.{is_response_bound};
 ghost use Rattle.smithy_schema.specs.References.{schema_of};
 ghost use Rattle.smithy_schema.specs.Stored.{traits_stored};
 ghost use Rattle.smithy_schema.specs.MarksOf.{marks_of};
 
 use crate::parts::{Marks, NO_MARKS};
 use crate::schema_ref::{SchemaRef, as_str};
-use crate::stored::StoredTraits;
+use crate::stored::{StoredDetails, StoredTraits};
 use smithy_ids::{
     EventHeaderTrait, EventPayloadTrait, HostLabelTrait, HttpHeaderTrait, HttpLabelTrait,
     HttpPayloadTrait, HttpPrefixHeadersTrait, HttpQueryParamsTrait, HttpQueryTrait,
@@ -17,12 +18,12 @@ use smithy_ids::{
 };
 
 impl<'t> SchemaRef<'t> {
-    // The traits as the table keeps them, None for the prelude's node.
+    // The traits as the table keeps them, None where the node has a time format at most.
     pub(crate) fn traits_kept(&self) -> Option<&'t StoredTraits>
-        ensures { MatchOption result ((schema_of self.now).node.traits ≡ no_traits) (λ t. (schema_of self.now).node.traits ≡ traits_stored t.now) }
+        ensures { MatchOption result ((schema_of self.now).node.traits ≡ (outlined (schema_of self.now).node.traits.timestamp_format).traits) (λ t. (schema_of self.now).node.traits ≡ traits_stored t.now) }
     {
-        match self.stored() {
-            Some(node) => Some(&node.traits),
+        match self.details() {
+            Some(details) => Some(&details.traits),
             None => None,
         }
     }
@@ -88,7 +89,10 @@ impl<'t> SchemaRef<'t> {
     pub fn timestamp_format(&self) -> Option<TimestampFormatTrait>
         ensures { result ≡ (schema_of self.now).node.traits.timestamp_format }
     {
-        let format = self.traits_kept()?.timestamp_format?;
+        let format = match &self.stored()?.details {
+            StoredDetails::Outline(format) => (*format)?,
+            StoredDetails::Full(details) => details.traits.timestamp_format?,
+        };
         Some(TimestampFormatTrait::new(format))
     }
 

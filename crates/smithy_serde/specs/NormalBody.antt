@@ -10,6 +10,7 @@ use Rattle.smithy_schema.specs.Nodes.{Schema, element_of, key_of, value_of}
 use Rattle.smithy_serde.specs.Values.{Label, Value, text, document, null, list, structure, Writes, no_writes, write, Write, writes_of, label_of, text_of_key}
 use Rattle.smithy_serde.specs.Values as value
 use Rattle.smithy_serde.specs.Shaped.{is_kind, fields_at, named_member}
+use Rattle.smithy_serde.specs.StoredValues.{no_label}
 
 -- the node's own label, or that of the write where no node stands there
 abbrev pub own_label : Option Schema → Label → Label
@@ -34,10 +35,6 @@ in_key_order es = put_entries es []
 abbrev pub entry_writes : Label → Label → List (List ℕ × Value) → Writes
 entry_writes key_label value_label [] = no_writes
 entry_writes key_label value_label (e ∷ es) = write key_label (text e.0) (write value_label e.1 (entry_writes key_label value_label es))
-
--- the label of no node
-abbrev pub no_label : Label
-no_label = record { full_name = []; member_name = None; member_index = None; time_format = None }
 
 -- the map of these entries, written with the node's key and value nodes
 abbrev pub map_value : Option Schema → List (List ℕ × Value) → Value

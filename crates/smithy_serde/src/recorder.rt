@@ -1,7 +1,6 @@
 // A serializer that keeps what it is told.
 ghost use Rattle.std.specs.Prelude.{◌≡◌, ◌+◌, ◌<◌, ◌⊎◌, ◌++◌, ◌∷◌, [], Some, None, IsSome, length, OnOk, OnErr, IfOk, IfErr, IsOkUnless, true, false, is_ok, is_err};
 ghost use Rattle.smithy_schema.specs.Nodes.{Table};
-ghost use Rattle.smithy_schema.specs.Outlines.{outline_of};
 ghost use Rattle.smithy_schema.specs.References.{schema_of};
 ghost use Rattle.smithy_serde.specs.Values.{Value, label_of};
 ghost use Rattle.smithy_serde.specs.Told.{State, written, begun, ended, grouped, empty_state};
@@ -49,18 +48,6 @@ pub struct Recorder {
 pub struct Recorded {
     table: Schemas,
     writes: WriteList,
-}
-
-// Adds what is kept of a node. It cites nothing, so want of memory is all that can refuse it.
-fn keep(table: &mut Schemas, schema: SchemaRef<'_>) -> Result<SchemaIndex, OutOfMemory>
-    ensures place { IfOk result (λ i. i.0 ≡ length table.old) }
-    ensures ok { OnOk result (table.new ≡ table.old ++ Some (outline_of (schema_of schema.entry).node) ∷ []) }
-    ensures err { OnErr result (table.new ≡ table.old) }
-{
-    match table.insert(schema.outline()) {
-        Ok(index) => Ok(index),
-        Err(_) => Err(OutOfMemory),
-    }
 }
 
 #[tactic(auto, unfolding(crate::specs::StoredValues::value_in, crate::specs::StoredValues::IsDefined))]
@@ -123,7 +110,7 @@ impl Recorder {
         ensures lists { open_count self.new ≡ open_count self.old }
         ensures memory { self.new.out_of_memory ≡ self.old.out_of_memory }
     {
-        let node = keep(&mut self.table, schema)?;
+        let node = self.table.insert_outline(schema)?;
         self.current.push(node, value)
     }
 
@@ -135,7 +122,7 @@ impl Recorder {
         ensures memory { self.new.out_of_memory ≡ self.old.out_of_memory }
     {
         self.around.try_reserve(1)?;
-        let node = keep(&mut self.table, schema)?;
+        let node = self.table.insert_outline(schema)?;
         let before = mem::replace(&mut self.current, WriteList::new(self.alloc));
         self.around.push_reserved(Frame { node, kind, before });
         Ok(())

@@ -7,7 +7,7 @@ pub returns-clause-ok : goal.returns-clause-ok
 returns-clause-ok c =
     let old = c.args.self.now in
     OnOk-both c.push.result
-    (added old.table c.keep.new.table (schema_of c.args.schema) c.in_ok-node.node.0 c.in_ok-node.ensures.ok c.in_ok-node.ensures.place
+    (added old.table c.insert_outline.new.self (schema_of c.args.schema) c.in_ok-node.node.0 c.in_ok-node.ensures.ok c.in_ok-node.ensures.place
     old.current c.push.new.self old.around.items c.args.value c.requires)
     c.push.ensures.ok c.push.ensures.ok_defined
 
@@ -15,5 +15,5 @@ pub returns-clause-err : goal.returns-clause-err
 returns-clause-err c =
     let old = c.args.self.now in
     OnErr-both c.push.result
-    (only_grown old.table c.keep.new.table _ c.in_ok-node.ensures.ok old.current c.push.new.self old.around.items)
+    (only_grown old.table c.insert_outline.new.self _ c.in_ok-node.ensures.ok old.current c.push.new.self old.around.items)
     c.push.ensures.err c.push.ensures.err_defined

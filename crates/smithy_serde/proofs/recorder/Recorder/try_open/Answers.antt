@@ -7,7 +7,7 @@ use Rattle.smithy_serde.proofs.recorder.Recorder.try_open.Goals as goal
 pub returns-clause-ok : goal.returns-clause-ok
 returns-clause-ok c =
     let old = c.args.self.now in
-    opened old.table c.keep.new.table (schema_of c.args.schema) c.in_ok-node.node.0 c.in_ok-node.ensures.ok c.in_ok-node.ensures.place
+    opened old.table c.insert_outline.new.self (schema_of c.args.schema) c.in_ok-node.node.0 c.in_ok-node.ensures.ok c.in_ok-node.ensures.place
     old.current c.replace-before.new.dest old.around.items c.push_reserved.new.self.items
     record { node = c.in_ok-node.node; kind = c.args.kind; before = c.replace-before.result }
     refl c.replace-before.ensures.value

@@ -1,4 +1,4 @@
-use Rattle.std.proofs.Common.{rules, ◌≡◌, None, ap, ◌∙◌}
+use Rattle.std.proofs.Common.{rules, ◌≡◌, None, ap}
 use Rattle.std.proofs.lemmas.Result.{on_err_weaker}
 use Rattle.smithy_schema.specs.References.{schema_of}
 use Rattle.smithy_serde.specs.Values.{label_of, boolean, text, write}

@@ -1,4 +1,3 @@
-use Rattle.std.proofs.Common.{ap}
 use Rattle.std.proofs.lemmas.Result.{on_err_weaker}
 use Rattle.smithy_serde.proofs.PartLemmas.{part_unchanged}
 use Rattle.smithy_serde.proofs.serializable.tests.RuntimeValueSerializableStruct.serialize_members.Goals as goal
