@@ -1,8 +1,7 @@
 -- The end: the body, the target, and the request.
-use Rattle.std.proofs.Common.{◌≡◌, refl, ap, sym, ◌∙◌, ℕ, Bool, true, false, not, ◌||◌, List, [], ◌∷◌, ◌++◌, append_assoc, length, map, find, subst, Result, Ok, Err, Option, Some, None, option_map, option_and_then}
-use Rattle.std.specs.List.{list_all, join_with_byte}
+use Rattle.std.proofs.Common.{◌≡◌, refl, ap, sym, ◌∙◌, ℕ, List, [], ◌∷◌, ◌++◌, append_assoc, map, subst, Result, Ok, Err, Option, Some, None}
+use Rattle.std.specs.List.{join_with_byte}
 use Rattle.std.specs.Option.{option_or}
-use Rattle.std.proofs.lemmas.Bool.{and_parts}
 use Rattle.std.proofs.lemmas.List.{append-nil}
 use Rattle.smithy_types.specs.Documents.{Document}
 use Rattle.smithy_types.specs.Texts.{has_byte}
@@ -14,16 +13,10 @@ use Rattle.smithy_serde.specs.Writes.{all_resolved}
 use Rattle.smithy_http.specs.Requests.{Request}
 use Rattle.smithy_binding.specs.Filling.{fill}
 use Rattle.smithy_binding.specs.Bindings.{pairs, labels}
-use Rattle.smithy_ids.specs.declared.shape_type.ShapeType.{ShapeType}
-use Rattle.smithy_ids.specs.declared.shape_type.ShapeType.TheVariants as kind
-use Rattle.smithy_binding.specs.Bodies.{Body, body, Origin, document_value, document_value_at, unbound_value, unbound_origin, origin_at, bytes_from, payload_kind, has_unbound_member}
-use Rattle.smithy_binding.specs.Placing.{Protocol, Omit, place, target_of, template_of, method_of, with_query, pair_text, is_codec, all_headers}
-use Rattle.smithy_binding.specs.DefaultHeaders.{with_defaults}
-use Rattle.smithy_binding.specs.BodyForms.{form_in, form_at, unbound_form, origin_by, document_by, fault_of_document, text_of_document, fault_by, bytes_by}
-use Rattle.smithy_binding.specs.KeptWrites.{BodyParts, body_parts}
+use Rattle.smithy_binding.specs.Bodies.{Body, body, BodyParts, body_parts, document_value, document_by, bytes_by, form_in}
+use Rattle.smithy_binding.specs.Placing.{Protocol, Omit, place, target_of, template_of, method_of, with_query, pair_text, all_headers}
 use Rattle.smithy_binding.specs.declared.body_form.BodyForm.{BodyForm}
-use Rattle.smithy_binding.specs.declared.body_form.BodyForm.TheVariants as form
-use Rattle.smithy_binding.specs.Faults.{Fault, fault, writes_fault, body_fault, hole_fault, target_fault, legal_fault}
+use Rattle.smithy_binding.specs.Faults.{Fault, fault, fault_of_document, writes_fault, body_fault, hole_fault, target_fault, legal_fault}
 use Rattle.smithy_binding.specs.Gather.{Gathered, gather, ok_unless, nothing_yet}
 use Rattle.smithy_binding.specs.TargetParts.{separator, queries, target_behind, target_with}
 use Rattle.smithy_binding.proofs.Gathers.{gathered, gather-all, IsGathered, IsGathered-all}
@@ -38,56 +31,15 @@ with_query-behind path (p ∷ ps) =
     append_assoc path (separator (has_byte 63 path)) (join_with_byte 38 (map pair_text (p ∷ ps)))
     ∙ ap (λ t. path ++ (separator (has_byte 63 path) ++ t)) (joined_queries p ps)
 
--- the form of the body says where it comes from
-origin-by : (schema : Schema) → origin_at (payload_kind schema) schema ≡ origin_by (form_in schema)
-origin-by schema = go (payload_kind schema)
-  where
-    rest : (b : Bool) → unbound_origin b ≡ origin_by (unbound_form b)
-    rest true = refl
-    rest false = refl
-
-    go : (k : Option ShapeType) → origin_at k schema ≡ origin_by (form_at k (has_unbound_member schema))
-    go (Some kind.Blob) = refl
-    go (Some kind.String) = refl
-    go (Some kind.Structure) = refl
-    go (Some kind.Union) = refl
-    go _ = rest (has_unbound_member schema)
-
--- and whose document it is
-document-by : (schema : Schema) (ws : List Write) → document_value schema ws ≡ document_by (form_in schema) (body_parts schema ws)
-unfolding document_value
-document-by schema ws = go (payload_kind schema)
-  where
-    rest : (b : Bool) → unbound_value b schema ws ≡ document_by (unbound_form b) (body_parts schema ws)
-    rest true = refl
-    rest false = refl
-
-    go : (k : Option ShapeType) → document_value_at k schema ws ≡ document_by (form_at k (has_unbound_member schema)) (body_parts schema ws)
-    go (Some kind.Blob) = refl
-    go (Some kind.String) = refl
-    go (Some kind.Structure) = refl
-    go (Some kind.Union) = refl
-    go _ = rest (has_unbound_member schema)
-
-bytes-by : (schema : Schema) (ws : List Write) (text_of : Document → List ℕ) (f : BodyForm) → document_value schema ws ≡ document_by f (body_parts schema ws)
-    → bytes_from (origin_by f) text_of schema ws ≡ bytes_by f text_of (body_parts schema ws)
-bytes-by schema ws text_of form.Raw e = refl
-bytes-by schema ws text_of form.Payload e = ap (text_of_document text_of) e
-bytes-by schema ws text_of form.Unbound e = ap (text_of_document text_of) e
-bytes-by schema ws text_of form.Nothing e = refl
-
 -- the body by what the code knows of it
-pub fault-by : (schema : Schema) (ws : List Write) (f : BodyForm) (parts : BodyParts) → f ≡ form_in schema → parts ≡ body_parts schema ws → body_fault schema ws ≡ fault_by f parts
-unfolding body_fault
-fault-by schema ws f parts known same = rw (known, same) (ap fault_of_document (document-by schema ws))
+pub fault-by : (schema : Schema) (ws : List Write) (f : BodyForm) (parts : BodyParts) → f ≡ form_in schema → parts ≡ body_parts schema ws → body_fault schema ws ≡ fault_of_document (document_by f parts)
+unfolding body_fault document_value
+fault-by schema ws f parts known same = rw (known, same) refl
 
 pub body-by : (schema : Schema) (ws : List Write) (text_of : Document → List ℕ) (f : BodyForm) (parts : BodyParts) → f ≡ form_in schema → parts ≡ body_parts schema ws
-    → (bytes : List ℕ) → bytes ≡ bytes_by f text_of parts → body text_of schema ws ≡ record { bytes = bytes; origin = origin_by f }
+    → (bytes : List ℕ) → bytes ≡ bytes_by f text_of parts → body text_of schema ws ≡ record { bytes = bytes; form = f }
 unfolding body
-body-by schema ws text_of f parts known same bytes told =
-    ap (λ (o : Origin). record { bytes = bytes_from o text_of schema ws; origin = o }) (origin-by schema ∙ ap origin_by (sym known))
-    ∙ ap (λ (b : List ℕ). record { bytes = b; origin = origin_by f })
-    (bytes-by schema ws text_of f (document-by schema ws ∙ ap (λ g. document_by g (body_parts schema ws)) (sym known)) ∙ ap (bytes_by f text_of) (sym same) ∙ sym told)
+body-by schema ws text_of f parts known same bytes told = rw (told, known, same) refl
 
 -- what the walk says when it ends well
 pub walked : (schema : Schema) (ws : List Write) (s : Gathered) → gather schema (nothing_yet schema) ws ≡ Ok s → (writes_fault schema [] ws ≡ None) × IsGathered schema ws s

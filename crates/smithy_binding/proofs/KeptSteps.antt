@@ -12,12 +12,12 @@ use Rattle.smithy_serde.specs.Values.{Value, Write, label_of}
 use Rattle.smithy_serde.specs.Writes.{Resolved, resolve, resolved, all_resolved, firsts_from, has_seen}
 use Rattle.smithy_http.specs.Headers.{put_all}
 use Rattle.smithy_binding.specs.Bindings.{inserted_at, pairs_at, labelled_at, query_names}
-use Rattle.smithy_binding.specs.Bodies.{is_payload}
+use Rattle.smithy_binding.specs.Bodies.{BodyParts, body_parts, is_payload}
 use Rattle.smithy_binding.specs.Faults.{is_placed_at, bound_fault}
 use Rattle.smithy_binding.specs.Gather.{Gathered, is_seen, add_or_fault}
 use Rattle.smithy_binding.specs.Placed.{first_fault}
 use Rattle.smithy_binding.specs.TargetParts.{queries}
-use Rattle.smithy_binding.specs.KeptWrites.{BodyParts, no_parts, body_parts, kept_at, keep, keep_all, value_of, write_in, unbound_in, kept_in, IsEmpty, AreDefinedWrites, IsKeptDefined}
+use Rattle.smithy_binding.specs.KeptWrites.{no_parts, kept_at, keep, keep_all, value_of, write_in, unbound_in, kept_in, IsEmpty, AreDefinedWrites, IsKeptDefined}
 use Rattle.smithy_binding.specs.declared.body_writes.BodyWrite.{BodyWrite}
 use Rattle.smithy_binding.specs.declared.body_writes.BodyWrites.{BodyWrites}
 use Rattle.smithy_binding.proofs.Gathers.{resolve-resolved, seen_next}

@@ -7,7 +7,7 @@ use Rattle.std.proofs.lemmas.Option.{slice_get_cases}
 use Rattle.smithy_ids.specs.declared.shape_type.ShapeType.{ShapeType}
 use Rattle.smithy_schema.specs.Nodes.{Schema, at_place, member_at, Binding, to_payload, binding_of}
 use Rattle.smithy_binding.specs.Bodies.{is_payload}
-use Rattle.smithy_binding.specs.BodyForms.{kind_at, kind_if_payload}
+use Rattle.smithy_binding.specs.PayloadKinds.{kind_at, kind_if_payload}
 use Rattle.smithy_binding.proofs.WriteSteps.{drop-some}
 
 abbrev pub kind_in : List Schema → Option ShapeType

@@ -1,5 +1,5 @@
 -- What follows from a refusal.
-use Rattle.std.proofs.Common.{Result, Ok, Err, IfOk, IfErr, OnOk}
+use Rattle.std.proofs.Common.{Result, Ok, Err, IfErr}
 use Rattle.smithy_schema.specs.Nodes.{Table}
 use Rattle.smithy_serde.specs.declared.error.SerdeError.{SerdeError}
 use Rattle.smithy_serde.specs.declared.error.SerdeError.TheVariants.{UnknownMember, InvalidInput, UnsupportedOperation, Custom, OutOfMemory}
@@ -24,18 +24,6 @@ pub IfErr-each : {A : Type 0} (r : Result A SerdeError) (P Q : Table → Fault �
     → IfErr r (λ e. (t : Table) → TellsFault e (Q t))
 IfErr-each (Ok x) P Q h p = p
 IfErr-each (Err e) P Q h p = λ t. TellsFault-then e (P t) (Q t) (h t) (p t)
-
-pub IfOk-then : {A E : Type 0} (r : Result A E) (P Q : A → Type 0) → ((x : A) → P x → Q x) → IfOk r P → IfOk r Q
-IfOk-then (Ok x) P Q h p = h x p
-IfOk-then (Err e) P Q h p = p
-
-pub OnOk-then : {A E : Type 0} (r : Result A E) (P Q : Type 0) → (P → Q) → OnOk r P → OnOk r Q
-OnOk-then (Ok x) P Q h p = h p
-OnOk-then (Err e) P Q h p = p
-
-pub OnOk-both : {A E : Type 0} (r : Result A E) (P Q R : Type 0) → (P → Q → R) → OnOk r P → OnOk r Q → OnOk r R
-OnOk-both (Ok x) P Q R h p q = h p q
-OnOk-both (Err e) P Q R h p q = p
 
 -- the same for one table
 pub IfErr-at : {A : Type 0} (r : Result A SerdeError) (P : Table → Fault → Type 0) (t : Table) → IfErr r (λ e. (t : Table) → TellsFault e (P t)) → IfErr r (λ e. TellsFault e (P t))

@@ -1,5 +1,5 @@
 -- A loop that tells the writes of the body.
-use Rattle.std.proofs.Common.{◌≡◌, refl, ap, sym, ◌∙◌, arith, ℕ, ◌<◌, true, List, [], ◌∷◌, ◌++◌, length, get_or, Option, Some, None, Result, Ok, Err, IfOk, IfErr, option_map, subst, zero, suc, unwrap_or}
+use Rattle.std.proofs.Common.{◌≡◌, refl, ap, sym, ◌∙◌, arith, ℕ, ◌<◌, List, [], ◌∷◌, ◌++◌, length, get_or, Option, Some, None, Result, Ok, Err, IfOk, IfErr, option_map, subst, zero, suc, unwrap_or}
 use Rattle.std.proofs.lemmas.List.{map-append}
 use Rattle.std.specs.Result.{result_ok, result_err}
 use Rattle.smithy_types.specs.Documents.{Document}
@@ -14,9 +14,9 @@ use Rattle.smithy_serde.specs.Finishing.{IsTextOf}
 use Rattle.smithy_serde.specs.StoredValues.{IsDefined}
 use Rattle.smithy_serde.proofs.ToldSoFar.{TellsInOrder}
 use Rattle.smithy_binding.specs.declared.body_writes.BodyWrite.{BodyWrite}
-use Rattle.smithy_binding.specs.Faults.{custom}
+use Rattle.smithy_binding.specs.Bodies.{text_of_document}
+use Rattle.smithy_binding.specs.Faults.{custom, fault_of_document}
 use Rattle.smithy_binding.specs.Refusing.{TellsFault}
-use Rattle.smithy_binding.specs.BodyForms.{fault_of_document, text_of_document}
 use Rattle.smithy_binding.specs.KeptWrites.{write_in, unbound_in, AreDefinedWrites}
 
 -- the writes, as they stand inside a value

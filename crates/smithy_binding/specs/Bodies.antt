@@ -8,15 +8,8 @@ use Rattle.smithy_schema.specs.Nodes.{Schema, members_of, is_bound, Binding, to_
 use Rattle.smithy_serde.specs.Values.{Value, text, blob, structure, Write, writes_of}
 use Rattle.smithy_serde.specs.DocumentOf.{doc_of}
 use Rattle.smithy_serde.specs.Writes.{firsts, unbound}
-
--- where the bytes of a body come from: a text or blob as it is, the codec, or nowhere, so that there are none
-pub data Origin : Type 0 where
-  raw codec nowhere : Origin
-
--- the bytes with where they come from
-pub record Body : Type 0 where
-  pub bytes : List ℕ
-  pub origin : Origin
+use Rattle.smithy_binding.specs.declared.body_form.BodyForm.{BodyForm}
+use Rattle.smithy_binding.specs.declared.body_form.BodyForm.TheVariants as form
 
 -- the member is the payload
 abbrev pub is_payload : Binding → Bool
@@ -27,30 +20,55 @@ is_payload _ = false
 abbrev pub payload_kind : Schema → Option ShapeType
 payload_kind schema = option_map (λ m. m.node.kind) (find (λ m. is_payload (binding_of m)) (members_of schema))
 
--- the value of the payload's first write
-abbrev pub payload_value : Schema → List Write → Option Value
-payload_value schema ws = option_map (λ r. r.value) (find (λ r. is_payload (binding_of r.member)) (firsts schema ws))
-
 -- some member stands in the body
 abbrev pub has_unbound_member : Schema → Bool
 has_unbound_member schema = list_any (λ m. not (is_bound m)) (members_of schema)
 
--- the structure of the unbound writes, where some member is unbound
-abbrev pub unbound_value : Bool → Schema → List Write → Option Value
-unbound_value true schema ws = Some (structure (writes_of (unbound schema ws)))
-unbound_value false schema ws = None
+-- without a payload the unbound members are the body, where there are some
+abbrev pub unbound_form : Bool → BodyForm
+unbound_form true = form.Unbound
+unbound_form false = form.Nothing
 
--- the same by the payload's kind: a structure payload's value, or without a payload the unbound writes
-abbrev pub document_value_at : Option ShapeType → Schema → List Write → Option Value
-document_value_at (Some kind.Blob) schema ws = None
-document_value_at (Some kind.String) schema ws = None
-document_value_at (Some kind.Structure) schema ws = payload_value schema ws
-document_value_at (Some kind.Union) schema ws = payload_value schema ws
-document_value_at _ schema ws = unbound_value (has_unbound_member schema) schema ws
+-- the form for a payload of this kind, if there is one, and beside it an unbound member or none
+abbrev pub form_at : Option ShapeType → Bool → BodyForm
+form_at (Some kind.Blob) has_unbound = form.Raw
+form_at (Some kind.String) has_unbound = form.Raw
+form_at (Some kind.Structure) has_unbound = form.Payload
+form_at (Some kind.Union) has_unbound = form.Payload
+form_at _ has_unbound = unbound_form has_unbound
+
+-- the form of a schema's bodies
+abbrev pub form_in : Schema → BodyForm
+form_in schema = form_at (payload_kind schema) (has_unbound_member schema)
+
+-- the codec writes the body
+abbrev pub is_codec : BodyForm → Bool
+is_codec form.Raw = false
+is_codec form.Payload = true
+is_codec form.Unbound = true
+is_codec form.Nothing = false
+
+-- what a body is made of: the writes of unbound members in order, and the value of the payload's first write
+pub record BodyParts : Type 0 where
+  pub unbound : List Write
+  pub payload : Option Value
+
+-- those of a schema's writes
+abbrev pub body_parts : Schema → List Write → BodyParts
+body_parts schema ws = record {
+  unbound = unbound schema ws;
+  payload = option_map (λ r. r.value) (find (λ r. is_payload (binding_of r.member)) (firsts schema ws));
+}
 
 -- the value whose document the body is, if there is one
+abbrev pub document_by : BodyForm → BodyParts → Option Value
+document_by form.Raw parts = None
+document_by form.Payload parts = parts.payload
+document_by form.Unbound parts = Some (structure (writes_of parts.unbound))
+document_by form.Nothing parts = None
+
 unfoldable pub document_value : Schema → List Write → Option Value
-document_value schema ws = document_value_at (payload_kind schema) schema ws
+document_value schema ws = document_by (form_in schema) (body_parts schema ws)
 
 -- the bytes of a text or a blob
 abbrev pub raw_bytes : Value → List ℕ
@@ -58,27 +76,20 @@ raw_bytes (text t) = t
 raw_bytes (blob bytes) = bytes
 raw_bytes _ = []
 
--- without a payload the codec writes the body where some member is unbound
-abbrev pub unbound_origin : Bool → Origin
-unbound_origin true = codec
-unbound_origin false = nowhere
+-- the codec's text of the value's document, none without a value
+abbrev pub text_of_document : (Document → List ℕ) → Option Value → List ℕ
+text_of_document text_of v = unwrap_or (option_map text_of (option_and_then doc_of v)) []
 
--- by the kind of the payload: a Blob and a String stand raw, a Structure and a Union by the codec
-abbrev pub origin_at : Option ShapeType → Schema → Origin
-origin_at (Some kind.Blob) schema = raw
-origin_at (Some kind.String) schema = raw
-origin_at (Some kind.Structure) schema = codec
-origin_at (Some kind.Union) schema = codec
-origin_at _ schema = unbound_origin (has_unbound_member schema)
+-- the bytes of a raw payload, or else the text of the document; none where the payload was not written
+abbrev pub bytes_by : BodyForm → (Document → List ℕ) → BodyParts → List ℕ
+bytes_by form.Raw text_of parts = unwrap_or (option_map raw_bytes parts.payload) []
+bytes_by f text_of parts = text_of_document text_of (document_by f parts)
 
--- the bytes by their origin; none where the payload was not written
-abbrev pub bytes_from : Origin → (Document → List ℕ) → Schema → List Write → List ℕ
-bytes_from raw text_of schema ws = unwrap_or (option_map raw_bytes (payload_value schema ws)) []
-bytes_from codec text_of schema ws = unwrap_or (option_map text_of (option_and_then doc_of (document_value schema ws))) []
-bytes_from nowhere text_of schema ws = []
+-- the bytes with their form
+pub record Body : Type 0 where
+  pub bytes : List ℕ
+  pub form : BodyForm
 
 -- The bytes of a Blob or String payload; or the text of the document of a structure payload, empty without one; or that of the object of the unbound writes; or nothing.
 unfoldable pub body : (Document → List ℕ) → Schema → List Write → Body
-body text_of schema ws =
-    let origin = origin_at (payload_kind schema) schema in
-    record { bytes = bytes_from origin text_of schema ws; origin = origin }
+body text_of schema ws = record { bytes = bytes_by (form_in schema) text_of (body_parts schema ws); form = form_in schema }

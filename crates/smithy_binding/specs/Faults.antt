@@ -128,9 +128,13 @@ writes_fault schema seen [] = None
 writes_fault schema seen (w ∷ ws) =
     option_or (write_fault schema seen w) (writes_fault schema (seen ++ option_to_list (resolve schema w.label)) ws)
 
+-- the first rule of documents that a value breaks, if there is one
+abbrev pub fault_of_document : Option Value → Option Fault
+fault_of_document v = option_map (λ f. custom (document_fault_text f)) (option_and_then document_fault v)
+
 -- the first broken rule of the body's document
 unfoldable pub body_fault : Schema → List Write → Option Fault
-body_fault schema ws = option_map (λ f. custom (document_fault_text f)) (option_and_then document_fault (document_value schema ws))
+body_fault schema ws = fault_of_document (document_value schema ws)
 
 -- the first hole without a text (httpLabel: a label may not be empty)
 abbrev pub hole_fault : Result (List ℕ) (List ℕ) → Option Fault

@@ -1,26 +1,18 @@
 -- What is kept of the writes for the body.
-use Rattle.std.specs.Prelude.{◌≡◌, List, [], ◌∷◌, ◌++◌, map, Option, None, Some, option_map, IfSome}
+use Rattle.std.specs.Prelude.{◌≡◌, List, [], ◌∷◌, ◌++◌, map, None, Some, option_map, IfSome}
 use Rattle.std.specs.Option.{option_or}
 use Rattle.smithy_schema.specs.Nodes.{Schema, Table, Binding, to_body, to_payload, binding_of}
 use Rattle.smithy_schema.specs.References.{schema_of}
 use Rattle.smithy_serde.specs.StoredValues.{value_in, IsDefined}
 use Rattle.smithy_serde.specs.Values.{Value, Write, label_of}
-use Rattle.smithy_serde.specs.Writes.{Resolved, unbound}
-use Rattle.smithy_binding.specs.Bodies.{payload_value}
+use Rattle.smithy_serde.specs.Writes.{Resolved}
+use Rattle.smithy_binding.specs.Bodies.{BodyParts}
 use Rattle.smithy_binding.specs.declared.body_writes.BodyWrite.{BodyWrite}
 use Rattle.smithy_binding.specs.declared.body_writes.BodyWrites.{BodyWrites}
 
--- the writes of unbound members in order, and the value of the payload's first write
-pub record BodyParts : Type 0 where
-  pub unbound : List Write
-  pub payload : Option Value
-
+-- nothing of a body
 abbrev pub no_parts : BodyParts
 no_parts = record { unbound = []; payload = None }
-
--- those of a schema's writes
-abbrev pub body_parts : Schema → List Write → BodyParts
-body_parts schema ws = record { unbound = unbound schema ws; payload = payload_value schema ws }
 
 -- with one more write, of a member with this binding
 abbrev pub kept_at : Binding → Schema → Value → BodyParts → BodyParts

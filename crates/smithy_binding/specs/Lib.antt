@@ -20,7 +20,7 @@ pub mod CutTemplate
 pub mod ClearParts
 pub mod TargetParts
 pub mod Typed
-pub mod BodyForms
 pub mod KeptWrites
+pub mod PayloadKinds
 pub mod Placed
 pub mod Checking

@@ -1,5 +1,5 @@
 -- The request of an input (Smithy, HTTP protocol bindings).
-use Rattle.std.specs.Prelude.{ℕ, Bool, true, false, not, ◌&&◌, ◌||◌, ◌==◌, codes, List, [], ◌∷◌, ◌++◌, length, map, Result, Option, option_map, is_none, decimal, if◌then◌else◌}
+use Rattle.std.specs.Prelude.{ℕ, Bool, not, ◌&&◌, ◌||◌, ◌==◌, codes, List, [], ◌∷◌, ◌++◌, length, map, Result, Option, option_map, is_none, decimal, if◌then◌else◌}
 use Rattle.std.specs.List.{join_with_byte}
 use Rattle.std.specs.Option.{option_map_or}
 use Rattle.std.specs.Result.{result_ok}
@@ -13,7 +13,7 @@ use Rattle.smithy_http.specs.Requests.{Request}
 use Rattle.smithy_strings.specs.Escapes.{escape}
 use Rattle.smithy_binding.specs.Filling.{fill}
 use Rattle.smithy_binding.specs.Bindings.{headers, pairs, labels}
-use Rattle.smithy_binding.specs.Bodies.{Body, Origin, codec, body}
+use Rattle.smithy_binding.specs.Bodies.{Body, is_codec, body}
 
 -- a protocol: the content type of its bodies, and the text of a document in its codec
 pub record Protocol : Type 0 where
@@ -54,18 +54,13 @@ abbrev pub with_default : Bool → List ℕ → List ℕ → List (List ℕ × L
 with_default wanted name value pairs =
     if wanted && is_none (found name pairs) then pairs ++ (name, value) ∷ [] else pairs
 
--- the body is a document's text
-abbrev pub is_codec : Origin → Bool
-is_codec codec = true
-is_codec _ = false
-
 -- the default content type is wanted: the body is the codec's, and the default is not left out (RFC 7231, section 3.1.1.5)
 abbrev pub adds_content_type : Body → Omit → Bool
-adds_content_type b omit = is_codec b.origin && not omit.content_type
+adds_content_type b omit = is_codec b.form && not omit.content_type
 
 -- the length is wanted: the body is the codec's or not empty, and the default is not left out (RFC 7230, section 3.3.2)
 abbrev pub adds_content_length : Body → Omit → Bool
-adds_content_length b omit = (not (length b.bytes == 0) || is_codec b.origin) && not omit.content_length
+adds_content_length b omit = (not (length b.bytes == 0) || is_codec b.form) && not omit.content_length
 
 -- the headers of the members, and behind them the default content type and then the length
 abbrev pub all_headers : Protocol → Body → Omit → List (List ℕ × List ℕ) → List (List ℕ × List ℕ)

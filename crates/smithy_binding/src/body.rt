@@ -9,9 +9,9 @@ ghost use Rattle.smithy_serde.specs.DocumentOf.{document_fault};
 ghost use Rattle.smithy_serde.specs.Refusing.{RefusesByRule, IsFaultRefusal};
 ghost use Rattle.smithy_serde.specs.Finishing.{IsTextOf};
 ghost use Rattle.smithy_serde.specs.StoredValues.{value_in, IsDefined};
-ghost use Rattle.smithy_binding.specs.Bodies.{raw_bytes as bytes_of_raw};
+ghost use Rattle.smithy_binding.specs.Bodies.{raw_bytes as bytes_of_raw, text_of_document, document_by, bytes_by};
+ghost use Rattle.smithy_binding.specs.Faults.{fault_of_document};
 ghost use Rattle.smithy_binding.specs.Refusing.{TellsFault};
-ghost use Rattle.smithy_binding.specs.BodyForms.{fault_of_document, text_of_document, fault_by, bytes_by};
 ghost use Rattle.smithy_binding.specs.KeptWrites.{value_of, unbound_in, AreDefinedWrites, kept_in, IsKeptDefined};
 
 use crate::body_form::BodyForm;
@@ -124,9 +124,9 @@ pub fn request_body<S: FinishSerializer + Drop>(
     requires lawful { S.lawful serializer }
     requires told { S.stands_for serializer empty_state }
     requires unrefused { S.first_refusal serializer ≡ None }
-    ensures ok { IfOk result (λ _. fault_by form (kept_in table.now writes.now) ≡ None) }
+    ensures ok { IfOk result (λ _. fault_of_document (document_by form (kept_in table.now writes.now)) ≡ None) }
     ensures bytes { IfOk result (λ b. b ≡ bytes_by form (S.text serializer) (kept_in table.now writes.now)) }
-    ensures err { IfErr result (λ e. TellsFault e (λ f. fault_by form (kept_in table.now writes.now) ≡ Some f)) }
+    ensures err { IfErr result (λ e. TellsFault e (λ f. fault_of_document (document_by form (kept_in table.now writes.now)) ≡ Some f)) }
 {
     match form {
         BodyForm::Raw => Ok(raw_body(alloc, writes.payload)?),

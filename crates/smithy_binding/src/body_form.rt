@@ -3,9 +3,8 @@ ghost use Rattle.std.specs.Prelude.{◌≡◌, Some, false, not};
 ghost use Rattle.std.specs.Option.{option_map_or};
 ghost use Rattle.smithy_schema.specs.Nodes.{member_at, is_bound};
 ghost use Rattle.smithy_schema.specs.References.{schema_of};
-ghost use Rattle.smithy_binding.specs.Bodies.{has_unbound_member as has_unbound};
-ghost use Rattle.smithy_binding.specs.BodyForms.{form_at, form_in, kind_if_payload, origin_by, unbound_form as form_without};
-ghost use Rattle.smithy_binding.specs.Placing.{is_codec};
+ghost use Rattle.smithy_binding.specs.Bodies.{has_unbound_member as has_unbound, form_at, form_in, is_codec, unbound_form as form_without};
+ghost use Rattle.smithy_binding.specs.PayloadKinds.{kind_if_payload};
 
 use crate::binding::{has_unbound_members, member_count};
 use smithy_ids::ShapeType;
@@ -27,7 +26,7 @@ pub enum BodyForm {
 impl BodyForm {
     /// Whether the codec writes the body.
     pub fn is_codec(self) -> bool
-        ensures { result ≡ is_codec (origin_by self) }
+        ensures { result ≡ is_codec self }
     {
         match self {
             BodyForm::Raw => false,

@@ -16,7 +16,8 @@ ghost use Rattle.smithy_binding.specs.Gather.{gather_one, gather, add_or_fault, 
 ghost use Rattle.smithy_binding.specs.Placed.{has_placed_kind, is_text_member, is_list_binding, takes_map, placed_first, first_fault, IsSingle};
 ghost use Rattle.smithy_binding.specs.Refusing.{TellsFault};
 ghost use Rattle.smithy_binding.specs.Seen.{gathered_of};
-ghost use Rattle.smithy_binding.specs.KeptWrites.{body_parts, keep, keep_all, kept_in, IsEmpty, IsKeptDefined};
+ghost use Rattle.smithy_binding.specs.Bodies.{body_parts};
+ghost use Rattle.smithy_binding.specs.KeptWrites.{keep, keep_all, kept_in, IsEmpty, IsKeptDefined};
 
 use crate::binding::{is_placed, name_of};
 use crate::body_writes::BodyWrites;

@@ -1,10 +1,10 @@
 use Rattle.std.proofs.Common.{◌≡◌, ap, sym, ◌∙◌, true, false}
+use Rattle.std.proofs.lemmas.Result.{IfOk-weaker}
 use Rattle.smithy_schema.specs.Nodes.{members_of}
 use Rattle.smithy_schema.specs.References.{schema_of}
 use Rattle.smithy_binding.specs.Checked.{has_sound_names, has_sound_http}
 use Rattle.smithy_binding.specs.Checking.{are_sound, have_sound_names}
 use Rattle.smithy_binding.proofs.JointTests.{first_fails, second_fails, third_decides}
-use Rattle.smithy_binding.proofs.Refusals.{IfOk-then}
 use Rattle.smithy_binding.proofs.check.are_checked.Goals as goal
 
 pub returns-then-not-are_sound : goal.returns-then-not-are_sound
@@ -25,5 +25,5 @@ returns c =
     let schema = schema_of c.args.schema in
     let sound : are_sound schema (members_of schema) ≡ true = ap (are_sound schema) (sym c.requires) ∙ sym c.are_sound.ensures ∙ c.if-not-are_sound.false in
     let unlike : c.in_ok-sound.sound ≡ has_sound_names schema = c.in_ok-sound.ensures ∙ ap have_sound_names c.requires in
-    IfOk-then c.is_sound_http.result _ _
+    IfOk-weaker c.is_sound_http.result _ _
     (λ b e. e ∙ third_decides (are_sound schema (members_of schema)) (has_sound_names schema) (has_sound_http schema) sound (sym unlike ∙ c.if-not-sound.false)) c.is_sound_http.ensures

@@ -1,21 +1,21 @@
 use Rattle.std.proofs.Common.{rules, ◌≡◌, ap, sym, ◌∙◌, refl, Some, None, Ok, Err, IfErr, ℕ, List, length, map, string_bytes}
+use Rattle.std.proofs.lemmas.Result.{IfOk-weaker}
 use Rattle.smithy_schema.specs.References.{schema_of}
 use Rattle.smithy_serde.specs.StoredValues.{writes_in}
 use Rattle.smithy_serde.specs.Values.{list_of}
-use Rattle.smithy_binding.specs.Bodies.{Body, body}
-use Rattle.smithy_binding.specs.BodyForms.{origin_by, fault_by}
+use Rattle.smithy_binding.specs.Bodies.{Body, body, body_parts, document_by, is_codec}
 use Rattle.smithy_binding.specs.DefaultHeaders.{omit_of, with_defaults}
-use Rattle.smithy_binding.specs.Faults.{hole_fault, legal_fault, body_fault}
+use Rattle.smithy_binding.specs.Faults.{hole_fault, body_fault, fault_of_document}
 use Rattle.smithy_binding.specs.Gather.{gather, nothing_yet}
-use Rattle.smithy_binding.specs.KeptWrites.{body_parts, kept_in}
-use Rattle.smithy_binding.specs.Placing.{Protocol, all_headers, is_codec}
+use Rattle.smithy_binding.specs.KeptWrites.{kept_in}
+use Rattle.smithy_binding.specs.Placing.{Protocol, all_headers}
 use Rattle.smithy_binding.specs.Refusing.{TellsFault}
 use Rattle.smithy_binding.specs.Seen.{label_pair, gathered_of}
 use Rattle.smithy_binding.specs.TargetParts.{target_with}
 use Rattle.smithy_binding.proofs.CheckedMethods.{is_token-method_of}
 use Rattle.smithy_binding.proofs.Ends.{target_by, fault-walk, fault-body, fault-hole, fault-legal, place-is, fault-by, body-by, same_request}
 use Rattle.smithy_binding.proofs.PlacedKinds.{placed-kinds}
-use Rattle.smithy_binding.proofs.Refusals.{IfErr-then, IfOk-then}
+use Rattle.smithy_binding.proofs.Refusals.{IfErr-then}
 use Rattle.smithy_binding.proofs.place.place_writes.Goals as goal
 
 pub gather_writes-requires-clause-kinds : goal.gather_writes-requires-clause-kinds
@@ -36,7 +36,7 @@ returns-in_err-body-clause-err g c =
     let walk : gather schema (nothing_yet schema) ws ≡ Ok s = c.in_ok-gather_writes.ensures.ok in
     let parts = kept_in c.args.table.now c.gather_writes.new.parts.body in
     let same : parts ≡ body_parts schema ws = c.in_ok-gather_writes.ensures.body in
-    let told : IfErr c.from_residual-in_err-body.result (λ e. TellsFault e (λ f. fault_by c.body_form-form.result parts ≡ Some f)) = search rules in
+    let told : IfErr c.from_residual-in_err-body.result (λ e. TellsFault e (λ f. fault_of_document (document_by c.body_form-form.result parts) ≡ Some f)) = search rules in
     IfErr-then c.from_residual-in_err-body.result _ _
     (λ f e. fault-body schema ws c.args.endpoint.now s f walk (fault-by schema ws c.body_form-form.result parts c.body_form-form.ensures same ∙ e)) told
 
@@ -66,7 +66,7 @@ returns-clause-ok g c =
     let same : parts ≡ body_parts schema ws = c.in_ok-gather_writes.ensures.body in
     let none : body_fault schema ws ≡ None = fault-by schema ws c.body_form-form.result parts c.body_form-form.ensures same ∙ c.in_ok-body.ensures.ok in
     let target : target_by schema c.args.endpoint.now s ≡ Ok (string_bytes c.in_ok-target.target) = (rw (c.template_of-template.ensures, c.as_slice.ensures.value, c.as_str.ensures.value) at c.in_ok-target.ensures.ok) in
-    IfOk-then c.request_with.result _ _
+    IfOk-weaker c.request_with.result _ _
     (λ r e. fault-legal schema ws c.args.endpoint.now s (string_bytes c.in_ok-target.target) walk none target ∙ e) c.request_with.ensures.ok
 
 pub returns-clause-err : goal.returns-clause-err
@@ -93,13 +93,13 @@ returns-clause-placed g c =
     let target : target_by schema c.args.endpoint.now s ≡ Ok (string_bytes c.in_ok-target.target) = (rw (c.template_of-template.ensures, c.as_slice.ensures.value, c.as_str.ensures.value) at c.in_ok-target.ensures.ok) in
     let form = c.body_form-form.result in
     let protocol : Protocol = record { content_type = c.args.content_type.now; text_of = g.S.ShapeSerializer.text c.args.serializer } in
-    let b : Body = record { bytes = c.in_ok-body.body; origin = origin_by form } in
+    let b : Body = record { bytes = c.in_ok-body.body; form = form } in
     let omit = omit_of c.args.omit in
     let body : body protocol.text_of schema ws ≡ b = body-by schema ws protocol.text_of form parts c.body_form-form.ensures same c.in_ok-body.body c.in_ok-body.ensures.bytes in
     let headers : c.add_defaults.new.headers ≡ all_headers protocol b omit s.headers =
     c.in_ok-add_defaults.ensures ∙ ap (λ is_codec. with_defaults c.args.content_type.now is_codec (length c.as_slice-length.result.now) omit s.headers) c.is_codec.ensures
-    ∙ ap (λ (bytes : List ℕ). with_defaults c.args.content_type.now (is_codec (origin_by form)) (length bytes) omit s.headers) c.as_slice-length.ensures in
-    IfOk-then c.request_with.result _ _
+    ∙ ap (λ (bytes : List ℕ). with_defaults c.args.content_type.now (is_codec form) (length bytes) omit s.headers) c.as_slice-length.ensures in
+    IfOk-weaker c.request_with.result _ _
     (λ r e. place-is protocol schema ws c.args.endpoint.now omit s (string_bytes c.in_ok-target.target) b walk body target
     ∙ ap Some (sym (e ∙ same_request c.method_of.result.now _ (string_bytes c.in_ok-target.target) _ c.add_defaults.new.headers _ c.in_ok-body.body _ c.method_of.ensures refl headers refl)))
     c.request_with.ensures.request

@@ -1,6 +1,8 @@
 use Rattle.std.proofs.Common.{◌≡◌, ℕ, ap, sym, ◌∙◌, subst, Bool, List, true, false, slice_set, Ok, Err}
+use Rattle.std.proofs.lemmas.Result.{on_ok_weaker}
 use Rattle.smithy_schema.specs.Nodes.{Schema, Binding}
 use Rattle.smithy_schema.specs.References.{schema_of}
+use Rattle.smithy_serde.proofs.ResultLemmas.{OnOk-both}
 use Rattle.smithy_serde.specs.StoredValues.{value_in}
 use Rattle.smithy_serde.specs.Values.{Value}
 use Rattle.smithy_serde.specs.Writes.{Resolved}
@@ -9,7 +11,7 @@ use Rattle.smithy_binding.specs.Gather.{Gathered, is_seen}
 use Rattle.smithy_binding.specs.Placed.{placed_first}
 use Rattle.smithy_binding.specs.Seen.{gathered_of}
 use Rattle.smithy_binding.specs.KeptWrites.{kept_at, kept_in, IsKeptDefined}
-use Rattle.smithy_binding.proofs.Refusals.{TellsFault-then, IfErr-then, OnOk-then, OnOk-both}
+use Rattle.smithy_binding.proofs.Refusals.{TellsFault-then, IfErr-then}
 use Rattle.smithy_binding.proofs.KeptSteps.{add-unplaced}
 use Rattle.smithy_binding.proofs.WriteSteps.{add-wrong, add-again, add-first, add-fault}
 use Rattle.smithy_binding.proofs.placement.add_resolved.Goals as goal
@@ -43,7 +45,7 @@ returns-clause-ok c =
     let t = c.args.table.now in
     let v = value_in t c.args.value.now in
     let marked : c.mark.new.seen.items ≡ slice_set s.seen c.args.position true = c.mark.ensures in
-    OnOk-both c.add_first.result _ _ _
+    OnOk-both c.add_first.result
     (λ none put. add-first (schema_of c.args.schema) s (write_of c.args.position m v) (sym (c.fits_member.ensures t) ∙ c.if-not-fits_member.false) seen none
     ∙ ap (λ (xs : List Bool). Ok (record (placed_first (schema_of c.args.schema) m v s) { seen = xs })) (sym marked) ∙ ap (λ (g : Gathered). Ok g) (sym put))
     c.add_first.ensures.ok c.add_first.ensures.put
@@ -70,9 +72,9 @@ returns-clause-body c =
     let t = c.args.table.now in
     let m = schema_of c.args.member in
     let v = value_in t c.args.value.now in
-    OnOk-then c.add_first.result _ _ (λ same. ap (kept_in t) same ∙ c.in_ok-keep.ensures.kept t ∙ ap (λ (b : Binding). kept_at b m v (kept_in t c.args.parts.now.body)) c.request_binding-binding.ensures) c.add_first.ensures.body
+    on_ok_weaker c.add_first.result (λ same. ap (kept_in t) same ∙ c.in_ok-keep.ensures.kept t ∙ ap (λ (b : Binding). kept_at b m v (kept_in t c.args.parts.now.body)) c.request_binding-binding.ensures) c.add_first.ensures.body
 
 pub returns-clause-defined : goal.returns-clause-defined
 returns-clause-defined c =
     let t = c.args.table.now in
-    OnOk-then c.add_first.result _ _ (λ same all one. subst (IsKeptDefined t) (sym same) (c.in_ok-keep.ensures.defined t all one)) c.add_first.ensures.body
+    on_ok_weaker c.add_first.result (λ same all one. subst (IsKeptDefined t) (sym same) (c.in_ok-keep.ensures.defined t all one)) c.add_first.ensures.body
