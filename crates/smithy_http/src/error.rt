@@ -3,7 +3,7 @@ ghost use Rattle.std.specs.Prelude.{◌≡◌};
 ghost use Rattle.smithy_http.specs.declared.error.HttpError.TheVariants as http_error;
 
 use smithy_types::OutOfMemory;
-use std::alloc::{AllocError, AllocFailed};
+use std::alloc::AllocFailed;
 use std::error::Error;
 use std::fmt;
 
@@ -89,14 +89,6 @@ impl From<OutOfMemory> for HttpError {
     ghost from_gives = { λ _ e. e ≡ http_error.OutOfMemory };
 
     fn from(_: OutOfMemory) -> HttpError {
-        HttpError::OutOfMemory
-    }
-}
-
-impl From<AllocError> for HttpError {
-    ghost from_gives = { λ _ e. e ≡ http_error.OutOfMemory };
-
-    fn from(_: AllocError) -> HttpError {
         HttpError::OutOfMemory
     }
 }

@@ -21,6 +21,10 @@ abbrev pub IsWhole : Option (List ℕ) → List ℕ → Option (List ℕ) → Ty
 IsWhole None bytes after = Unit {0}
 IsWhole (Some all) bytes after = (bytes ≡ all) × (after ≡ Some [])
 
+-- the most bytes that an input may have: 16 MiB
+abbrev pub max_job_len : ℕ
+max_job_len = 16777216
+
 -- exactly one byte more than the most was read
 abbrev pub IsTooLong : ℕ → Option (List ℕ) → Option (List ℕ) → Type 0
 IsTooLong most before after = (given : List ℕ) × (length given ≡ most + 1) × Gave before given after

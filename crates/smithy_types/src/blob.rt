@@ -29,8 +29,8 @@ impl Blob {
         })
     }
 
-    /// The bytes of a `Vec`.
-    pub(crate) fn from_vec(bytes: Vec<u8>) -> Blob
+    /// These bytes, with no copy of them.
+    pub fn from_vec(bytes: Vec<u8>) -> Blob
         ensures { result ≡ bytes.items }
     {
         Blob { bytes }

@@ -4,23 +4,10 @@ ghost use Rattle.smithy_types.specs.declared.error.DocumentError.TheVariants as 
 ghost use Rattle.smithy_types.specs.declared.error.TypesError.TheVariants as types_error;
 
 use crate::text::Text;
-use std::alloc::{AllocError, AllocFailed};
+use std::alloc::AllocFailed;
 
 /// Memory was wanted and not there: the refusal of calls that have no other.
-#[derive(Clone, Copy, Debug, PartialEq, Eq, Drop)]
-pub struct OutOfMemory;
-
-impl From<AllocError> for OutOfMemory {
-    fn from(_: AllocError) -> OutOfMemory {
-        OutOfMemory
-    }
-}
-
-impl<T: Drop> From<AllocFailed<T>> for OutOfMemory {
-    fn from(_: AllocFailed<T>) -> OutOfMemory {
-        OutOfMemory
-    }
-}
+pub use std::alloc::AllocError as OutOfMemory;
 
 /// Why a text or a point in time was refused.
 #[derive(Clone, Copy, Debug, PartialEq, Eq)]
@@ -39,14 +26,6 @@ impl From<OutOfMemory> for TypesError {
     ghost from_gives = { λ _ e. e ≡ types_error.OutOfMemory };
 
     fn from(_: OutOfMemory) -> TypesError {
-        TypesError::OutOfMemory
-    }
-}
-
-impl From<AllocError> for TypesError {
-    ghost from_gives = { λ _ e. e ≡ types_error.OutOfMemory };
-
-    fn from(_: AllocError) -> TypesError {
         TypesError::OutOfMemory
     }
 }
@@ -80,14 +59,6 @@ impl From<OutOfMemory> for DocumentError {
     ghost from_gives = { λ _ e. e ≡ document_error.OutOfMemory };
 
     fn from(_: OutOfMemory) -> DocumentError {
-        DocumentError::OutOfMemory
-    }
-}
-
-impl From<AllocError> for DocumentError {
-    ghost from_gives = { λ _ e. e ≡ document_error.OutOfMemory };
-
-    fn from(_: AllocError) -> DocumentError {
         DocumentError::OutOfMemory
     }
 }

@@ -41,5 +41,5 @@ pub use settings::{DocumentSettings, NoSettings};
 pub use sink::Sink;
 pub use source::{Failed, Source};
 pub use standard::{StdSink, StdSource};
-pub use streams::{MOST, ReadError, read_all, write_all};
+pub use streams::{MAX_JOB_LEN, ReadError, read_all, write_all};
 pub use text::Text;

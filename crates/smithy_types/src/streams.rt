@@ -1,14 +1,15 @@
 // Reading a source to its end, and writing all of a text.
 ghost use Rattle.std.specs.Prelude.{◌≡◌, ◌≤◌, length, IfOk, OnOk, OnErr, Err};
 ghost use Rattle.smithy_types.specs.Causes.{Rose};
-ghost use Rattle.smithy_types.specs.Streams.{IsWhole, IsTooLong, Gained, GainedPart, IsFull};
+ghost use Rattle.smithy_types.specs.Streams.{IsWhole, IsTooLong, max_job_len, Gained, GainedPart, IsFull};
 
+use crate::error::OutOfMemory;
 use crate::sink::Sink;
 use crate::source::{Failed, Source};
-use std::alloc::{AllocError, Global};
+use std::alloc::Global;
 
-/// The most bytes that an input may have.
-pub const MOST: usize = 16_777_216;
+/// The most bytes that an input may have: 16 MiB.
+pub const MAX_JOB_LEN: usize = 16_777_216;
 
 // how many bytes a read asks for at most
 const PIECE: usize = 4096;
@@ -18,35 +19,35 @@ const PIECE: usize = 4096;
 pub enum ReadError {
     /// The source failed.
     Failed,
-    /// It has more than `MOST` bytes.
+    /// It has more than `MAX_JOB_LEN` bytes.
     TooLong,
     /// Memory was wanted and not there.
     OutOfMemory,
 }
 
-impl From<AllocError> for ReadError {
-    ghost use Rattle.smithy_types.specs.declared.streams.ReadError.TheVariants.{OutOfMemory};
+impl From<OutOfMemory> for ReadError {
+    ghost use Rattle.smithy_types.specs.declared.streams.ReadError.TheVariants as read_error;
 
-    ghost from_gives = { λ _ e. e ≡ OutOfMemory };
+    ghost from_gives = { λ _ e. e ≡ read_error.OutOfMemory };
 
-    fn from(_error: AllocError) -> ReadError {
+    fn from(_: OutOfMemory) -> ReadError {
         ReadError::OutOfMemory
     }
 }
 
-/// All bytes that the source has, at most `MOST`. `TooLong` comes where it has more: `MOST` and one byte were then read.
+/// All bytes that the source has, at most `MAX_JOB_LEN`. `TooLong` comes where it has more: `MAX_JOB_LEN` and one byte were then read.
 /// `Failed` comes where the source failed. Each read asks for no byte past the first that is too many. Takes memory.
 pub fn read_all<S: Source>(alloc: Global, source: &mut S) -> Result<Vec<u8>, ReadError>
     ensures whole { IfOk result (λ bytes. IsWhole (S.left source.old) bytes.items (S.left source.new)) }
-    ensures short { IfOk result (λ bytes. length bytes.items ≤ MOST) }
-    ensures too_long { result ≡ Err ReadError.TooLong → IsTooLong MOST (S.left source.old) (S.left source.new) }
+    ensures short { IfOk result (λ bytes. length bytes.items ≤ max_job_len) }
+    ensures too_long { result ≡ Err ReadError.TooLong → IsTooLong max_job_len (S.left source.old) (S.left source.new) }
     ensures failed { result ≡ Err ReadError.Failed → Rose (S.faults source.old) (S.faults source.new) }
     ensures count { S.faults source.old ≤ S.faults source.new }
 {
     let mut bytes = Vec::new(alloc);
     let mut piece = [0u8; PIECE];
-    while bytes.len() <= MOST {
-        let want = PIECE.min(MOST + 1 - bytes.len());
+    while bytes.len() <= MAX_JOB_LEN {
+        let want = PIECE.min(MAX_JOB_LEN + 1 - bytes.len());
         let n = match source.read(&mut piece[..want]) {
             Ok(n) => n,
             Err(_) => return Err(ReadError::Failed),

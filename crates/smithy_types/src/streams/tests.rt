@@ -26,7 +26,7 @@ fn copies_in_pieces(rt: HostRuntime) -> Result<(), Fail> {
 
 #[test]
 fn reads_up_to_the_limit(rt: HostRuntime) -> Result<(), Fail> {
-    let bytes = vec![in rt.alloc(); 7u8; MOST + 1]?;
+    let bytes = vec![in rt.alloc(); 7u8; 16_777_217]?;
     let mut source = SureSource::new(Blob::new(rt.alloc(), &bytes[1..])?);
     assert!(rt; read_all(rt.alloc(), &mut source).is_ok());
     let mut source = SureSource::new(Blob::new(rt.alloc(), &bytes)?);
