@@ -133,26 +133,31 @@ fn a_name_stands_twice_behind_the_sixteenth(rt: HostRuntime) -> Result<(), Fail>
 
 #[test]
 fn lists_are_read(rt: HostRuntime) -> Result<(), Fail> {
-    let headers = two_values(rt.alloc(), b"a, \"b\\\"c\" ,", b"")?;
-    let words = tokens(rt.alloc(), &headers, "A")?;
-    assert_eq!(rt; words.len(), 2);
-    assert_eq!(rt; words.get(0), Some("a"));
-    assert_eq!(rt; words.get(1), Some("b\"c"));
+    let rows: [(&[u8], &str, &str); 2] = [
+        (b"a, \"b\\\"c\" ,", "a", "b\"c"),
+        (b" \"a\" , b", "a", "b"),
+    ];
+    for (list, first, second) in rows {
+        let words = tokens(rt.alloc(), &two_values(rt.alloc(), list, b"")?, "A")?;
+        assert_eq!(rt; words.len(), 2);
+        assert_eq!(rt; words.get(0), Some(first));
+        assert_eq!(rt; words.get(1), Some(second));
+    }
     Ok(())
 }
 
 #[test]
 fn faults_of_lists_are_told(rt: HostRuntime) -> Result<(), Fail> {
-    let unended = two_values(rt.alloc(), b"\"a", b"\xFF")?;
-    assert!(rt;
-        tokens(rt.alloc(), &unended, "a").is_err_and(|e| e == HttpError::List(ListFault::Unended))
-    );
-    let trailing = two_values(rt.alloc(), b"\"a\"b", b"")?;
-    assert!(rt;
-        tokens(rt.alloc(), &trailing, "a").is_err_and(|e| e == HttpError::List(ListFault::Trailing))
-    );
-    let other = two_values(rt.alloc(), b"\xFF", b"\"a")?;
-    assert!(rt; tokens(rt.alloc(), &other, "a").is_err_and(|e| e == HttpError::NotUtf8));
+    let rows: [(&[u8], &[u8], HttpError); 4] = [
+        (b"\"a", b"\xFF", HttpError::List(ListFault::Unended)),
+        (b" \"a", b"", HttpError::List(ListFault::Unended)),
+        (b"\"a\"b", b"", HttpError::List(ListFault::Trailing)),
+        (b"\xFF", b"\"a", HttpError::NotUtf8),
+    ];
+    for (first, second, fault) in rows {
+        let headers = two_values(rt.alloc(), first, second)?;
+        assert!(rt; tokens(rt.alloc(), &headers, "a").is_err_and(|e| e == fault));
+    }
     Ok(())
 }
 
@@ -185,12 +190,9 @@ fn one_text_is_read(rt: HostRuntime) -> Result<(), Fail> {
 
 #[test]
 fn texts_are_quoted(rt: HostRuntime) -> Result<(), Fail> {
-    let plain = quote_header_value(rt.alloc(), "a b")?;
-    assert_eq!(rt; plain.as_str(), "a b");
-    let quoted = quote_header_value(rt.alloc(), "d\"e")?;
-    assert_eq!(rt; quoted.as_str(), "\"d\\\"e\"");
-    let blank = quote_header_value(rt.alloc(), " c")?;
-    assert_eq!(rt; blank.as_str(), "\" c\"");
+    for (text, quoted) in [("a b", "a b"), ("d\"e", "\"d\\\"e\""), (" c", "\" c\"")] {
+        assert_eq!(rt; quote_header_value(rt.alloc(), text)?.as_str(), quoted);
+    }
     Ok(())
 }
 

@@ -80,95 +80,40 @@ fn node_at<'t>(rt: &impl Abort, table: &'t Schemas, place: SchemaIndex) -> Schem
 }
 
 #[test]
-fn the_prelude_has_its_numbers(rt: HostRuntime) {
+fn the_prelude_has_its_names(rt: HostRuntime) {
     let mut table = Schemas::new(rt.alloc());
     let places = prelude::insert_all(&mut table).expect(&rt, "no prelude");
-    is_of_prelude(&rt, &table, places.byte, "smithy.api#Byte", ShapeType::Byte);
-    is_of_prelude(
-        &rt,
-        &table,
-        places.short,
-        "smithy.api#Short",
-        ShapeType::Short,
-    );
-    is_of_prelude(
-        &rt,
-        &table,
-        places.integer,
-        "smithy.api#Integer",
-        ShapeType::Integer,
-    );
-    is_of_prelude(&rt, &table, places.long, "smithy.api#Long", ShapeType::Long);
-    is_of_prelude(
-        &rt,
-        &table,
-        places.float,
-        "smithy.api#Float",
-        ShapeType::Float,
-    );
-    is_of_prelude(
-        &rt,
-        &table,
-        places.double,
-        "smithy.api#Double",
-        ShapeType::Double,
-    );
-    is_of_prelude(
-        &rt,
-        &table,
-        places.big_integer,
-        "smithy.api#BigInteger",
-        ShapeType::BigInteger,
-    );
-    is_of_prelude(
-        &rt,
-        &table,
-        places.big_decimal,
-        "smithy.api#BigDecimal",
-        ShapeType::BigDecimal,
-    );
-}
-
-#[test]
-fn the_prelude_has_its_other_names(rt: HostRuntime) {
-    let mut table = Schemas::new(rt.alloc());
-    let places = prelude::insert_all(&mut table).expect(&rt, "no prelude");
-    is_of_prelude(
-        &rt,
-        &table,
-        places.string,
-        "smithy.api#String",
-        ShapeType::String,
-    );
-    is_of_prelude(
-        &rt,
-        &table,
-        places.boolean,
-        "smithy.api#Boolean",
-        ShapeType::Boolean,
-    );
-    is_of_prelude(&rt, &table, places.blob, "smithy.api#Blob", ShapeType::Blob);
-    is_of_prelude(
-        &rt,
-        &table,
-        places.timestamp,
-        "smithy.api#Timestamp",
-        ShapeType::Timestamp,
-    );
-    is_of_prelude(
-        &rt,
-        &table,
-        places.document,
-        "smithy.api#Document",
-        ShapeType::Document,
-    );
-    is_of_prelude(
-        &rt,
-        &table,
-        places.unit,
-        "smithy.api#Unit",
-        ShapeType::Structure,
-    );
+    let rows = [
+        (places.byte, "smithy.api#Byte", ShapeType::Byte),
+        (places.short, "smithy.api#Short", ShapeType::Short),
+        (places.integer, "smithy.api#Integer", ShapeType::Integer),
+        (places.long, "smithy.api#Long", ShapeType::Long),
+        (places.float, "smithy.api#Float", ShapeType::Float),
+        (places.double, "smithy.api#Double", ShapeType::Double),
+        (
+            places.big_integer,
+            "smithy.api#BigInteger",
+            ShapeType::BigInteger,
+        ),
+        (
+            places.big_decimal,
+            "smithy.api#BigDecimal",
+            ShapeType::BigDecimal,
+        ),
+        (places.string, "smithy.api#String", ShapeType::String),
+        (places.boolean, "smithy.api#Boolean", ShapeType::Boolean),
+        (places.blob, "smithy.api#Blob", ShapeType::Blob),
+        (
+            places.timestamp,
+            "smithy.api#Timestamp",
+            ShapeType::Timestamp,
+        ),
+        (places.document, "smithy.api#Document", ShapeType::Document),
+        (places.unit, "smithy.api#Unit", ShapeType::Structure),
+    ];
+    for (place, name, kind) in rows {
+        is_of_prelude(&rt, &table, place, name, kind);
+    }
 }
 
 #[test]
@@ -441,31 +386,28 @@ fn binding_of(rt: &impl Abort, table: &mut Schemas, schema: Schema<'_>) -> Strin
 #[test]
 fn the_first_trait_says_where_a_member_stands(rt: HostRuntime) {
     let mut table = Schemas::new(rt.alloc());
-    let header = member(0).with_http_query("q").with_http_header("H");
-    assert_eq!(rt; binding_of(&rt, &mut table, header).as_str(), "H");
-    let prefix = member(0)
-        .with_http_query("q")
-        .with_http_prefix_headers("P-");
-    assert_eq!(rt; binding_of(&rt, &mut table, prefix).as_str(), "P-");
-    let query = member(0).with_http_label().with_http_query("q");
-    assert_eq!(rt; binding_of(&rt, &mut table, query).as_str(), "q");
-    let map = member(0).with_http_payload().with_http_query_params();
-    assert_eq!(rt; binding_of(&rt, &mut table, map).as_str(), "query map");
-}
-
-#[test]
-fn a_mark_says_where_a_member_stands(rt: HostRuntime) {
-    let mut table = Schemas::new(rt.alloc());
-    let label = member(0).with_http_payload().with_http_label();
-    assert_eq!(rt; binding_of(&rt, &mut table, label).as_str(), "label");
-    let payload = member(0).with_http_payload().with_host_label();
-    assert_eq!(rt; binding_of(&rt, &mut table, payload).as_str(), "payload");
-    let body = member(0).with_host_label().with_event_payload();
-    assert_eq!(rt; binding_of(&rt, &mut table, body).as_str(), "body");
-    assert_eq!(rt;
-        shown(SchemaRef::prelude(ShapeType::Blob).request_binding()),
-        "body"
-    );
+    let rows = [
+        (member(0).with_http_query("q").with_http_header("H"), "H"),
+        (
+            member(0)
+                .with_http_query("q")
+                .with_http_prefix_headers("P-"),
+            "P-",
+        ),
+        (member(0).with_http_query("q").with_http_label(), "q"),
+        (
+            member(0).with_http_payload().with_http_query_params(),
+            "query map",
+        ),
+        (member(0).with_http_payload().with_http_label(), "label"),
+        (member(0).with_http_payload().with_host_label(), "payload"),
+        (member(0).with_host_label().with_event_payload(), "body"),
+    ];
+    for (schema, place) in rows {
+        assert_eq!(rt; binding_of(&rt, &mut table, schema).as_str(), place);
+    }
+    let blob = SchemaRef::prelude(ShapeType::Blob);
+    assert_eq!(rt; shown(blob.request_binding()), "body");
 }
 
 #[test]

@@ -78,3 +78,6 @@ fn write_flushed<W: Write>(writer: &mut W, bytes: &[u8]) -> std::io::Result<usiz
     writer.flush()?;
     Ok(n)
 }
+
+#[cfg(test)]
+mod tests;
