@@ -1,3 +1,4 @@
+pub mod ByteTable
 pub mod CalendarLaws
 pub mod Coefficients
 pub mod DateLaws

@@ -1,7 +1,7 @@
 // The byte grammars of header names, header values and request targets.
 ghost use Rattle.std.specs.Prelude.{◌≡◌, ◌≤◌, ◌+◌, ◌==◌, drop, length, position};
 ghost use Rattle.std.specs.List.{list_all, before_first, after_first, position_or_len};
-ghost use Rattle.smithy_types.specs.ByteClasses.{bytes_of};
+ghost use Rattle.smithy_types.specs.ByteClasses.{bytes_of, flag_of};
 ghost use Rattle.smithy_types.specs.Grammars.{is_token as token_lem, is_header_value as header_value_lem, is_path as path_lem, scheme_len, is_authority_and_path as authority_lem, is_stem as stem_lem, is_target as target_lem, is_legal_target};
 
 /// The most bytes that a request target may have.
@@ -42,45 +42,36 @@ pub fn legal_target(text: &str) -> bool
     text.len() <= MAX_TARGET_LEN && is_target(text.as_bytes())
 }
 
-fn is_in(class: ByteClass, b: u8) -> bool
-    ensures { result ≡ bytes_of class b }
-{
-    match class {
-        ByteClass::Token => is_token_byte(b),
-        ByteClass::HeaderValue => matches!(b, 9 | 32..=126 | 128..=255),
-        ByteClass::Path => is_path_byte(b),
-        ByteClass::Query => is_path_byte(b) || b == b'?' || b == b'`',
-        ByteClass::Authority => is_path_byte(b) && b != b'/',
+impl ByteClass {
+    // The flag of the class in the table.
+    fn flag(self) -> u8
+        ensures { result ≡ flag_of self }
+    {
+        match self {
+            ByteClass::Token => 1,
+            ByteClass::HeaderValue => 2,
+            ByteClass::Path => 4,
+            ByteClass::Query => 8,
+            ByteClass::Authority => 16,
+        }
     }
 }
 
-fn is_token_byte(b: u8) -> bool
-    ensures { result ≡ bytes_of ByteClass.Token b }
-{
-    matches!(b, b'0'..=b'9' | b'A'..=b'Z' | b'a'..=b'z')
-        || matches!(
-            b,
-            b'!' | b'#'
-                | b'$'
-                | b'%'
-                | b'&'
-                | b'\''
-                | b'*'
-                | b'+'
-                | b'-'
-                | b'.'
-                | b'^'
-                | b'_'
-                | b'`'
-                | b'|'
-                | b'~'
-        )
-}
+// For each byte a letter, whose low five bits are the flags of the classes that it is in.
+static CLASSES: [u8; 256] = *b"\
+    @@@@@@@@@B@@@@@@@@@@@@@@@@@@@@@@\
+    B_^C____^^__^__N__________^^B^BJ\
+    ^__________________________^^^__\
+    K__________________________^_^_@\
+    BBBBBBBBBBBBBBBBBBBBBBBBBBBBBBBB\
+    BBBBBBBBBBBBBBBBBBBBBBBBBBBBBBBB\
+    BBBBBBBBBBBBBBBBBBBBBBBBBBBBBBBB\
+    BBBBBBBBBBBBBBBBBBBBBBBBBBBBBBBB";
 
-fn is_path_byte(b: u8) -> bool
-    ensures { result ≡ bytes_of ByteClass.Path b }
+fn is_in(class: ByteClass, b: u8) -> bool
+    ensures { result ≡ bytes_of class b }
 {
-    matches!(b, 33..=34 | 36..=59 | 61 | 64..=95 | 97..=126)
+    CLASSES[usize::from(b)] & class.flag() != 0
 }
 
 fn are_all(class: ByteClass, bytes: &[u8]) -> bool
