@@ -2,7 +2,8 @@
 #![tactic(auto)]
 
 use smithy_bind::run;
-use smithy_types::{StdSink, StdSource, Words};
+use smithy_io::{StdSink, StdSource};
+use smithy_types::Words;
 use std::io::ErrorKind;
 use std::process::ExitCode;
 use std::rt::Env;

@@ -12,5 +12,4 @@ pub mod Positions
 pub mod ReadBack
 pub mod Readings
 pub mod Rows
-pub mod StreamSteps
 pub mod Views

@@ -1,17 +1,14 @@
 pub mod BigNumbers
 pub mod ByteClasses
 pub mod Calendar
-pub mod Causes
 pub mod DocumentCode
 pub mod DocumentView
 pub mod Documents
 pub mod Grammars
 pub mod MapViews
 pub mod Maps
-pub mod Memory
 pub mod Results
 pub mod Settings
-pub mod Streams
 pub mod Texts
 pub mod TimestampReading
 pub mod Timestamps

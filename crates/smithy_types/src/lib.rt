@@ -1,4 +1,4 @@
-// Texts, documents, big numbers, points in time, byte grammars, and the outside: a source of bytes and a sink.
+// Texts, documents, big numbers, points in time, and byte grammars.
 #![tactic(auto)]
 
 mod big_number;
@@ -16,14 +16,9 @@ mod grammar;
 pub mod laws;
 mod lists;
 mod maps;
-mod memory;
 mod number;
 mod number_text;
 mod settings;
-mod sink;
-mod source;
-mod standard;
-mod streams;
 mod text;
 
 pub use big_number::{BigDecimal, BigInteger};
@@ -35,11 +30,6 @@ pub use error::{DocumentError, OutOfMemory, TypesError};
 pub use grammar::{MAX_TARGET_LEN, behind_scheme, is_header_value, is_token, legal_target};
 pub use lists::{Blobs, Integers, Items, Longs, Words};
 pub use maps::{TextMap, TextPairs};
-pub use memory::{MemorySink, MemorySource, SureSink, SureSource};
 pub use number::Number;
 pub use settings::{DocumentSettings, NoSettings};
-pub use sink::Sink;
-pub use source::{Failed, Source};
-pub use standard::{StdSink, StdSource};
-pub use streams::{MAX_JOB_LEN, ReadError, read_all, write_all};
 pub use text::Text;

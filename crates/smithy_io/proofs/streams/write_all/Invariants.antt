@@ -1,6 +1,6 @@
 use Rattle.std.proofs.Common.{◌≡◌, ◌≤◌, ◌-◌, length, take}
-use Rattle.smithy_types.specs.Streams.{Gained}
-use Rattle.smithy_types.proofs.streams.write_all.Given as goal
+use Rattle.smithy_io.specs.Streams.{Gained}
+use Rattle.smithy_io.proofs.streams.write_all.Given as goal
 
 abbrev pub invariant-loop-done : goal.invariant-loop-done
 invariant-loop-done g l = record {

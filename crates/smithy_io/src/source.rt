@@ -1,7 +1,7 @@
 // Where bytes come from.
 ghost use Rattle.std.specs.Prelude.{ℕ, ◌<◌, ◌≤◌, List, Option, length, take, IfOk, OnErr};
-ghost use Rattle.smithy_types.specs.Causes.{Rose};
-ghost use Rattle.smithy_types.specs.Streams.{Gave, Keeps, EndsAt};
+ghost use Rattle.smithy_io.specs.Causes.{Rose};
+ghost use Rattle.smithy_io.specs.Streams.{Gave, Keeps, EndsAt};
 
 /// The one fault of a source or a sink.
 #[derive(Clone, Copy, Debug, PartialEq, Eq, Drop)]

@@ -1,7 +1,6 @@
 use super::*;
-use crate::blob::Blob;
-use crate::lists::Longs;
 use crate::memory::{MemorySink, MemorySource, SureSink, SureSource};
+use smithy_types::{Blob, Longs};
 use std::test::Fail;
 
 #[test]

@@ -1,8 +1,8 @@
 use Rattle.std.proofs.Common.{arith, ◌∙◌}
 use Rattle.std.proofs.Math.Seq.{take-add}
 use Rattle.std.proofs.lemmas.List.{take_rest}
-use Rattle.smithy_types.proofs.StreamSteps.{gained_more}
-use Rattle.smithy_types.proofs.streams.write_all.Goals as goal
+use Rattle.smithy_io.proofs.StreamSteps.{gained_more}
+use Rattle.smithy_io.proofs.streams.write_all.Goals as goal
 
 pub loop-done-preserved : goal.loop-done-preserved
 loop-done-preserved g c = record {

@@ -1,7 +1,7 @@
 // Where bytes go.
 ghost use Rattle.std.specs.Prelude.{◌≡◌, ℕ, ◌<◌, ◌≤◌, List, Option, length, take, IfOk, OnErr};
-ghost use Rattle.smithy_types.specs.Causes.{Rose};
-ghost use Rattle.smithy_types.specs.Streams.{Gained, Keeps, IsFull};
+ghost use Rattle.smithy_io.specs.Causes.{Rose};
+ghost use Rattle.smithy_io.specs.Streams.{Gained, Keeps, IsFull};
 
 use crate::source::Failed;
 

@@ -1,11 +1,11 @@
 // Reading a source to its end, and writing all of a text.
 ghost use Rattle.std.specs.Prelude.{◌≡◌, ◌≤◌, length, IfOk, OnOk, OnErr, Err};
-ghost use Rattle.smithy_types.specs.Causes.{Rose};
-ghost use Rattle.smithy_types.specs.Streams.{IsWhole, IsTooLong, max_job_len, Gained, GainedPart, IsFull};
+ghost use Rattle.smithy_io.specs.Causes.{Rose};
+ghost use Rattle.smithy_io.specs.Streams.{IsWhole, IsTooLong, max_job_len, Gained, GainedPart, IsFull};
 
-use crate::error::OutOfMemory;
 use crate::sink::Sink;
 use crate::source::{Failed, Source};
+use smithy_types::OutOfMemory;
 use std::alloc::Global;
 
 /// The most bytes that an input may have: 16 MiB.
@@ -26,7 +26,7 @@ pub enum ReadError {
 }
 
 impl From<OutOfMemory> for ReadError {
-    ghost use Rattle.smithy_types.specs.declared.streams.ReadError.TheVariants as read_error;
+    ghost use Rattle.smithy_io.specs.declared.streams.ReadError.TheVariants as read_error;
 
     ghost from_gives = { λ _ e. e ≡ read_error.OutOfMemory };
 

@@ -2,7 +2,7 @@
 use Rattle.std.specs.Prelude.{ℕ, ◌+◌, ◌-◌, min, nat_le, Bool, not, ◌&&◌, ◌||◌, ◌==◌, List, ◌++◌, length, drop, ℤ, pos}
 use Rattle.std.specs.List.{list_any}
 use Rattle.std.specs.Ordering.{int_eq}
-use Rattle.smithy_types.specs.Causes.{next_count}
+use Rattle.smithy_io.specs.Causes.{next_count}
 
 -- the number of the next call, counted from 1; it stays at the greatest number of 64 bits with a sign
 abbrev pub next_call : ℕ → ℕ

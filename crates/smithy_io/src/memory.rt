@@ -1,14 +1,12 @@
 // Sources and sinks in memory.
 ghost use Rattle.std.specs.Prelude.{◌≡◌, ◌+◌, ◌-◌, ◌<◌, ◌≤◌, ◌↔◌, ◌++◌, [], min, length, take, drop, Some, IsTrue, IsOk, IsErr, IfOk, OnErr, vec_len, vec_capacity};
-ghost use Rattle.smithy_types.specs.Causes.{Rose, next_count};
-ghost use Rattle.smithy_types.specs.Memory.{next_call as next_call_lem, is_listed as is_listed_lem, SourceState, SinkState, SureSinkState, fails_to_give, given_count, gave, failed_to_give, fails_to_take, taken_count, took, failed_to_take, is_over_full};
-ghost use Rattle.smithy_types.specs.Streams.{Gave, EndsAt, Keeps, Gained, IsFull};
+ghost use Rattle.smithy_io.specs.Causes.{Rose, next_count};
+ghost use Rattle.smithy_io.specs.Memory.{next_call as next_call_lem, is_listed as is_listed_lem, SourceState, SinkState, SureSinkState, fails_to_give, given_count, gave, failed_to_give, fails_to_take, taken_count, took, failed_to_take, is_over_full};
+ghost use Rattle.smithy_io.specs.Streams.{Gave, EndsAt, Keeps, Gained, IsFull};
 
-use crate::blob::Blob;
-use crate::error::OutOfMemory;
-use crate::lists::Longs;
 use crate::sink::Sink;
 use crate::source::{Failed, Source};
+use smithy_types::{Blob, Longs, OutOfMemory};
 use std::alloc::Global;
 use std::marker::Model;
 
@@ -69,7 +67,7 @@ pub struct MemorySource {
 
 impl Model for MemorySource {
     ghost use Rattle.std.specs.Prelude.{◌≤◌, ◌<◌, length, drop};
-    ghost use Rattle.smithy_types.specs.Memory.{SourceState};
+    ghost use Rattle.smithy_io.specs.Memory.{SourceState};
 
     ghost Value = { SourceState };
 
@@ -170,7 +168,7 @@ pub struct SureSink {
 
 impl Model for SureSink {
     ghost use Rattle.std.specs.Prelude.{◌≡◌, ◌≤◌, ◌<◌, vec_len, vec_capacity};
-    ghost use Rattle.smithy_types.specs.Memory.{SureSinkState};
+    ghost use Rattle.smithy_io.specs.Memory.{SureSinkState};
 
     ghost Value = { SureSinkState };
 
@@ -242,7 +240,7 @@ pub struct MemorySink {
 
 impl Model for MemorySink {
     ghost use Rattle.std.specs.Prelude.{◌≤◌, ◌<◌, vec_len, vec_capacity};
-    ghost use Rattle.smithy_types.specs.Memory.{SinkState};
+    ghost use Rattle.smithy_io.specs.Memory.{SinkState};
 
     ghost Value = { SinkState };
 

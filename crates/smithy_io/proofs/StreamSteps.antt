@@ -1,7 +1,7 @@
 -- A stream, one piece after another.
 use Rattle.std.proofs.Common.{◌≡◌, ℕ, ◌+◌, ◌-◌, ◌<◌, ◌≤◌, min, List, [], ◌++◌, length, take, drop, Option, Some, None, refl, sym, ap, ◌∙◌, append_assoc, arith}
 use Rattle.std.proofs.lemmas.List.{append-nil, take-append-drop, drop-drop, take_at, length-take-le, length-drop, nil_from_length}
-use Rattle.smithy_types.specs.Streams.{Gave, Gained, EndsAt, Keeps, IsWhole}
+use Rattle.smithy_io.specs.Streams.{Gave, Gained, EndsAt, Keeps, IsWhole}
 
 pub gave_nothing : (before : Option (List ℕ)) → Gave before [] before
 gave_nothing None = tt

@@ -1,6 +1,6 @@
 use Rattle.std.proofs.Common.{◌≤◌, ◌-◌, vec_len}
-use Rattle.smithy_types.specs.Streams.{Gave}
-use Rattle.smithy_types.proofs.streams.read_all.Given as goal
+use Rattle.smithy_io.specs.Streams.{Gave}
+use Rattle.smithy_io.proofs.streams.read_all.Given as goal
 
 abbrev pub invariant-loop-piece : goal.invariant-loop-piece
 invariant-loop-piece g l = record {

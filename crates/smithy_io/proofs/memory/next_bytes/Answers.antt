@@ -1,7 +1,7 @@
 use Rattle.std.proofs.Common.{◌≡◌, ◌+◌, ◌-◌, length, arith, rules}
 use Rattle.std.proofs.lemmas.List.{length-drop}
-use Rattle.smithy_types.proofs.StreamSteps.{gave_front, ends_at_length}
-use Rattle.smithy_types.proofs.memory.next_bytes.Goals as goal
+use Rattle.smithy_io.proofs.StreamSteps.{gave_front, ends_at_length}
+use Rattle.smithy_io.proofs.memory.next_bytes.Goals as goal
 
 pub returns-clause-given : goal.returns-clause-given
 returns-clause-given c =
