@@ -1,31 +1,13 @@
 -- The kinds of shapes.
+use denote.Enum.Declared.{tag_of}
 use Rattle.std.specs.Prelude.{ℕ, Bool, true, false, not, ◌||◌, ◌==◌, codes, List}
+use Rattle.smithy_ids.specs.contracts.shape_type.ShapeType.{the_type}
 use Rattle.smithy_ids.specs.declared.shape_type.ShapeType.{ShapeType}
 use Rattle.smithy_ids.specs.declared.shape_type.ShapeType.TheVariants as kind
 
--- a number for each kind, so that kinds can be compared
-abbrev pub kind_number : ShapeType → ℕ
-kind_number kind.Boolean = 0
-kind_number kind.Byte = 1
-kind_number kind.Short = 2
-kind_number kind.Integer = 3
-kind_number kind.Long = 4
-kind_number kind.Float = 5
-kind_number kind.Double = 6
-kind_number kind.BigInteger = 7
-kind_number kind.BigDecimal = 8
-kind_number kind.String = 9
-kind_number kind.Blob = 10
-kind_number kind.Timestamp = 11
-kind_number kind.Document = 12
-kind_number kind.List = 13
-kind_number kind.Map = 14
-kind_number kind.Structure = 15
-kind_number kind.Union = 16
-kind_number kind.Member = 17
-
+-- they are one kind, as `==` of kinds tells it
 abbrev pub same_kind : ShapeType → ShapeType → Bool
-same_kind a b = kind_number a == kind_number b
+same_kind a b = tag_of the_type a == tag_of the_type b
 
 -- the word of a kind in messages
 abbrev pub kind_word : ShapeType → List ℕ
