@@ -18,8 +18,9 @@ pub use payload_hint::PayloadHint;
 pub use shape_id::ShapeId;
 pub use shape_type::ShapeType;
 pub use text_traits::{
-    HttpHeaderTrait, HttpPrefixHeadersTrait, HttpQueryTrait, JsonNameTrait, MediaTypeTrait,
-    XmlNameTrait,
+    HttpHeader, HttpHeaderTrait, HttpPrefixHeaders, HttpPrefixHeadersTrait, HttpQuery,
+    HttpQueryTrait, JsonName, JsonNameTrait, MediaType, MediaTypeTrait, TextTrait, TextTraitName,
+    XmlName, XmlNameTrait,
 };
 pub use traits::{HttpTrait, TimestampFormat, TimestampFormatTrait, XmlNamespaceTrait};
 
