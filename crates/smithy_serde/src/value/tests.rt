@@ -1,0 +1,27 @@
+// Writes, kept.
+use super::*;
+use smithy_ids::{ShapeId, ShapeType};
+use smithy_schema::{Schema, Schemas};
+
+#[test]
+fn writes_are_kept_in_order(rt: HostRuntime) {
+    let alloc = rt.alloc();
+    let id = ShapeId::from_parts("ex#Pet", "ex", "Pet");
+    let schema = Schema::new_struct(id, ShapeType::Structure, &[]);
+    let node = Schemas::new(alloc).insert(schema).expect(&rt, "no place");
+    let mut list = WriteList::new(alloc);
+    list.push(node, ShapeValue::Long(5))
+        .expect(&rt, "no memory");
+    let inner = ShapeValue::Struct(WriteList::new(alloc));
+    list.push(node, inner).expect(&rt, "no memory");
+    list.push(node, ShapeValue::Null).expect(&rt, "no memory");
+    assert_eq!(rt; list.len(), 3);
+    assert!(rt; list.node(2) == Some(node));
+    assert!(rt; list.node(3).is_none());
+    assert!(rt; matches!(list.value(0), Some(ShapeValue::Long(5))));
+    for ((given, value), word) in list.iter().zip(["long", "structure", "null"]) {
+        assert!(rt; given == node);
+        assert_eq!(rt; value.written_word(), word);
+        assert_eq!(rt; value.fits(ShapeType::Union), word == "structure");
+    }
+}
