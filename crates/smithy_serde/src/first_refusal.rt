@@ -45,6 +45,13 @@ impl FirstRefusal {
         }
     }
 
+    /// The refusal that is kept, None where there is none. Takes no memory.
+    pub fn into_kept(self) -> Option<SerdeError>
+        ensures { result ≡ self }
+    {
+        self.kept
+    }
+
     /// Hands on what was tried, and keeps a copy of its refusal; where there is no memory for the copy, `OutOfMemory` is kept
     /// and answered. Condition: no refusal is kept.
     pub fn keep<T>(&mut self, tried: Result<T, SerdeError>) -> Result<T, SerdeError>
