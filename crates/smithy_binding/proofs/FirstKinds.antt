@@ -131,10 +131,10 @@ placed-bound _ e = refl
 single-unfit : (v : Value) → IsSingle v → (fits kind.Map v || (is_null v && false)) ≡ false
 single-unfit (list ws) p = absurd p
 single-unfit (value.map ws) p = absurd p
-single-unfit (value.whole value.byte z) p = refl
-single-unfit (value.whole value.short z) p = refl
-single-unfit (value.whole value.integer z) p = refl
-single-unfit (value.whole value.long z) p = refl
+single-unfit (value.scalar (value.whole value.byte z)) p = refl
+single-unfit (value.scalar (value.whole value.short z)) p = refl
+single-unfit (value.scalar (value.whole value.integer z)) p = refl
+single-unfit (value.scalar (value.whole value.long z)) p = refl
 single-unfit _ p = refl
 
 -- a value that is no list and no map fits one in a header, the query or a label by itself

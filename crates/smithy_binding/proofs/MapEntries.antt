@@ -12,7 +12,7 @@ use Rattle.smithy_ids.specs.declared.shape_type.ShapeType.TheVariants as kind
 use Rattle.smithy_ids.specs.Kinds.{same_kind}
 use Rattle.smithy_schema.specs.Nodes.{Schema, at_place, member_at, key_of, value_of, to_prefix, to_query_map}
 use Rattle.smithy_serde.specs.Fits.{fits}
-use Rattle.smithy_serde.specs.Values.{Value, text, Writes, no_writes, write, Write, list_of, writes_of, text_of_key}
+use Rattle.smithy_serde.specs.Values.{Value, scalar, text, Writes, no_writes, write, Write, list_of, writes_of, text_of_key}
 use Rattle.smithy_serde.specs.Values as value
 use Rattle.smithy_strings.specs.declared.wire.Place.{Place}
 use Rattle.smithy_strings.specs.declared.wire.Place.TheVariants as at
@@ -69,11 +69,11 @@ plain-kind None e = absurd (cc e)
 plain-kind (Some s) e = string_from_test s.node.kind (and_parts (same_kind s.node.kind kind.String) _ e).0
 
 fits-text : (v : Value) → fits kind.String v ≡ true → is_text v ≡ true
-fits-text (text t) e = refl
-fits-text (value.whole value.byte z) e = absurd (cc e)
-fits-text (value.whole value.short z) e = absurd (cc e)
-fits-text (value.whole value.integer z) e = absurd (cc e)
-fits-text (value.whole value.long z) e = absurd (cc e)
+fits-text (scalar (text t)) e = refl
+fits-text (scalar (value.whole value.byte z)) e = absurd (cc e)
+fits-text (scalar (value.whole value.short z)) e = absurd (cc e)
+fits-text (scalar (value.whole value.integer z)) e = absurd (cc e)
+fits-text (scalar (value.whole value.long z)) e = absurd (cc e)
 fits-text _ e = absurd (cc e)
 
 texts-of-kinds : (m : Schema) (ws : Writes) → entry_fault m kind.String kind.String ws ≡ None → are_texts ws ≡ true
@@ -114,7 +114,7 @@ text_pairs (write k key no_writes) = []
 text_pairs (write k key (write l v ws)) = (text_of_key key, text_of_key v) ∷ text_pairs ws
 
 text-wire : (place : Place) (v : Value) → is_text v ≡ true → wire None false place v ≡ Some (text_of_key v)
-text-wire place (text t) e = refl
+text-wire place (scalar (text t)) e = refl
 text-wire place _ e = absurd (cc e)
 
 pub texts-pairs : (place : Place) (ws : Writes) → are_texts ws ≡ true → entry_texts place ws ≡ text_pairs ws

@@ -12,7 +12,7 @@ use Rattle.smithy_serde.specs.DocumentOf.{DocumentFault, document_fault, documen
 use Rattle.smithy_serde.specs.Refusing.{IsFaultRefusal}
 use Rattle.smithy_serde.specs.Finishing.{IsTextOf}
 use Rattle.smithy_serde.specs.StoredValues.{IsDefined}
-use Rattle.smithy_serde.proofs.ToldSoFar.{TellsInOrder}
+use Rattle.smithy_serde.proofs.InOrder.{TellsInOrder}
 use Rattle.smithy_binding.specs.declared.body_writes.BodyWrite.{BodyWrite}
 use Rattle.smithy_binding.specs.Bodies.{text_of_document}
 use Rattle.smithy_binding.specs.Faults.{custom, fault_of_document}

@@ -5,7 +5,7 @@ use Rattle.smithy_types.specs.Documents.{Document}
 use Rattle.smithy_ids.specs.declared.shape_type.ShapeType.{ShapeType}
 use Rattle.smithy_ids.specs.declared.shape_type.ShapeType.TheVariants as kind
 use Rattle.smithy_schema.specs.Nodes.{Schema, members_of, is_bound, Binding, to_payload, binding_of}
-use Rattle.smithy_serde.specs.Values.{Value, text, blob, structure, Write, writes_of}
+use Rattle.smithy_serde.specs.Values.{Value, scalar, text, blob, structure, Write, writes_of}
 use Rattle.smithy_serde.specs.DocumentOf.{doc_of}
 use Rattle.smithy_serde.specs.Writes.{firsts, unbound}
 use Rattle.smithy_binding.specs.declared.body_form.BodyForm.{BodyForm}
@@ -72,8 +72,8 @@ document_value schema ws = document_by (form_in schema) (body_parts schema ws)
 
 -- the bytes of a text or a blob
 abbrev pub raw_bytes : Value → List ℕ
-raw_bytes (text t) = t
-raw_bytes (blob bytes) = bytes
+raw_bytes (scalar (text t)) = t
+raw_bytes (scalar (blob bytes)) = bytes
 raw_bytes _ = []
 
 -- the codec's text of the value's document, none without a value

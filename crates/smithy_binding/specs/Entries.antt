@@ -6,10 +6,10 @@ use Rattle.std.specs.Cmp.Lexicographic.{slice_cmp}
 use Rattle.std.specs.List.{list_all}
 use Rattle.std.specs.Option.{option_map_or}
 use Rattle.std.specs.Ordering.{nat_cmp}
-use Rattle.smithy_serde.specs.Values.{Value, text, Writes, list_of, text_of_key}
+use Rattle.smithy_serde.specs.Values.{Value, scalar, text, Writes, list_of, text_of_key}
 
 abbrev pub is_text : Value → Bool
-is_text (text t) = true
+is_text (scalar (text t)) = true
 is_text _ = false
 
 -- each key and each value is a text

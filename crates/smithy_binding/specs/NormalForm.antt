@@ -6,7 +6,7 @@ use Rattle.smithy_types.specs.Texts.{is_one_of}
 use Rattle.smithy_ids.specs.declared.shape_type.ShapeType.TheVariants as kind
 use Rattle.smithy_ids.specs.Kinds.{same_kind, is_structure_or_union}
 use Rattle.smithy_schema.specs.Nodes.{Schema, element_of, members_of, Binding, to_header, to_prefix, to_query, to_query_map, to_payload, binding_of, is_bound}
-use Rattle.smithy_serde.specs.Values.{Value, text, blob, list, Writes, no_writes, write, Write, label_of, text_of_key}
+use Rattle.smithy_serde.specs.Values.{Value, scalar, text, blob, list, Writes, no_writes, write, Write, label_of, text_of_key}
 use Rattle.smithy_serde.specs.Values as value
 use Rattle.smithy_serde.specs.Writes.{Resolved, all_resolved, first, is_of}
 use Rattle.smithy_serde.specs.NormalBody.{in_key_order, map_value, settled, settled_elements}
@@ -31,8 +31,8 @@ in_lower_case es = map (λ e. (str_to_ascii_lowercase e.0, e.1)) es
 abbrev pub is_empty_value : Value → Bool
 is_empty_value (list no_writes) = true
 is_empty_value (value.map no_writes) = true
-is_empty_value (blob []) = true
-is_empty_value (text []) = true
+is_empty_value (scalar (blob [])) = true
+is_empty_value (scalar (text [])) = true
 is_empty_value _ = false
 
 -- the value, if it leaves something
@@ -41,8 +41,8 @@ unless_empty v = if is_empty_value v then None else Some v
 
 -- a list of one element with an empty text has the header value of the empty list: an empty text or no bytes
 abbrev pub header_list : Value → Value
-header_list (list (write l (text []) no_writes)) = list no_writes
-header_list (list (write l (blob []) no_writes)) = list no_writes
+header_list (list (write l (scalar (text [])) no_writes)) = list no_writes
+header_list (list (write l (scalar (blob [])) no_writes)) = list no_writes
 header_list v = v
 
 -- a list with the labels of the schema's element node

@@ -1,13 +1,12 @@
 // The body of a request: a payload, or the document of the unbound members (Smithy, HTTP protocol bindings).
-ghost use Rattle.std.specs.Prelude.{◌≡◌, None, Some, OnOk, IfOk, IfErr, IfSome, option_map, unwrap_or, []};
+ghost use Rattle.std.specs.Prelude.{◌≡◌, None, Some, IfOk, IfErr, IfSome, option_map, unwrap_or, []};
 ghost use Rattle.smithy_schema.specs.Nodes.{Table};
 ghost use Rattle.smithy_schema.specs.References.{schema_of};
 ghost use Rattle.smithy_serde.specs.Values.{writes_of, structure};
-ghost use Rattle.smithy_serde.specs.Told.{all_written, empty_state};
-ghost use Rattle.smithy_serde.specs.Writing.{IsWritesAnswer, Carries};
+ghost use Rattle.smithy_serde.specs.Writing.{Tells};
 ghost use Rattle.smithy_serde.specs.DocumentOf.{document_fault};
-ghost use Rattle.smithy_serde.specs.Refusing.{RefusesByRule, IsFaultRefusal};
-ghost use Rattle.smithy_serde.specs.Finishing.{IsTextOf};
+ghost use Rattle.smithy_serde.specs.Refusing.{IsFaultRefusal};
+ghost use Rattle.smithy_serde.specs.Finishing.{IsTextOf, IsReady};
 ghost use Rattle.smithy_serde.specs.StoredValues.{value_in, IsDefined};
 ghost use Rattle.smithy_binding.specs.Bodies.{raw_bytes as bytes_of_raw, text_of_document, document_by, bytes_by};
 ghost use Rattle.smithy_binding.specs.Faults.{fault_of_document};
@@ -23,9 +22,6 @@ use smithy_serde::{
 use smithy_types::{Blob, OutOfMemory};
 use std::alloc::Global;
 
-#[cfg(test)]
-mod tests;
-
 // Tells the writes in order, each by the node of its member.
 fn tell_writes<S: ShapeSerializer>(
     serializer: &mut S,
@@ -33,12 +29,7 @@ fn tell_writes<S: ShapeSerializer>(
     writes: &[BodyWrite<'_, '_>],
 ) -> Result<(), SerdeError>
     requires { AreDefinedWrites table.now writes.now }
-    ensures answer { IsWritesAnswer (S.first_refusal serializer.old) result (S.first_refusal serializer.new) }
-    ensures lists { OnOk result (S.open_lists serializer.new ≡ S.open_lists serializer.old) }
-    ensures ok_states { OnOk result (Carries (all_written (writes_of (unbound_in table.now writes.now))) (S.stands_for serializer.old) (S.stands_for serializer.new)) }
-    ensures text { S.text serializer.new ≡ S.text serializer.old }
-    ensures lawful { S.lawful serializer.old → S.lawful serializer.new }
-    ensures refusal { S.lawful serializer.old → RefusesByRule (all_written (writes_of (unbound_in table.now writes.now))) (S.first_refusal serializer.old) (S.stands_for serializer.old) result }
+    ensures { Tells (writes_of (unbound_in table.now writes.now)) (S.seen serializer.old) (S.seen serializer.new) result }
 {
     for write in writes {
         tell(serializer, write.member, table, write.value)?;
@@ -54,10 +45,8 @@ fn text_of_writes<S: FinishSerializer + Drop>(
     writes: &[BodyWrite<'_, '_>],
 ) -> Result<Blob, SerdeError>
     requires defined { AreDefinedWrites table.now writes.now }
-    requires lawful { S.lawful serializer }
-    requires told { S.stands_for serializer empty_state }
-    requires unrefused { S.first_refusal serializer ≡ None }
-    ensures ok { IfOk result (IsTextOf (S.text serializer) (structure (writes_of (unbound_in table.now writes.now)))) }
+    requires ready { IsReady (S.seen serializer) }
+    ensures ok { IfOk result (IsTextOf ((S.seen serializer).text) (structure (writes_of (unbound_in table.now writes.now)))) }
     ensures err { IfErr result (IsFaultRefusal (document_fault (structure (writes_of (unbound_in table.now writes.now))))) }
 {
     let mut serializer = serializer;
@@ -96,11 +85,9 @@ fn payload_body<S: FinishSerializer + Drop>(
     payload: Option<BodyWrite<'_, '_>>,
 ) -> Result<Blob, SerdeError>
     requires defined { IfSome payload (λ w. IsDefined table.now w.value.now) }
-    requires lawful { S.lawful serializer }
-    requires told { S.stands_for serializer empty_state }
-    requires unrefused { S.first_refusal serializer ≡ None }
+    requires ready { IsReady (S.seen serializer) }
     ensures ok { IfOk result (λ _. fault_of_document (option_map (value_of table.now) payload.entry) ≡ None) }
-    ensures bytes { IfOk result (λ b. b ≡ text_of_document (S.text serializer) (option_map (value_of table.now) payload.entry)) }
+    ensures bytes { IfOk result (λ b. b ≡ text_of_document ((S.seen serializer).text) (option_map (value_of table.now) payload.entry)) }
     ensures err { IfErr result (λ e. TellsFault e (λ f. fault_of_document (option_map (value_of table.now) payload.entry) ≡ Some f)) }
 {
     match payload {
@@ -121,11 +108,9 @@ pub fn request_body<S: FinishSerializer + Drop>(
     writes: &BodyWrites<'_, '_>,
 ) -> Result<Blob, SerdeError>
     requires defined { IsKeptDefined table.now writes.now }
-    requires lawful { S.lawful serializer }
-    requires told { S.stands_for serializer empty_state }
-    requires unrefused { S.first_refusal serializer ≡ None }
+    requires ready { IsReady (S.seen serializer) }
     ensures ok { IfOk result (λ _. fault_of_document (document_by form (kept_in table.now writes.now)) ≡ None) }
-    ensures bytes { IfOk result (λ b. b ≡ bytes_by form (S.text serializer) (kept_in table.now writes.now)) }
+    ensures bytes { IfOk result (λ b. b ≡ bytes_by form ((S.seen serializer).text) (kept_in table.now writes.now)) }
     ensures err { IfErr result (λ e. TellsFault e (λ f. fault_of_document (document_by form (kept_in table.now writes.now)) ≡ Some f)) }
 {
     match form {

@@ -17,9 +17,6 @@ use smithy_strings::{Place, format_in, scalar_text};
 use std::alloc::Global;
 use std::borrow::CowStr;
 
-#[cfg(test)]
-mod tests;
-
 /// Where the texts of a member with this binding stand.
 pub fn place_of(binding: Binding<'_>) -> Place
     ensures { result ≡ place_at (binding_shown binding.entry) }

@@ -22,9 +22,6 @@ use smithy_strings::{Place, push_listed};
 use smithy_types::Text;
 use std::alloc::Global;
 
-#[cfg(test)]
-mod tests;
-
 /// The kind of the elements of a member, and where it has none the kind that no value has.
 pub fn element_kind(member: SchemaRef<'_>) -> ShapeType
     ensures { result ≡ kind_or_none (element_of (schema_of member.entry)) }

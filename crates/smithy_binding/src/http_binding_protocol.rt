@@ -84,7 +84,7 @@ impl<C: Drop> HttpBindingProtocol<C> {
 impl<C: Codec> HttpBindingProtocol<C> {
     ghost use Rattle.std.specs.Prelude.{◌≡◌, IsTrue, IfOk, IfErr, None, Some};
     ghost use Rattle.smithy_schema.specs.References.{schema_of};
-    ghost use Rattle.smithy_serde.specs.Told.{empty_state};
+    ghost use Rattle.smithy_serde.specs.Finishing.{IsReady};
     ghost use Rattle.smithy_serde.specs.Values.{list_of};
     ghost use Rattle.smithy_binding.specs.Checked.{checked_input};
     ghost use Rattle.smithy_binding.specs.DefaultHeaders.{omit_of};
@@ -138,10 +138,8 @@ impl<C: Codec> HttpBindingProtocol<C> {
         omit: OmitFlags,
     ) -> Result<Request, SerdeError>
         requires checked { IsTrue (checked_input (schema_of schema)) }
-        requires lawful { C.Serializer.lawful body }
-        requires told { C.Serializer.stands_for body empty_state }
-        requires unrefused { C.Serializer.first_refusal body ≡ None }
-        requires text { C.Serializer.text body ≡ C.text (codec_of self.now) }
+        requires ready { IsReady (C.Serializer.seen body) }
+        requires text { (C.Serializer.seen body).text ≡ C.text (codec_of self.now) }
         ensures ok { IfOk result (λ _. fault (schema_of schema.entry) (list_of (writes input.now)) endpoint.now ≡ None) }
         ensures placed { IfOk result (λ r. place (record { content_type = content_type_of self.now; text_of = C.text (codec_of self.now) }) (schema_of schema.entry) (list_of (writes input.now)) endpoint.now (omit_of omit) ≡ Some r) }
         ensures err { IfErr result (λ e. TellsFault e (λ f. fault (schema_of schema.entry) (list_of (writes input.now)) endpoint.now ≡ Some f)) }

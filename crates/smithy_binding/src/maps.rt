@@ -25,9 +25,6 @@ use smithy_types::OutOfMemory;
 use std::alloc::{AllocError, Global};
 use std::collections::BTreeMap;
 
-#[cfg(test)]
-mod tests;
-
 // The names of query members, each with the position of a member that has it.
 type QueryNames<'t> = BTreeMap<&'t str, usize>;
 

@@ -3,7 +3,7 @@ ghost use Rattle.std.specs.Prelude.{◌≡◌, IsTrue, IfOk, IfErr, None, Some, 
 ghost use Rattle.smithy_types.specs.Grammars.{is_token, is_header_value};
 ghost use Rattle.smithy_schema.specs.References.{schema_of};
 ghost use Rattle.smithy_serde.specs.StoredValues.{writes_in, AreDefined};
-ghost use Rattle.smithy_serde.specs.Told.{empty_state};
+ghost use Rattle.smithy_serde.specs.Finishing.{IsReady};
 ghost use Rattle.smithy_serde.specs.Values.{list_of};
 ghost use Rattle.smithy_binding.specs.Checked.{checked_input};
 ghost use Rattle.smithy_binding.specs.Faults.{fault, legal_fault};
@@ -83,11 +83,9 @@ pub fn place_writes<S: FinishSerializer + Drop>(
     requires checked { IsTrue (checked_input (schema_of schema)) }
     requires defined { AreDefined table.now writes.now }
     requires content_type { IsTrue (is_header_value content_type.now) }
-    requires lawful { S.lawful serializer }
-    requires told { S.stands_for serializer empty_state }
-    requires unrefused { S.first_refusal serializer ≡ None }
+    requires ready { IsReady (S.seen serializer) }
     ensures ok { IfOk result (λ _. fault (schema_of schema.entry) (list_of (writes_in table.now writes.now)) endpoint.now ≡ None) }
-    ensures placed { IfOk result (λ r. place (record { content_type = content_type.now; text_of = S.text serializer }) (schema_of schema.entry) (list_of (writes_in table.now writes.now)) endpoint.now (omit_of omit) ≡ Some r) }
+    ensures placed { IfOk result (λ r. place (record { content_type = content_type.now; text_of = (S.seen serializer).text }) (schema_of schema.entry) (list_of (writes_in table.now writes.now)) endpoint.now (omit_of omit) ≡ Some r) }
     ensures err { IfErr result (λ e. TellsFault e (λ f. fault (schema_of schema.entry) (list_of (writes_in table.now writes.now)) endpoint.now ≡ Some f)) }
 {
     let mut parts = RequestParts::new(alloc, schema)?;

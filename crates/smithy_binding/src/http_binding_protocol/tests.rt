@@ -1,15 +1,14 @@
-// Requests with bodies and by endpoints, over a codec of the tests.
+// Requests of told inputs, by endpoints and with and without the default headers.
 ghost use Rattle.smithy_schema.specs.References.{schema_of};
 ghost use Rattle.smithy_serde.specs.Told.{one_write};
-ghost use Rattle.smithy_serde.specs.Values.{label_of, text};
+ghost use Rattle.smithy_serde.specs.Values.{label_of, scalar, text};
 
-use crate::testing::{KEEP, assert_checked, inserted, shape, spaced};
-use smithy_http::Request;
-use smithy_ids::{HttpTrait, ShapeType};
-use smithy_schema::{Schema, SchemaIndex, SchemaRef, Schemas};
+use crate::testing::{KEEP, Member, Trait, assert_checked, assert_told, rest_json, structure_of};
+use smithy_document::{JsonCodec, json_is_lawful};
+use smithy_ids::ShapeType;
+use smithy_schema::{SchemaRef, Schemas};
 use smithy_serde::{Codec, OmitFlags, SerdeError, SerializableStruct, ShapeSerializer};
 use smithy_types::Text;
-use spaced_json::{SpacedJson, spaced_is_lawful};
 use std::alloc::Global;
 use std::process::Abort;
 
@@ -27,7 +26,7 @@ struct Named<'t> {
 }
 
 impl SerializableStruct for Named<'_> {
-    ghost writes = { λ n. one_write (label_of (schema_of n.member)) (text n.name) };
+    ghost writes = { λ n. one_write (label_of (schema_of n.member)) (scalar (text n.name)) };
 
     ghost node = { λ n. schema_of n.node };
 
@@ -40,98 +39,75 @@ impl SerializableStruct for Named<'_> {
     }
 }
 
-// The request of this text for the only member of a structure.
-fn asked(
+type Http = Option<(&'static str, &'static str)>;
+
+// Ends the test where the text `a` for the only member of a structure gives anything else; both calls give the same.
+fn assert_asked(
     rt: &impl Abort,
     alloc: Global,
-    table: &Schemas,
-    place: SchemaIndex,
+    member: Member,
+    http: Http,
     endpoint: &str,
     omit: OmitFlags,
-) -> Result<Request, SerdeError> {
+    told: &str,
+) {
+    let mut table = Schemas::new(alloc);
+    let place = structure_of(rt, alloc, &mut table, &[member], http);
     let node = table.get(place).expect(rt, "no node");
     let member = node.member_schema_by_index(0).expect(rt, "no member");
     assert_checked(rt, alloc, node);
     let name = Text::from_str(alloc, "a").expect(rt, "no memory");
     let input = Named { node, member, name };
-    let protocol = spaced();
-    spaced_is_lawful(protocol.codec());
-    let body = protocol
-        .codec()
-        .create_serializer(alloc)
-        .expect(rt, "no serializer");
-    let same = protocol.serialize_request_with_body(alloc, body, &input, node, endpoint, omit);
+    let protocol = rest_json();
+    json_is_lawful(protocol.codec());
+    let codec = protocol.codec();
+    let body = codec.create_serializer(alloc).expect(rt, "no memory");
+    let outcome = protocol.serialize_request_with_body(alloc, body, &input, node, endpoint, omit);
+    assert_told(rt, alloc, outcome, told);
     let outcome = protocol.serialize_request(alloc, &input, node, endpoint, omit);
-    assert_eq!(rt; same.is_ok(), outcome.is_ok());
-    outcome
+    assert_told(rt, alloc, outcome, told);
 }
 
-// The request `POST /t` with an unbound member `name`.
-fn posted(rt: &impl Abort, alloc: Global, omit: OmitFlags) -> Request {
-    let mut table = Schemas::new(alloc);
-    let member = Schema::new_member(shape(), ShapeType::String, "name", 0);
-    let members = [inserted(rt, &mut table, member)];
-    let schema = Schema::new_struct(shape(), ShapeType::Structure, &members);
-    let schema = schema.with_http(HttpTrait::new("POST", "/t", None));
-    let place = inserted(rt, &mut table, schema);
-    asked(rt, alloc, &table, place, "", omit).expect(rt, "no request")
-}
+const BUCKET: Member = ("Bucket", ShapeType::String, Trait::Label);
 
-// The request by this endpoint with a label member `Bucket`.
-fn sent_to(rt: &impl Abort, alloc: Global, endpoint: &str) -> Result<Request, SerdeError> {
-    let mut table = Schemas::new(alloc);
-    let member = Schema::new_member(shape(), ShapeType::String, "Bucket", 0).with_http_label();
-    let members = [inserted(rt, &mut table, member)];
-    let schema = Schema::new_struct(shape(), ShapeType::Structure, &members);
-    let place = inserted(rt, &mut table, schema);
-    asked(rt, alloc, &table, place, endpoint, KEEP)
-}
-
-fn has_target(rt: &impl Abort, alloc: Global, endpoint: &str, target: &str) {
-    let request = sent_to(rt, alloc, endpoint).expect(rt, "no request");
-    assert_eq!(rt; request.method(), "GET");
-    assert_eq!(rt; request.uri(), target);
-}
-
-#[test]
-fn a_body_is_the_codecs_text(rt: HostRuntime) {
-    let request = posted(&rt, rt.alloc(), KEEP);
-    assert_eq!(rt; request.method(), "POST");
-    assert_eq!(rt; request.uri(), "/t");
-    let mut pairs = request.headers().iter_bytes();
-    assert!(rt; pairs.next() == Some(("content-type", b"application/json".as_slice())));
-    assert!(rt; pairs.next() == Some(("content-length", b"13".as_slice())));
-    assert!(rt; pairs.next() == None);
-    assert_eq!(rt; request.body().as_slice(), b"{\"name\":\"a\"}\n".as_slice());
-}
-
-#[test]
-fn default_headers_are_left_out(rt: HostRuntime) {
-    let request = posted(&rt, rt.alloc(), LEAVE);
-    assert!(rt; request.headers().iter_bytes().next() == None);
-    assert_eq!(rt; request.body().as_slice().len(), 13);
-}
+const ENDPOINTS: [(&str, &str); 4] = [
+    ("", "GET /\n\n"),
+    ("/a/{Bucket}", "GET /a/a\n\n"),
+    ("/a/{Bucket", "GET /a/{Bucket\n\n"),
+    (
+        "/a b",
+        "Custom: invalid endpoint URI: not a legal request target",
+    ),
+];
 
 #[test]
 fn an_endpoint_is_the_template(rt: HostRuntime) {
-    has_target(&rt, rt.alloc(), "", "/");
-    has_target(&rt, rt.alloc(), "/a/{Bucket}", "/a/a");
-    has_target(&rt, rt.alloc(), "/a/{Bucket", "/a/{Bucket");
-    let error = sent_to(&rt, rt.alloc(), "/a b")
-        .err()
-        .expect(&rt, "a request");
-    assert_eq!(rt; error.variant_name(), "Custom");
-    let shown = format!(in rt.alloc(); "{error}").expect(&rt, "no memory");
-    assert_eq!(rt;
-        shown.as_str(),
-        "invalid endpoint URI: not a legal request target"
-    );
+    for (endpoint, told) in ENDPOINTS {
+        assert_asked(&rt, rt.alloc(), BUCKET, None, endpoint, KEEP, told);
+    }
+    let longer = "/".repeat(rt.alloc(), 65_535).expect(&rt, "no memory");
+    let told = "Custom: invalid endpoint URI: longer than 65534 bytes";
+    assert_asked(&rt, rt.alloc(), BUCKET, None, longer.as_str(), KEEP, told);
+    let longest = "/".repeat(rt.alloc(), 65_534).expect(&rt, "no memory");
+    let told = format!(in rt.alloc(); "GET {longest}\n\n").expect(&rt, "no memory");
+    let told = told.as_str();
+    assert_asked(&rt, rt.alloc(), BUCKET, None, longest.as_str(), KEEP, told);
+}
+
+#[test]
+fn default_headers_stand_unless_left_out(rt: HostRuntime) {
+    let name = ("name", ShapeType::String, Trait::Body);
+    let http = Some(("POST", "/t"));
+    let told = "POST /t\ncontent-type: application/json\ncontent-length: 12\n\n{\"name\":\"a\"}";
+    assert_asked(&rt, rt.alloc(), name, http, "", KEEP, told);
+    let told = "POST /t\n\n{\"name\":\"a\"}";
+    assert_asked(&rt, rt.alloc(), name, http, "", LEAVE, told);
 }
 
 #[test]
 fn a_protocol_has_its_parts(rt: HostRuntime) {
-    let protocol = spaced().with_codec(SpacedJson);
-    assert_eq!(rt; protocol.protocol_id().as_str(), "test#spaced");
+    let protocol = rest_json().with_codec(JsonCodec);
+    assert_eq!(rt; protocol.protocol_id().as_str(), "test#restJson");
     assert_eq!(rt; protocol.content_type(), "application/json");
     assert!(rt; protocol.codec().create_serializer(rt.alloc()).is_ok());
 }

@@ -1,280 +1,360 @@
-// Requests by the schemas of the two samples, and which fault is told.
-ghost use Rattle.std.specs.Prelude.{◌<◌};
-ghost use Rattle.smithy_serde.specs.StoredValues.{AreDefined, IsDefined};
+// Requests by the members of their structures, and which fault is told.
+use crate::testing::{Given, Member, One, Trait, Write, assert_told, sent};
+use smithy_ids::{ShapeType, TimestampFormat};
 
-use crate::checked_input;
-use crate::testing::{
-    add, assert_refused, assert_sent, blob_value, input_of, inserted, member, sent, shape,
-    text_value,
-};
-use smithy_http::Request;
-use smithy_ids::ShapeType;
-use smithy_schema::{Schema, SchemaIndex, Schemas};
-use smithy_serde::{SerdeError, ShapeValue, WriteList};
-use smithy_types::DateTime;
-use std::alloc::Global;
-use std::process::Abort;
-
-const BUCKET: SchemaIndex = SchemaIndex(0);
-
-const ID: SchemaIndex = SchemaIndex(1);
-
-const KEY: SchemaIndex = SchemaIndex(2);
-
-const MAX: SchemaIndex = SchemaIndex(3);
-
-// The first sample's input, its member `Id` of this kind.
-fn first_input(rt: &impl Abort, table: &mut Schemas, kind: ShapeType) -> SchemaIndex {
-    let bucket = member("Bucket", ShapeType::String, 0).with_http_label();
-    let id = member("Id", kind, 1).with_http_header("X-Id");
-    let key = member("Key", ShapeType::String, 2).with_http_label();
-    let max = member("Max", ShapeType::Integer, 3).with_http_query("max");
-    let members = [
-        inserted(rt, table, bucket),
-        inserted(rt, table, id),
-        inserted(rt, table, key),
-        inserted(rt, table, max),
-    ];
-    input_of(rt, table, &members, "GET", "/{Bucket}/{Key+}")
+// Method and URI, members, writes, and what is told of them.
+#[derive(Clone, Copy)]
+struct Case {
+    http: (&'static str, &'static str),
+    members: &'static [Member],
+    writes: &'static [Write],
+    told: &'static str,
 }
 
-// What the writes of these two texts, of `Max` and twice of `Id` give.
-#[tactic(auto, unfolding(smithy_serde::specs::StoredValues::IsDefined))]
-fn first_sent(
-    rt: &impl Abort,
-    alloc: Global,
-    bucket: &str,
-    key: &str,
-) -> Result<Request, SerdeError> {
-    let mut table = Schemas::new(alloc);
-    let place = first_input(rt, &mut table, ShapeType::Integer);
-    let mut writes = WriteList::new(alloc);
-    add(
-        rt,
-        &table,
-        &mut writes,
-        BUCKET,
-        text_value(rt, alloc, bucket),
-    );
-    add(rt, &table, &mut writes, KEY, text_value(rt, alloc, key));
-    add(rt, &table, &mut writes, MAX, ShapeValue::Integer(3));
-    add(rt, &table, &mut writes, ID, ShapeValue::Integer(7));
-    add(rt, &table, &mut writes, ID, ShapeValue::Integer(8));
-    sent(rt, alloc, &table, place, writes)
-}
+// A value of one member, beside a query member that is not written, and what is told of it.
+type Row = (Member, Given, &'static str);
+
+const SIDE: Member = ("max", ShapeType::String, Trait::Query("max"));
+
+const TAGS: Member = ("Tags", ShapeType::List, Trait::Header("X-Tags"));
+
+const QUERY_TAGS: Member = ("Tags", ShapeType::List, Trait::Query("tag"));
+
+const BLOBS: Member = ("Tags", ShapeType::List, Trait::BlobsHeader("X-Tags"));
+
+const AT: Member = ("At", ShapeType::Timestamp, Trait::Header("X-At"));
+
+const DATED: Member = (
+    "At",
+    ShapeType::Timestamp,
+    Trait::TimeHeader("X-At", TimestampFormat::DateTime),
+);
+
+const COUNTED: Member = (
+    "At",
+    ShapeType::Timestamp,
+    Trait::TimeHeader("X-At", TimestampFormat::EpochSeconds),
+);
+
+const JSON: Member = ("Json", ShapeType::String, Trait::JsonHeader("X-Json"));
+
+const RAW: Member = ("Raw", ShapeType::Blob, Trait::Header("X-Raw"));
+
+const META: Member = ("P", ShapeType::Map, Trait::Prefix("X-Meta-"));
+
+const QUERY_MAP: Member = ("P", ShapeType::Map, Trait::QueryMap);
+
+// Lists, times, texts with a media type, blobs and maps (Smithy, HTTP protocol bindings).
+const ROWS: [Row; 18] = [
+    (
+        TAGS,
+        Given::List(&[One::Text("a,b"), One::Text(" c"), One::Text("d\"e")]),
+        "GET /\nx-tags: \"a,b\", \" c\", \"d\\\"e\"\n\n",
+    ),
+    (
+        TAGS,
+        Given::List(&[One::Text("a"), One::Text("")]),
+        "GET /\nx-tags: a, \n\n",
+    ),
+    (TAGS, Given::List(&[One::Text("")]), "GET /\nx-tags: \n\n"),
+    (TAGS, Given::List(&[]), "GET /\nx-tags: \n\n"),
+    (
+        TAGS,
+        Given::List(&[One::Text("a"), One::Whole(7)]),
+        "UnsupportedOperation: unsupported operation: cannot write integer to an element of member Tags of type string",
+    ),
+    (
+        QUERY_TAGS,
+        Given::List(&[One::Text("a b"), One::Text("c")]),
+        "GET /?tag=a%20b&tag=c\n\n",
+    ),
+    (
+        BLOBS,
+        Given::List(&[One::Bytes(b"hello")]),
+        "GET /\nx-tags: aGVsbG8=\n\n",
+    ),
+    (
+        AT,
+        Given::Plain(One::Time(1_515_523_620)),
+        "GET /\nx-at: Tue, 09 Jan 2018 18:47:00 GMT\n\n",
+    ),
+    (
+        DATED,
+        Given::Plain(One::Time(1_515_523_620)),
+        "GET /\nx-at: 2018-01-09T18:47:00Z\n\n",
+    ),
+    (
+        AT,
+        Given::Plain(One::Time(253_402_300_799)),
+        "GET /\nx-at: Fri, 31 Dec 9999 23:59:59 GMT\n\n",
+    ),
+    (
+        AT,
+        Given::Plain(One::Time(253_402_300_800)),
+        "Custom: failed to format timestamp: year outside 1 to 9999",
+    ),
+    (
+        COUNTED,
+        Given::Plain(One::Time(253_402_300_800)),
+        "GET /\nx-at: 253402300800\n\n",
+    ),
+    (
+        JSON,
+        Given::Plain(One::Text("{}")),
+        "GET /\nx-json: e30=\n\n",
+    ),
+    (
+        RAW,
+        Given::Plain(One::Bytes(b"hello")),
+        "GET /\nx-raw: aGVsbG8=\n\n",
+    ),
+    (
+        META,
+        Given::Map(&[
+            One::Text("Team"),
+            One::Text("blue"),
+            One::Text("owner"),
+            One::Text("ann"),
+            One::Text("team"),
+            One::Text("red"),
+        ]),
+        "GET /\nx-meta-team: red\nx-meta-owner: ann\n\n",
+    ),
+    (
+        META,
+        Given::Map(&[One::Text("a b"), One::Text("c")]),
+        "InvalidInput: invalid input: cannot serialize P to headers with prefix `X-Meta-`: invalid header name",
+    ),
+    (
+        META,
+        Given::Map(&[One::Text("a"), One::Text("b"), One::Text("c")]),
+        "UnsupportedOperation: unsupported operation: map member P ends with a key without a value",
+    ),
+    (
+        QUERY_MAP,
+        Given::Map(&[
+            One::Text("max"),
+            One::Text("9"),
+            One::Text("q"),
+            One::Text("x"),
+        ]),
+        "GET /?q=x\n\n",
+    ),
+];
+
+// The first sample's members, and its values.
+const FIRST: [Member; 4] = [
+    ("Bucket", ShapeType::String, Trait::Label),
+    ("Id", ShapeType::Integer, Trait::Header("X-Id")),
+    ("Key", ShapeType::String, Trait::Label),
+    ("Max", ShapeType::Integer, Trait::Query("max")),
+];
+
+const GET_FIRST: (&str, &str) = ("GET", "/{Bucket}/{Key+}");
+
+// The second sample's members, in the order of their names.
+const SECOND: [Member; 16] = [
+    ("Body", ShapeType::Blob, Trait::Payload),
+    ("Bucket", ShapeType::String, Trait::Label),
+    (
+        "CacheControl",
+        ShapeType::String,
+        Trait::Header("Cache-Control"),
+    ),
+    (
+        "ContentDisposition",
+        ShapeType::String,
+        Trait::Header("Content-Disposition"),
+    ),
+    (
+        "ContentEncoding",
+        ShapeType::String,
+        Trait::Header("Content-Encoding"),
+    ),
+    (
+        "ContentLanguage",
+        ShapeType::String,
+        Trait::Header("Content-Language"),
+    ),
+    (
+        "ContentLength",
+        ShapeType::Long,
+        Trait::Header("Content-Length"),
+    ),
+    (
+        "ContentMD5",
+        ShapeType::String,
+        Trait::Header("Content-MD5"),
+    ),
+    (
+        "ContentType",
+        ShapeType::String,
+        Trait::Header("Content-Type"),
+    ),
+    (
+        "Encryption",
+        ShapeType::String,
+        Trait::Header("x-amz-server-side-encryption"),
+    ),
+    ("Expires", ShapeType::Timestamp, Trait::Header("Expires")),
+    ("Key", ShapeType::String, Trait::Label),
+    ("Metadata", ShapeType::Map, Trait::Prefix("x-amz-meta-")),
+    (
+        "Redirect",
+        ShapeType::String,
+        Trait::Header("x-amz-website-redirect-location"),
+    ),
+    (
+        "StorageClass",
+        ShapeType::String,
+        Trait::Header("x-amz-storage-class"),
+    ),
+    ("Tagging", ShapeType::String, Trait::Header("x-amz-tagging")),
+];
+
+// A payload beside a header that has the name of a default one.
+const BLOB_PAYLOAD: [Member; 2] = [
+    ("T", ShapeType::String, Trait::Header("Content-Type")),
+    ("Body", ShapeType::Blob, Trait::Payload),
+];
+
+const STRUCTURE_PAYLOAD: [Member; 2] = [
+    ("T", ShapeType::String, Trait::Header("Content-Type")),
+    ("Body", ShapeType::Structure, Trait::Payload),
+];
+
+// An unbound member beside a header and beside prefix headers, which are not written.
+const BESIDE_HEADER: [Member; 2] = [
+    ("T", ShapeType::String, Trait::Header("Content-Type")),
+    ("name", ShapeType::String, Trait::Body),
+];
+
+const BESIDE_PREFIX: [Member; 2] = [
+    ("P", ShapeType::Map, Trait::Prefix("")),
+    ("name", ShapeType::String, Trait::Body),
+];
+
+const WITH_UNKNOWN: [Member; 2] = [
+    ("T", ShapeType::String, Trait::Header("X-T")),
+    ("Zed", ShapeType::String, Trait::Outside),
+];
+
+const CASES: [Case; 11] = [
+    Case {
+        http: GET_FIRST,
+        members: &FIRST,
+        writes: &[
+            (0, Given::Plain(One::Text("b"))),
+            (2, Given::Plain(One::Text("x/y z"))),
+            (3, Given::Plain(One::Whole(3))),
+            (1, Given::Plain(One::Whole(7))),
+            (1, Given::Plain(One::Whole(8))),
+        ],
+        told: "GET /b/x/y%20z?max=3\nx-id: 7\n\n",
+    },
+    Case {
+        http: GET_FIRST,
+        members: &FIRST,
+        writes: &[
+            (0, Given::Plain(One::Text(""))),
+            (2, Given::Plain(One::Text("k"))),
+        ],
+        told: "InvalidInput: invalid input: Bucket was missing: cannot be empty or unset",
+    },
+    Case {
+        http: ("PUT", "/{Bucket}/{Key+}?x-id=PutObject"),
+        members: &SECOND,
+        writes: &[
+            (0, Given::Plain(One::Bytes(b"hello"))),
+            (1, Given::Plain(One::Text("box"))),
+            (2, Given::Plain(One::Text("no-cache"))),
+            (6, Given::Plain(One::Long(5))),
+            (8, Given::Plain(One::Text("text/plain"))),
+            (10, Given::Plain(One::Time(1_515_523_620))),
+            (11, Given::Plain(One::Text("a b/c.txt"))),
+            (
+                12,
+                Given::Map(&[
+                    One::Text("Team"),
+                    One::Text("blue"),
+                    One::Text("owner"),
+                    One::Text("ann"),
+                ]),
+            ),
+            (14, Given::Plain(One::Text("STANDARD_IA"))),
+        ],
+        told: "PUT /box/a%20b/c.txt?x-id=PutObject\ncache-control: no-cache\ncontent-length: 5\ncontent-type: text/plain\nexpires: Tue, 09 Jan 2018 18:47:00 GMT\nx-amz-meta-team: blue\nx-amz-meta-owner: ann\nx-amz-storage-class: STANDARD_IA\n\nhello",
+    },
+    Case {
+        http: ("PUT", "/p"),
+        members: &BLOB_PAYLOAD,
+        writes: &[],
+        told: "PUT /p\n\n",
+    },
+    Case {
+        http: ("PUT", "/p"),
+        members: &BLOB_PAYLOAD,
+        writes: &[
+            (0, Given::Plain(One::Text("text/plain"))),
+            (1, Given::Plain(One::Bytes(b"hi"))),
+            (1, Given::Plain(One::Bytes(b"later"))),
+        ],
+        told: "PUT /p\ncontent-type: text/plain\ncontent-length: 2\n\nhi",
+    },
+    Case {
+        http: ("PUT", "/p"),
+        members: &STRUCTURE_PAYLOAD,
+        writes: &[],
+        told: "PUT /p\ncontent-type: application/json\ncontent-length: 0\n\n",
+    },
+    Case {
+        http: ("PUT", "/p"),
+        members: &STRUCTURE_PAYLOAD,
+        writes: &[(1, Given::Structure(&[One::Text("a")]))],
+        told: "PUT /p\ncontent-type: application/json\ncontent-length: 11\n\n{\"key\":\"a\"}",
+    },
+    Case {
+        http: ("POST", "/t"),
+        members: &BESIDE_HEADER,
+        writes: &[(1, Given::Plain(One::Text("a")))],
+        told: "POST /t\ncontent-type: application/json\ncontent-length: 12\n\n{\"name\":\"a\"}",
+    },
+    Case {
+        http: ("POST", "/t"),
+        members: &BESIDE_PREFIX,
+        writes: &[(1, Given::Plain(One::Text("a")))],
+        told: "POST /t\ncontent-type: application/json\ncontent-length: 12\n\n{\"name\":\"a\"}",
+    },
+    Case {
+        http: ("GET", "/"),
+        members: &WITH_UNKNOWN,
+        writes: &[
+            (0, Given::Plain(One::Text("a\nb"))),
+            (1, Given::Plain(One::Text("z"))),
+        ],
+        told: "InvalidInput: invalid input: cannot serialize T to header `X-T`: invalid header value",
+    },
+    Case {
+        http: ("GET", "/"),
+        members: &WITH_UNKNOWN,
+        writes: &[(1, Given::Plain(One::Text("z")))],
+        told: "UnknownMember: unknown member: Zed",
+    },
+];
 
 #[test]
-fn the_first_sample(rt: HostRuntime) {
-    let outcome = first_sent(&rt, rt.alloc(), "b", "x/y z");
-    assert_sent(
-        &rt,
-        rt.alloc(),
-        outcome,
-        "GET /b/x/y%20z?max=3\nx-id: 7\n\n",
-    );
-}
-
-#[test]
-fn an_empty_label(rt: HostRuntime) {
-    let outcome = first_sent(&rt, rt.alloc(), "", "k");
-    let line = "InvalidInput: invalid input: Bucket was missing: cannot be empty or unset";
-    assert_refused(&rt, rt.alloc(), outcome, line);
-}
-
-#[test]
-fn kinds_are_checked(rt: HostRuntime) {
-    let mut table = Schemas::new(rt.alloc());
-    let place = first_input(&rt, &mut table, ShapeType::Float);
-    let schema = table.get(place).expect(&rt, "no node");
-    let is_checked = checked_input(rt.alloc(), schema).expect(&rt, "no memory");
-    assert!(rt; !is_checked);
-}
-
-// The label `Key` of this many bytes stands behind `/b/`, and before `?max=3`.
-#[test]
-fn a_target_has_its_longest(rt: HostRuntime) {
-    let key = "a".repeat(rt.alloc(), 65_525).expect(&rt, "no memory");
-    let request = first_sent(&rt, rt.alloc(), "b", key.as_str()).expect(&rt, "no request");
-    assert_eq!(rt; request.uri().len(), 65_534);
-    let key = "a".repeat(rt.alloc(), 65_526).expect(&rt, "no memory");
-    let outcome = first_sent(&rt, rt.alloc(), "b", key.as_str());
-    let line = "Custom: invalid endpoint URI: longer than 65534 bytes";
-    assert_refused(&rt, rt.alloc(), outcome, line);
-}
-
-// The nodes of the entries of `Metadata`, before those of the members.
-const META_KEY: SchemaIndex = SchemaIndex(0);
-
-const META_VALUE: SchemaIndex = SchemaIndex(1);
-
-// The second sample's members, by their positions, which are in the order of their names.
-fn second_member(index: usize) -> Schema<'static> {
-    match index {
-        0 => member("Body", ShapeType::Blob, 0)
-            .with_http_payload()
-            .with_streaming(),
-        1 => member("Bucket", ShapeType::String, 1).with_http_label(),
-        2 => text_header("CacheControl", 2, "Cache-Control"),
-        3 => text_header("ContentDisposition", 3, "Content-Disposition"),
-        4 => text_header("ContentEncoding", 4, "Content-Encoding"),
-        5 => text_header("ContentLanguage", 5, "Content-Language"),
-        6 => member("ContentLength", ShapeType::Long, 6).with_http_header("Content-Length"),
-        7 => text_header("ContentMD5", 7, "Content-MD5"),
-        8 => text_header("ContentType", 8, "Content-Type"),
-        9 => text_header("Encryption", 9, "x-amz-server-side-encryption"),
-        10 => member("Expires", ShapeType::Timestamp, 10).with_http_header("Expires"),
-        11 => member("Key", ShapeType::String, 11).with_http_label(),
-        12 => member("Metadata", ShapeType::Map, 12)
-            .with_map_members(META_KEY, META_VALUE)
-            .with_http_prefix_headers("x-amz-meta-"),
-        13 => text_header("Redirect", 13, "x-amz-website-redirect-location"),
-        14 => text_header("StorageClass", 14, "x-amz-storage-class"),
-        _ => text_header("Tagging", 15, "x-amz-tagging"),
+fn a_member_stands_by_its_trait(rt: HostRuntime) {
+    for (member, given, told) in ROWS {
+        let members = [member, SIDE];
+        let outcome = sent(&rt, rt.alloc(), ("GET", "/"), &members, &[(0, given)]);
+        assert_told(&rt, rt.alloc(), outcome, told);
     }
 }
 
-fn text_header(name: &'static str, index: usize, header: &'static str) -> Schema<'static> {
-    member(name, ShapeType::String, index).with_http_header(header)
-}
-
-fn second_input(rt: &impl Abort, alloc: Global, table: &mut Schemas) -> SchemaIndex {
-    inserted(rt, table, member("key", ShapeType::String, 0));
-    inserted(rt, table, member("value", ShapeType::String, 1));
-    let mut members = Vec::new(alloc);
-    for index in 0..16 {
-        let place = inserted(rt, table, second_member(index));
-        members.push(place).expect(rt, "no memory");
-    }
-    let uri = "/{Bucket}/{Key+}?x-id=PutObject";
-    input_of(rt, table, members.as_slice(), "PUT", uri)
-}
-
-// Adds a write to the member at this position, behind the two nodes of the map.
-fn add_second(
-    rt: &impl Abort,
-    table: &Schemas,
-    writes: &mut WriteList,
-    position: usize,
-    value: ShapeValue,
-)
-    requires writes { AreDefined table.now writes.old }
-    requires value { IsDefined table.now value }
-    requires position { position < 16 }
-    ensures { AreDefined table.now writes.new }
-{
-    add(rt, table, writes, SchemaIndex(position + 2), value);
-}
-
-#[tactic(auto, unfolding(smithy_serde::specs::StoredValues::IsDefined))]
-fn metadata(rt: &impl Abort, alloc: Global, table: &Schemas) -> ShapeValue
-    ensures { IsDefined table.now result }
-{
-    let mut entries = WriteList::new(alloc);
-    add(
-        rt,
-        table,
-        &mut entries,
-        META_KEY,
-        text_value(rt, alloc, "Team"),
-    );
-    add(
-        rt,
-        table,
-        &mut entries,
-        META_VALUE,
-        text_value(rt, alloc, "blue"),
-    );
-    add(
-        rt,
-        table,
-        &mut entries,
-        META_KEY,
-        text_value(rt, alloc, "owner"),
-    );
-    add(
-        rt,
-        table,
-        &mut entries,
-        META_VALUE,
-        text_value(rt, alloc, "ann"),
-    );
-    ShapeValue::Map(entries)
-}
-
-// The second sample's input, in the order of its names.
-#[tactic(auto, unfolding(smithy_serde::specs::StoredValues::IsDefined))]
-fn second_writes(rt: &impl Abort, alloc: Global, table: &Schemas) -> WriteList
-    ensures { AreDefined table.now result }
-{
-    let mut writes = WriteList::new(alloc);
-    add_second(rt, table, &mut writes, 0, blob_value(rt, alloc, b"hello"));
-    add_second(rt, table, &mut writes, 1, text_value(rt, alloc, "box"));
-    add_second(rt, table, &mut writes, 2, text_value(rt, alloc, "no-cache"));
-    add_second(rt, table, &mut writes, 6, ShapeValue::Long(5));
-    add_second(
-        rt,
-        table,
-        &mut writes,
-        8,
-        text_value(rt, alloc, "text/plain"),
-    );
-    let expires = ShapeValue::Timestamp(DateTime::from_secs(1_515_523_620));
-    add_second(rt, table, &mut writes, 10, expires);
-    add_second(
-        rt,
-        table,
-        &mut writes,
-        11,
-        text_value(rt, alloc, "a b/c.txt"),
-    );
-    add_second(rt, table, &mut writes, 12, metadata(rt, alloc, table));
-    add_second(
-        rt,
-        table,
-        &mut writes,
-        14,
-        text_value(rt, alloc, "STANDARD_IA"),
-    );
-    writes
-}
-
 #[test]
-fn the_second_sample(rt: HostRuntime) {
-    let mut table = Schemas::new(rt.alloc());
-    let place = second_input(&rt, rt.alloc(), &mut table);
-    let writes = second_writes(&rt, rt.alloc(), &table);
-    let outcome = sent(&rt, rt.alloc(), &table, place, writes);
-    let text =
-        "PUT /box/a%20b/c.txt?x-id=PutObject\ncache-control: no-cache\ncontent-length: 5\ncontent-type: text/plain\nexpires: Tue, 09 Jan 2018 18:47:00 GMT\nx-amz-meta-team: blue\nx-amz-meta-owner: ann\nx-amz-storage-class: STANDARD_IA\n\nhello";
-    assert_sent(&rt, rt.alloc(), outcome, text);
-}
-
-// What writes to a header member `T`, of this text, and to a node `Zed` that is no member give.
-fn with_unknown(rt: &impl Abort, alloc: Global, text: Option<&str>) -> Result<Request, SerdeError> {
-    let mut table = Schemas::new(alloc);
-    let header = inserted(rt, &mut table, text_header("T", 0, "X-T"));
-    let unknown = Schema::new_unindexed(shape(), ShapeType::String, "Zed");
-    let unknown = inserted(rt, &mut table, unknown);
-    let place = input_of(rt, &mut table, &[header], "GET", "/");
-    let mut writes = WriteList::new(alloc);
-    if let Some(text) = text {
-        add(rt, &table, &mut writes, header, text_value(rt, alloc, text));
+fn requests_are_placed(rt: HostRuntime) {
+    for case in CASES {
+        let outcome = sent(&rt, rt.alloc(), case.http, case.members, case.writes);
+        assert_told(&rt, rt.alloc(), outcome, case.told);
     }
-    add(rt, &table, &mut writes, unknown, text_value(rt, alloc, "z"));
-    sent(rt, alloc, &table, place, writes)
-}
-
-#[test]
-fn the_first_fault_is_told(rt: HostRuntime) {
-    let outcome = with_unknown(&rt, rt.alloc(), Some("a\nb"));
-    let line =
-        "InvalidInput: invalid input: cannot serialize T to header `X-T`: invalid header value";
-    assert_refused(&rt, rt.alloc(), outcome, line);
-    let outcome = with_unknown(&rt, rt.alloc(), None);
-    assert_refused(
-        &rt,
-        rt.alloc(),
-        outcome,
-        "UnknownMember: unknown member: Zed",
-    );
 }

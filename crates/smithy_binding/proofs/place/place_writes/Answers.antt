@@ -92,7 +92,7 @@ returns-clause-placed g c =
     let same : parts ≡ body_parts schema ws = c.in_ok-gather_writes.ensures.body in
     let target : target_by schema c.args.endpoint.now s ≡ Ok (string_bytes c.in_ok-target.target) = (rw (c.template_of-template.ensures, c.as_slice.ensures.value, c.as_str.ensures.value) at c.in_ok-target.ensures.ok) in
     let form = c.body_form-form.result in
-    let protocol : Protocol = record { content_type = c.args.content_type.now; text_of = g.S.ShapeSerializer.text c.args.serializer } in
+    let protocol : Protocol = record { content_type = c.args.content_type.now; text_of = (g.S.ShapeSerializer.seen c.args.serializer).text } in
     let b : Body = record { bytes = c.in_ok-body.body; form = form } in
     let omit = omit_of c.args.omit in
     let body : body protocol.text_of schema ws ≡ b = body-by schema ws protocol.text_of form parts c.body_form-form.ensures same c.in_ok-body.body c.in_ok-body.ensures.bytes in

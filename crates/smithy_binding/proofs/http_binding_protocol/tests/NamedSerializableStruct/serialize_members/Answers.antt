@@ -1,6 +1,5 @@
-use Rattle.std.proofs.lemmas.Result.{on_err_weaker}
-use Rattle.smithy_serde.proofs.PartLemmas.{part_unchanged}
+use Rattle.smithy_serde.proofs.Calls.{adds_one, one_tells}
 use Rattle.smithy_binding.proofs.http_binding_protocol.tests.NamedSerializableStruct.serialize_members.Goals as goal
 
-pub returns-clause-err_states : goal.returns-clause-err_states
-returns-clause-err_states g c = on_err_weaker c.write_string.result (part_unchanged _ _ _) c.write_string.ensures.1.1.1.0
+pub returns : goal.returns
+returns g c = one_tells _ _ _ _ _ (adds_one _ _ _ _ _ c.write_string.ensures)
