@@ -4,7 +4,7 @@ use Rattle.std.specs.Option.{option_map as mapped}
 use Rattle.conformance.proofs.OnLiterals.{conformance_on_literals}
 use Rattle.smithy_ids.specs.declared.shape_type.ShapeType.TheVariants as kind
 use Rattle.smithy_schema.specs.Nodes.{Schema}
-use Rattle.smithy_serde.specs.Values.{Write, no_writes, writes_of, text, blob, null, structure}
+use Rattle.smithy_serde.specs.Values.{scalar, Write, no_writes, writes_of, text, blob, null, structure}
 use Rattle.smithy_binding.specs.Placing.{place}
 use Rattle.conformance.proofs.Making.{to, named, string_map, json, keep_all}
 use Rattle.conformance.proofs.Samples.{one_name, one_map, one_payload}
@@ -13,11 +13,11 @@ use Rattle.conformance.proofs.Samples.{one_name, one_map, one_payload}
 abbrev body_placed : Schema → List Write → Option (List ℕ)
 body_placed schema ws = mapped (λ r. r.body) (place json schema ws [] keep_all)
 
-pub unbound_text : place json one_name (to one_name 0 (text (codes "a")) ∷ []) [] keep_all ≡ Some (record { method = codes "POST"; target = codes "/t"; headers = ((codes "content-type", codes "application/json") ∷ (codes "content-length", codes "12") ∷ []); body = codes "{\"name\":\"a\"}" })
+pub unbound_text : place json one_name (to one_name 0 (scalar (text (codes "a"))) ∷ []) [] keep_all ≡ Some (record { method = codes "POST"; target = codes "/t"; headers = ((codes "content-type", codes "application/json") ∷ (codes "content-length", codes "12") ∷ []); body = codes "{\"name\":\"a\"}" })
 unfolding conformance_on_literals
 unbound_text = refl
 
-pub last_unbound_write_stands : body_placed one_name (to one_name 0 (text (codes "a")) ∷ named (codes "name") null ∷ []) ≡ Some (codes "{\"name\":null}")
+pub last_unbound_write_stands : body_placed one_name (to one_name 0 (scalar (text (codes "a"))) ∷ named (codes "name") (scalar null) ∷ []) ≡ Some (codes "{\"name\":null}")
 unfolding conformance_on_literals
 last_unbound_write_stands = refl
 
@@ -29,15 +29,15 @@ pub structure_payload_unwritten : place json (one_payload kind.Structure) [] [] 
 unfolding conformance_on_literals
 structure_payload_unwritten = refl
 
-pub first_structure_payload_counts : body_placed (one_payload kind.Structure) (to (one_payload kind.Structure) 1 (structure (writes_of (named (codes "k") (text (codes "v")) ∷ []))) ∷ to (one_payload kind.Structure) 1 (structure no_writes) ∷ []) ≡ Some (codes "{\"k\":\"v\"}")
+pub first_structure_payload_counts : body_placed (one_payload kind.Structure) (to (one_payload kind.Structure) 1 (structure (writes_of (named (codes "k") (scalar (text (codes "v"))) ∷ []))) ∷ to (one_payload kind.Structure) 1 (structure no_writes) ∷ []) ≡ Some (codes "{\"k\":\"v\"}")
 unfolding conformance_on_literals
 first_structure_payload_counts = refl
 
-pub raw_payload_keeps_its_content_type : place json (one_payload kind.Blob) (to (one_payload kind.Blob) 0 (text (codes "text/plain")) ∷ to (one_payload kind.Blob) 1 (blob (codes "hi")) ∷ []) [] keep_all ≡ Some (record { method = codes "PUT"; target = codes "/p"; headers = ((codes "content-type", codes "text/plain") ∷ (codes "content-length", codes "2") ∷ []); body = codes "hi" })
+pub raw_payload_keeps_its_content_type : place json (one_payload kind.Blob) (to (one_payload kind.Blob) 0 (scalar (text (codes "text/plain"))) ∷ to (one_payload kind.Blob) 1 (scalar (blob (codes "hi"))) ∷ []) [] keep_all ≡ Some (record { method = codes "PUT"; target = codes "/p"; headers = ((codes "content-type", codes "text/plain") ∷ (codes "content-length", codes "2") ∷ []); body = codes "hi" })
 unfolding conformance_on_literals
 raw_payload_keeps_its_content_type = refl
 
-pub raw_payload_has_no_default_type : place json (one_payload kind.String) (to (one_payload kind.String) 1 (text (codes "hi")) ∷ []) [] keep_all ≡ Some (record { method = codes "PUT"; target = codes "/p"; headers = ((codes "content-length", codes "2") ∷ []); body = codes "hi" })
+pub raw_payload_has_no_default_type : place json (one_payload kind.String) (to (one_payload kind.String) 1 (scalar (text (codes "hi"))) ∷ []) [] keep_all ≡ Some (record { method = codes "PUT"; target = codes "/p"; headers = ((codes "content-length", codes "2") ∷ []); body = codes "hi" })
 unfolding conformance_on_literals
 raw_payload_has_no_default_type = refl
 

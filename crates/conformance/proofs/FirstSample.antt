@@ -2,7 +2,7 @@
 use Rattle.std.proofs.Common.{◌≡◌, refl, codes, true, [], ◌∷◌, Some, None, pos}
 use Rattle.std.specs.Option.{option_map as mapped}
 use Rattle.conformance.proofs.OnLiterals.{conformance_on_literals}
-use Rattle.smithy_serde.specs.Values.{writes_of, whole, integer, structure}
+use Rattle.smithy_serde.specs.Values.{scalar, writes_of, whole, integer, structure}
 use Rattle.smithy_serde.specs.DocumentOf.{doc_of}
 use Rattle.smithy_binding.specs.Placing.{place}
 use Rattle.smithy_binding.specs.Faults.{fault}
@@ -35,6 +35,6 @@ unfolding conformance_on_literals
 get_object_document = refl
 
 -- the members in index order
-pub get_object_normal_form : view get_object get_object_input ≡ bucket ∷ to get_object 1 (whole integer (pos 7)) ∷ key ∷ to get_object 3 (whole integer (pos 3)) ∷ []
+pub get_object_normal_form : view get_object get_object_input ≡ bucket ∷ to get_object 1 (scalar (whole integer (pos 7))) ∷ key ∷ to get_object 3 (scalar (whole integer (pos 3))) ∷ []
 unfolding conformance_on_literals
 get_object_normal_form = refl

@@ -5,9 +5,9 @@ use Rattle.conformance.proofs.OnLiterals.{conformance_on_literals}
 use Rattle.smithy_ids.specs.declared.traits.TimestampFormat.TheVariants.{EpochSeconds, DateTime}
 use Rattle.smithy_ids.specs.declared.shape_type.ShapeType.TheVariants as kind
 use Rattle.smithy_schema.specs.Nodes.{Schema}
-use Rattle.smithy_serde.specs.Values.{Write, whole, integer, text, blob, timestamp}
+use Rattle.smithy_serde.specs.Values.{scalar, Write, whole, integer, text, blob, timestamp}
 use Rattle.smithy_strings.specs.declared.wire.Place.TheVariants.{Header}
-use Rattle.smithy_strings.specs.Wire.{wire}
+use Rattle.smithy_strings.specs.Wire.{scalar_wire}
 use Rattle.smithy_strings.specs.Lists.{listed, codec_listed}
 use Rattle.smithy_binding.specs.Placing.{place}
 use Rattle.conformance.proofs.Making.{to, strings, string_map, json, keep_all}
@@ -33,7 +33,7 @@ pub empty_list_is_an_empty_value : headers_placed tags (to tags 0 (strings []) �
 unfolding conformance_on_literals
 empty_list_is_an_empty_value = refl
 
-pub first_write_counts : headers_placed get_object (bucket ∷ key ∷ to get_object 1 (whole integer (pos 1)) ∷ to get_object 1 (whole integer (pos 2)) ∷ []) ≡ Some ((codes "x-id", codes "1") ∷ [])
+pub first_write_counts : headers_placed get_object (bucket ∷ key ∷ to get_object 1 (scalar (whole integer (pos 1))) ∷ to get_object 1 (scalar (whole integer (pos 2))) ∷ []) ≡ Some ((codes "x-id", codes "1") ∷ [])
 unfolding conformance_on_literals
 first_write_counts = refl
 
@@ -42,38 +42,38 @@ pub later_entry_takes_the_place : headers_placed metadata (to metadata 0 (string
 unfolding conformance_on_literals
 later_entry_takes_the_place = refl
 
-pub bytes_are_base64 : headers_placed (one_header kind.Blob) (to (one_header kind.Blob) 0 (blob (codes "hi")) ∷ []) ≡ Some ((codes "x-t", codes "aGk=") ∷ [])
+pub bytes_are_base64 : headers_placed (one_header kind.Blob) (to (one_header kind.Blob) 0 (scalar (blob (codes "hi"))) ∷ []) ≡ Some ((codes "x-t", codes "aGk=") ∷ [])
 unfolding conformance_on_literals
 bytes_are_base64 = refl
 
-pub time_by_default : wire None false Header (timestamp (pos 1515523620)) ≡ Some (codes "Tue, 09 Jan 2018 18:47:00 GMT")
+pub time_by_default : scalar_wire None false Header (timestamp (pos 1515523620)) ≡ Some (codes "Tue, 09 Jan 2018 18:47:00 GMT")
 unfolding conformance_on_literals
 time_by_default = refl
 
-pub time_as_date_time : wire (Some DateTime) false Header (timestamp (pos 1515523620)) ≡ Some (codes "2018-01-09T18:47:00Z")
+pub time_as_date_time : scalar_wire (Some DateTime) false Header (timestamp (pos 1515523620)) ≡ Some (codes "2018-01-09T18:47:00Z")
 unfolding conformance_on_literals
 time_as_date_time = refl
 
-pub time_as_epoch_seconds : wire (Some EpochSeconds) false Header (timestamp (pos 1515523620)) ≡ Some (codes "1515523620")
+pub time_as_epoch_seconds : scalar_wire (Some EpochSeconds) false Header (timestamp (pos 1515523620)) ≡ Some (codes "1515523620")
 unfolding conformance_on_literals
 time_as_epoch_seconds = refl
 
-pub last_second : wire None false Header (timestamp (pos 253402300799)) ≡ Some (codes "Fri, 31 Dec 9999 23:59:59 GMT")
+pub last_second : scalar_wire None false Header (timestamp (pos 253402300799)) ≡ Some (codes "Fri, 31 Dec 9999 23:59:59 GMT")
 unfolding conformance_on_literals
 last_second = refl
 
-pub second_behind_the_last : wire None false Header (timestamp (pos 253402300800)) ≡ None
+pub second_behind_the_last : scalar_wire None false Header (timestamp (pos 253402300800)) ≡ None
 unfolding conformance_on_literals
 second_behind_the_last = refl
 
-pub first_second : wire None false Header (timestamp (neg_ℤ (pos 62135596800))) ≡ Some (codes "Mon, 01 Jan 0001 00:00:00 GMT")
+pub first_second : scalar_wire None false Header (timestamp (neg_ℤ (pos 62135596800))) ≡ Some (codes "Mon, 01 Jan 0001 00:00:00 GMT")
 unfolding conformance_on_literals
 first_second = refl
 
-pub epoch_seconds_have_every_year : wire (Some EpochSeconds) false Header (timestamp (pos 253402300800)) ≡ Some (codes "253402300800")
+pub epoch_seconds_have_every_year : scalar_wire (Some EpochSeconds) false Header (timestamp (pos 253402300800)) ≡ Some (codes "253402300800")
 unfolding conformance_on_literals
 epoch_seconds_have_every_year = refl
 
-pub media_type_is_base64 : wire None true Header (text (codes "{}")) ≡ Some (codes "e30=")
+pub media_type_is_base64 : scalar_wire None true Header (text (codes "{}")) ≡ Some (codes "e30=")
 unfolding conformance_on_literals
 media_type_is_base64 = refl

@@ -4,7 +4,7 @@ use Rattle.std.specs.Option.{option_map as mapped}
 use Rattle.conformance.proofs.OnLiterals.{conformance_on_literals}
 use Rattle.smithy_schema.specs.Nodes.{Schema}
 use Rattle.smithy_schema.specs.Templates.{has_unclosed_brace}
-use Rattle.smithy_serde.specs.Values.{Write, text}
+use Rattle.smithy_serde.specs.Values.{scalar, Write, text}
 use Rattle.smithy_strings.specs.Escapes.{escape}
 use Rattle.smithy_binding.specs.Filling.{hole_text}
 use Rattle.smithy_binding.specs.Placing.{place}
@@ -23,7 +23,7 @@ pub slashes_of_a_greedy_hole_stand : hole_text (record { name = codes "Key"; gre
 unfolding conformance_on_literals
 slashes_of_a_greedy_hole_stand = refl
 
-pub slash_of_another_hole_is_escaped : target_placed one_label (to one_label 0 (text (codes "a/b")) ∷ []) [] ≡ Some (codes "/a%2Fb")
+pub slash_of_another_hole_is_escaped : target_placed one_label (to one_label 0 (scalar (text (codes "a/b"))) ∷ []) [] ≡ Some (codes "/a%2Fb")
 unfolding conformance_on_literals
 slash_of_another_hole_is_escaped = refl
 
@@ -31,11 +31,11 @@ pub empty_endpoint_is_a_slash : target_placed nothing_in [] [] ≡ Some (codes "
 unfolding conformance_on_literals
 empty_endpoint_is_a_slash = refl
 
-pub endpoint_is_the_template : target_placed endpoint_label (to endpoint_label 0 (text (codes "b")) ∷ []) (codes "/a/{Bucket}") ≡ Some (codes "/a/b")
+pub endpoint_is_the_template : target_placed endpoint_label (to endpoint_label 0 (scalar (text (codes "b"))) ∷ []) (codes "/a/{Bucket}") ≡ Some (codes "/a/b")
 unfolding conformance_on_literals
 endpoint_is_the_template = refl
 
-pub unclosed_brace_is_literal : target_placed endpoint_label (to endpoint_label 0 (text (codes "b")) ∷ []) (codes "/a/{Bucket") ≡ Some (codes "/a/{Bucket")
+pub unclosed_brace_is_literal : target_placed endpoint_label (to endpoint_label 0 (scalar (text (codes "b"))) ∷ []) (codes "/a/{Bucket") ≡ Some (codes "/a/{Bucket")
 unfolding conformance_on_literals
 unclosed_brace_is_literal = refl
 
@@ -43,7 +43,7 @@ pub method_is_get_without_http : mapped (λ r. r.method) (place json nothing_in 
 unfolding conformance_on_literals
 method_is_get_without_http = refl
 
-pub first_label_counts : target_placed one_label (to one_label 0 (text (codes "a")) ∷ to one_label 0 (text (codes "b")) ∷ []) [] ≡ Some (codes "/a")
+pub first_label_counts : target_placed one_label (to one_label 0 (scalar (text (codes "a"))) ∷ to one_label 0 (scalar (text (codes "b"))) ∷ []) [] ≡ Some (codes "/a")
 unfolding conformance_on_literals
 first_label_counts = refl
 

@@ -7,7 +7,7 @@ use Rattle.smithy_ids.specs.declared.shape_type.ShapeType.TheVariants as kind
 use Rattle.smithy_ids.specs.declared.payload_hint.PayloadHint.{PayloadHint}
 use Rattle.smithy_ids.specs.declared.payload_hint.PayloadHint.TheVariants.{Unknown}
 use Rattle.smithy_schema.specs.Nodes.{Schema, Node, Traits, Table, no_traits, bare_node, member_at}
-use Rattle.smithy_serde.specs.Values.{Label, Value, Write, writes_of, text, list, label_of}
+use Rattle.smithy_serde.specs.Values.{Label, Value, scalar, Write, writes_of, text, list, label_of}
 use Rattle.smithy_serde.specs.Values as value
 use Rattle.smithy_binding.specs.Placing.{Protocol, Omit}
 use Rattle.smithy_document.specs.JsonText.{json_text}
@@ -85,11 +85,11 @@ named name v = record { label = record { full_name = codes "ex#In$" ++ name; mem
 
 -- a list of texts
 abbrev pub strings : List (List ℕ) → Value
-strings texts = list (writes_of (map (λ t. record { label = item_label; value = text t }) texts))
+strings texts = list (writes_of (map (λ t. record { label = item_label; value = scalar (text t) }) texts))
 
 -- a map from texts to texts
 abbrev pub string_map : List (List ℕ × List ℕ) → Value
-string_map entries = value.map (writes_of (flat_map (λ e. record { label = item_label; value = text e.0 } ∷ record { label = item_label; value = text e.1 } ∷ []) entries))
+string_map entries = value.map (writes_of (flat_map (λ e. record { label = item_label; value = scalar (text e.0) } ∷ record { label = item_label; value = scalar (text e.1) } ∷ []) entries))
 
 -- the protocol of the samples
 abbrev pub json : Protocol

@@ -4,7 +4,7 @@ use Rattle.std.specs.Option.{option_map_or}
 use Rattle.conformance.proofs.OnLiterals.{conformance_on_literals}
 use Rattle.smithy_types.specs.Documents as doc
 use Rattle.smithy_schema.specs.Nodes.{at_place, member_at}
-use Rattle.smithy_serde.specs.Values.{Value, Write, label_of, writes_of, no_writes, write, whole, integer, text, blob, null, document, list, structure}
+use Rattle.smithy_serde.specs.Values.{Value, scalar, Write, label_of, writes_of, no_writes, write, whole, integer, text, blob, null, document, list, structure}
 use Rattle.smithy_serde.specs.Shaped.{is_shaped}
 use Rattle.smithy_serde.specs.Ranges.{is_in_range}
 use Rattle.smithy_serde.specs.NormalBody.{put_entry, last_named}
@@ -12,25 +12,25 @@ use Rattle.smithy_binding.specs.NormalForm.{view, header_list}
 use Rattle.conformance.proofs.Making.{item_label, to, named, string_map}
 use Rattle.conformance.proofs.Samples.{own_content_type, nested_body, metadata, search}
 
-pub blob_of_bytes_alone : is_in_range (blob (255 ∷ 256 ∷ [])) ≡ false
+pub blob_of_bytes_alone : is_in_range (scalar (blob (255 ∷ 256 ∷ []))) ≡ false
 unfolding conformance_on_literals
 blob_of_bytes_alone = refl
 
-pub object_with_names_in_order : is_in_range (document (doc.object (doc.member (codes "a") doc.null (doc.member (codes "b") doc.null doc.no_members)))) ≡ true
+pub object_with_names_in_order : is_in_range (scalar (document (doc.object (doc.member (codes "a") doc.null (doc.member (codes "b") doc.null doc.no_members))))) ≡ true
 unfolding conformance_on_literals
 object_with_names_in_order = refl
 
-pub object_with_a_name_twice : is_in_range (document (doc.object (doc.member (codes "a") doc.null (doc.member (codes "a") doc.null doc.no_members)))) ≡ false
+pub object_with_a_name_twice : is_in_range (scalar (document (doc.object (doc.member (codes "a") doc.null (doc.member (codes "a") doc.null doc.no_members))))) ≡ false
 unfolding conformance_on_literals
 object_with_a_name_twice = refl
 
-pub list_of_one_empty_blob : header_list (list (write item_label (blob []) no_writes)) ≡ list no_writes
+pub list_of_one_empty_blob : header_list (list (write item_label (scalar (blob [])) no_writes)) ≡ list no_writes
 list_of_one_empty_blob = refl
 
-pub entry_in_place_of_another : put_entry (codes "k") null ((codes "k", text []) ∷ []) ≡ (codes "k", null) ∷ []
+pub entry_in_place_of_another : put_entry (codes "k") (scalar null) ((codes "k", scalar (text [])) ∷ []) ≡ (codes "k", scalar null) ∷ []
 entry_in_place_of_another = refl
 
-pub last_of_a_name : last_named (codes "k") ((codes "k", text []) ∷ (codes "k", null) ∷ (codes "l", text []) ∷ []) ≡ Some null
+pub last_of_a_name : last_named (codes "k") ((codes "k", scalar (text [])) ∷ (codes "k", scalar null) ∷ (codes "l", scalar (text [])) ∷ []) ≡ Some (scalar null)
 last_of_a_name = refl
 
 -- a key that is a query member's name leaves nothing
@@ -38,7 +38,7 @@ pub empty_query_map_is_dropped : view search (to search 1 (string_map ((codes "m
 unfolding conformance_on_literals
 empty_query_map_is_dropped = refl
 
-pub last_unbound_and_first_bound : view own_content_type (named (codes "name") (text (codes "a")) ∷ named (codes "T") (text (codes "x")) ∷ named (codes "T") (text (codes "y")) ∷ named (codes "name") (text (codes "b")) ∷ []) ≡ to own_content_type 0 (text (codes "x")) ∷ to own_content_type 1 (text (codes "b")) ∷ []
+pub last_unbound_and_first_bound : view own_content_type (named (codes "name") (scalar (text (codes "a"))) ∷ named (codes "T") (scalar (text (codes "x"))) ∷ named (codes "T") (scalar (text (codes "y"))) ∷ named (codes "name") (scalar (text (codes "b"))) ∷ []) ≡ to own_content_type 0 (scalar (text (codes "x"))) ∷ to own_content_type 1 (scalar (text (codes "b"))) ∷ []
 unfolding conformance_on_literals
 last_unbound_and_first_bound = refl
 
@@ -54,18 +54,18 @@ data_of ws = to nested_body 0 (structure (writes_of ws))
 abbrev own_field : ℕ → Value → Write
 own_field place v = record { label = option_map_or label_of (at_place nested_body.table place) item_label; value = v }
 
-pub last_of_each_field_in_index_order : view nested_body (data_of (named (codes "b") (whole integer (pos 1)) ∷ named (codes "a") (text []) ∷ named (codes "b") (whole integer (pos 2)) ∷ []) ∷ []) ≡ data_of (own_field 2 (text []) ∷ own_field 3 (whole integer (pos 2)) ∷ []) ∷ []
+pub last_of_each_field_in_index_order : view nested_body (data_of (named (codes "b") (scalar (whole integer (pos 1))) ∷ named (codes "a") (scalar (text [])) ∷ named (codes "b") (scalar (whole integer (pos 2))) ∷ []) ∷ []) ≡ data_of (own_field 2 (scalar (text [])) ∷ own_field 3 (scalar (whole integer (pos 2))) ∷ []) ∷ []
 unfolding conformance_on_literals
 last_of_each_field_in_index_order = refl
 
-pub fields_follow_their_nodes : is_shaped (member_at nested_body 0) (structure (writes_of (named (codes "b") (whole integer (pos 1)) ∷ named (codes "a") null ∷ []))) ≡ true
+pub fields_follow_their_nodes : is_shaped (member_at nested_body 0) (structure (writes_of (named (codes "b") (scalar (whole integer (pos 1))) ∷ named (codes "a") (scalar null) ∷ []))) ≡ true
 unfolding conformance_on_literals
 fields_follow_their_nodes = refl
 
-pub field_of_another_kind : is_shaped (member_at nested_body 0) (structure (writes_of (named (codes "b") (text []) ∷ []))) ≡ false
+pub field_of_another_kind : is_shaped (member_at nested_body 0) (structure (writes_of (named (codes "b") (scalar (text [])) ∷ []))) ≡ false
 unfolding conformance_on_literals
 field_of_another_kind = refl
 
-pub field_of_no_member : is_shaped (member_at nested_body 0) (structure (writes_of (named (codes "c") null ∷ []))) ≡ false
+pub field_of_no_member : is_shaped (member_at nested_body 0) (structure (writes_of (named (codes "c") (scalar null) ∷ []))) ≡ false
 unfolding conformance_on_literals
 field_of_no_member = refl

@@ -4,7 +4,7 @@ use Rattle.std.specs.Option.{option_map as mapped}
 use Rattle.conformance.proofs.OnLiterals.{conformance_on_literals}
 use Rattle.smithy_ids.specs.declared.shape_type.ShapeType.TheVariants as kind
 use Rattle.smithy_schema.specs.Nodes.{Schema}
-use Rattle.smithy_serde.specs.Values.{Write, text, timestamp}
+use Rattle.smithy_serde.specs.Values.{scalar, Write, text, timestamp}
 use Rattle.smithy_binding.specs.Placing.{place}
 use Rattle.conformance.proofs.Making.{to, strings, string_map, json, keep_all}
 use Rattle.conformance.proofs.Samples.{search, tagged, one_query}
@@ -18,7 +18,7 @@ pub query_member_wins_unwritten : target_placed search (to search 1 (string_map 
 unfolding conformance_on_literals
 query_member_wins_unwritten = refl
 
-pub pairs_stand_in_the_order_of_the_writes : target_placed search (to search 1 (string_map ((codes "b", codes "1") ∷ (codes "a", codes "2") ∷ [])) ∷ to search 0 (text (codes "3")) ∷ []) [] ≡ Some (codes "/q?b=1&a=2&max=3")
+pub pairs_stand_in_the_order_of_the_writes : target_placed search (to search 1 (string_map ((codes "b", codes "1") ∷ (codes "a", codes "2") ∷ [])) ∷ to search 0 (scalar (text (codes "3"))) ∷ []) [] ≡ Some (codes "/q?b=1&a=2&max=3")
 unfolding conformance_on_literals
 pairs_stand_in_the_order_of_the_writes = refl
 
@@ -27,7 +27,7 @@ pub list_gives_a_pair_for_each : target_placed tagged (to tagged 0 (strings (cod
 unfolding conformance_on_literals
 list_gives_a_pair_for_each = refl
 
-pub time_by_default : target_placed (one_query kind.Timestamp) (to (one_query kind.Timestamp) 0 (timestamp (pos 1515523620)) ∷ []) [] ≡ Some (codes "/q?when=2018-01-09T18%3A47%3A00Z")
+pub time_by_default : target_placed (one_query kind.Timestamp) (to (one_query kind.Timestamp) 0 (scalar (timestamp (pos 1515523620))) ∷ []) [] ≡ Some (codes "/q?when=2018-01-09T18%3A47%3A00Z")
 unfolding conformance_on_literals
 time_by_default = refl
 

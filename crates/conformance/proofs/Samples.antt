@@ -5,7 +5,7 @@ use Rattle.smithy_ids.specs.declared.shape_type.ShapeType.{ShapeType}
 use Rattle.smithy_ids.specs.declared.shape_type.ShapeType.TheVariants as kind
 use Rattle.smithy_ids.specs.declared.payload_hint.PayloadHint.TheVariants.{NoStructPayload}
 use Rattle.smithy_schema.specs.Nodes.{no_traits, Schema}
-use Rattle.smithy_serde.specs.Values.{Write, text, blob, whole, integer, long, timestamp}
+use Rattle.smithy_serde.specs.Values.{scalar, Write, text, blob, whole, integer, long, timestamp}
 use Rattle.conformance.proofs.Making.{label, payload, query_map, response_code, query, header, prefix_map, with_http, member, with_element, with_entries, with_target, string_node, structure_node, structure_of, flagged, to, string_map}
 
 -- the first sample job: labels, one of them greedy, a header and a query member
@@ -18,14 +18,14 @@ get_object = flagged NoStructPayload (structure_of (with_http (codes "GET") (cod
     ∷ []))
 
 abbrev pub bucket : Write
-bucket = to get_object 0 (text (codes "b"))
+bucket = to get_object 0 (scalar (text (codes "b")))
 
 abbrev pub key : Write
-key = to get_object 2 (text (codes "x/y z"))
+key = to get_object 2 (scalar (text (codes "x/y z")))
 
 -- its input, in the order of the job
 abbrev pub get_object_input : List Write
-get_object_input = bucket ∷ key ∷ to get_object 3 (whole integer (pos 3)) ∷ to get_object 1 (whole integer (pos 7)) ∷ []
+get_object_input = bucket ∷ key ∷ to get_object 3 (scalar (whole integer (pos 3))) ∷ to get_object 1 (scalar (whole integer (pos 7))) ∷ []
 
 -- the second sample job: many headers, a prefix map, a raw payload and a literal query
 abbrev pub put_object : Schema
@@ -53,15 +53,15 @@ put_object = flagged NoStructPayload (structure_of (with_http (codes "PUT") (cod
 -- its input, in byte order of the names
 abbrev pub put_object_input : List Write
 put_object_input =
-    to put_object 0 (blob (codes "hello"))
-    ∷ to put_object 1 (text (codes "box"))
-    ∷ to put_object 2 (text (codes "no-cache"))
-    ∷ to put_object 6 (whole long (pos 5))
-    ∷ to put_object 8 (text (codes "text/plain"))
-    ∷ to put_object 10 (timestamp (pos 1515523620))
-    ∷ to put_object 11 (text (codes "a b/c.txt"))
+    to put_object 0 (scalar (blob (codes "hello")))
+    ∷ to put_object 1 (scalar (text (codes "box")))
+    ∷ to put_object 2 (scalar (text (codes "no-cache")))
+    ∷ to put_object 6 (scalar (whole long (pos 5)))
+    ∷ to put_object 8 (scalar (text (codes "text/plain")))
+    ∷ to put_object 10 (scalar (timestamp (pos 1515523620)))
+    ∷ to put_object 11 (scalar (text (codes "a b/c.txt")))
     ∷ to put_object 12 (string_map ((codes "Team", codes "blue") ∷ (codes "owner", codes "ann") ∷ []))
-    ∷ to put_object 14 (text (codes "STANDARD_IA"))
+    ∷ to put_object 14 (scalar (text (codes "STANDARD_IA")))
     ∷ []
 
 -- an unbound text

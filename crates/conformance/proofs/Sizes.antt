@@ -3,21 +3,21 @@ use Rattle.std.proofs.Common.{◌≡◌, refl, codes, true, false, [], ◌∷◌
 use Rattle.std.specs.Option.{option_map as mapped}
 use Rattle.conformance.proofs.OnLiterals.{conformance_on_literals}
 use Rattle.smithy_types.specs.Grammars.{is_short_target}
-use Rattle.smithy_serde.specs.Values.{text}
+use Rattle.smithy_serde.specs.Values.{scalar, text}
 use Rattle.smithy_binding.specs.Placing.{place}
 use Rattle.smithy_binding.specs.Faults.{fault, fault_line}
 use Rattle.conformance.proofs.Making.{to, json, keep_all}
 use Rattle.conformance.proofs.Samples.{one_label}
 
-pub longest_label_has_no_fault : fault one_label (to one_label 0 (text (replicate 65533 97)) ∷ []) [] ≡ None
+pub longest_label_has_no_fault : fault one_label (to one_label 0 (scalar (text (replicate 65533 97))) ∷ []) [] ≡ None
 unfolding conformance_on_literals
 longest_label_has_no_fault = refl
 
-pub longest_target : mapped (λ r. length r.target) (place json one_label (to one_label 0 (text (replicate 65533 97)) ∷ []) [] keep_all) ≡ Some 65534
+pub longest_target : mapped (λ r. length r.target) (place json one_label (to one_label 0 (scalar (text (replicate 65533 97))) ∷ []) [] keep_all) ≡ Some 65534
 unfolding conformance_on_literals
 longest_target = refl
 
-pub one_byte_more : mapped fault_line (fault one_label (to one_label 0 (text (replicate 65534 97)) ∷ []) []) ≡ Some (codes "Custom: invalid endpoint URI: longer than 65534 bytes")
+pub one_byte_more : mapped fault_line (fault one_label (to one_label 0 (scalar (text (replicate 65534 97))) ∷ []) []) ≡ Some (codes "Custom: invalid endpoint URI: longer than 65534 bytes")
 unfolding conformance_on_literals
 one_byte_more = refl
 

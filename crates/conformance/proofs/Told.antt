@@ -1,14 +1,16 @@
 -- States of a serializer.
 use Rattle.std.proofs.Common.{◌≡◌, refl, ap, codes, [], ◌∷◌, ◌++◌}
-use Rattle.smithy_serde.specs.Values.{Label, Writes, no_writes, write, list_of, text}
-use Rattle.smithy_serde.specs.Told.{Group, list_group, grouped, appended, State, empty_state, told, all_written, written, begun, ended}
+use Rattle.smithy_serde.specs.Values.{scalar, Label, Writes, no_writes, write, list_of, text}
+use Rattle.smithy_serde.specs.declared.scalar.Group.{Group}
+use Rattle.smithy_serde.specs.declared.scalar.Group.TheVariants as group
+use Rattle.smithy_serde.specs.Told.{grouped, appended, State, empty_state, told, all_written, written, begun, ended}
 use Rattle.conformance.proofs.Making.{item_label, strings}
 
 -- a group that is opened, written and ended is one write
 pub ended-all_written : (l : Label) (g : Group) (ws : Writes) (s : State) → ended (all_written ws (begun l g s)) ≡ written l (grouped g ws) s
 ended-all_written l g ws s = refl
 
-pub two_texts : told (ended (written item_label (text (codes "b")) (written item_label (text (codes "a")) (begun item_label list_group empty_state)))) ≡ record { label = item_label; value = strings (codes "a" ∷ codes "b" ∷ []) } ∷ []
+pub two_texts : told (ended (written item_label (scalar (text (codes "b"))) (written item_label (scalar (text (codes "a"))) (begun item_label group.List empty_state)))) ≡ record { label = item_label; value = strings (codes "a" ∷ codes "b" ∷ []) } ∷ []
 two_texts = refl
 
 pub appended-no_writes : (ws : Writes) → appended ws no_writes ≡ ws

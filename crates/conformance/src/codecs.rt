@@ -1,33 +1,141 @@
-// Texts of stored values, by the codec of JSON.
+// What codecs write: texts of stored values by the codec of JSON, and requests whose bodies a second codec writes.
+ghost use Rattle.std.specs.Prelude.{IfOk, OnOk};
+ghost use Rattle.smithy_schema.specs.Nodes.{Table};
+ghost use Rattle.smithy_serde.specs.StoredValues.{AreDefined, IsDefined};
+
+use crate::spaced_json::{SpacedJson, spaced_is_lawful};
+use smithy_bind::{Status, run_request};
+use smithy_binding::{HttpBindingProtocol, checked_input};
 use smithy_document::{JsonCodec, json_is_lawful};
-use smithy_ids::ShapeType;
-use smithy_schema::{SchemaRef, Schemas};
-use smithy_serde::{Codec, ShapeValue, WriteList, struct_text, value_text};
+use smithy_ids::{HttpTrait, ShapeId, ShapeType};
+use smithy_io::{SureSink, SureSource};
+use smithy_schema::{Schema, SchemaIndex, SchemaRef, Schemas};
+use smithy_serde::{Codec, OmitFlags, ShapeValue, StructValue, WriteList, value_text};
+use smithy_types::{Blob, Text};
+use std::alloc::Global;
+use std::process::Abort;
+use std::test::Fail;
 
 #[test]
 #[tactic(auto, unfolding(smithy_serde::specs::StoredValues::IsDefined))]
-fn a_null_is_a_word(rt: HostRuntime) {
+fn a_value_has_its_text(rt: HostRuntime) {
+    let table = Schemas::new(rt.alloc());
+    let node = SchemaRef::prelude(ShapeType::Document);
     let codec = JsonCodec;
     json_is_lawful(&codec);
     let serializer = codec
         .create_serializer(rt.alloc())
         .expect(&rt, "no serializer");
-    let table = Schemas::new(rt.alloc());
-    let node = SchemaRef::prelude(ShapeType::Document);
     let text = value_text(serializer, node, &table, &ShapeValue::Null).expect(&rt, "no text");
     assert_eq!(rt; text.as_slice(), b"null".as_slice());
 }
 
+const JOB: &str =
+    r#"{"model":{"shapes":{"ex#Put":{"type":"operation","input":{"target":"ex#PutIn"},"traits":{"smithy.api#http":{"method":"POST","uri":"/t","code":200}}},"ex#PutIn":{"type":"structure","members":{"name":{"target":"smithy.api#String"}}}}},"operation":"ex#Put","input":[["name","a"]]}"#;
+
+const REQUEST: &str =
+    "POST /t\ncontent-type: application/json\ncontent-length: 13\n\n{\"name\":\"a\"}\n";
+
 #[test]
-fn no_members_are_an_empty_object(rt: HostRuntime) {
-    let codec = JsonCodec;
-    json_is_lawful(&codec);
-    let serializer = codec
-        .create_serializer(rt.alloc())
-        .expect(&rt, "no serializer");
-    let table = Schemas::new(rt.alloc());
-    let node = SchemaRef::prelude(ShapeType::Document);
-    let members = WriteList::new(rt.alloc());
-    let text = struct_text(serializer, node, &table, &members).expect(&rt, "no text");
-    assert_eq!(rt; text.as_slice(), b"{}".as_slice());
+fn a_job_has_the_codecs_body(rt: HostRuntime) -> Result<(), Fail> {
+    let alloc = rt.alloc();
+    let mut source = SureSource::new(Blob::new(alloc, JOB.as_bytes())?);
+    let mut sink = SureSink::new(alloc, 100)?;
+    let codec = SpacedJson;
+    spaced_is_lawful(&codec);
+    let status = run_request(alloc, codec, &mut source, &mut sink);
+    assert_eq!(rt; status, Status::Done);
+    assert_eq!(rt; sink.written(), REQUEST.as_bytes());
+    Ok(())
+}
+
+fn shape() -> ShapeId<'static> {
+    ShapeId::from_parts("ex#In", "ex", "In")
+}
+
+fn inserted(rt: &impl Abort, table: &mut Schemas, schema: Schema<'_>) -> SchemaIndex {
+    table.insert(schema).expect(rt, "no place")
+}
+
+// Adds a write to a node of the table.
+fn add(
+    rt: &impl Abort,
+    table: &Schemas,
+    writes: &mut WriteList,
+    node: SchemaIndex,
+    value: ShapeValue,
+)
+    requires writes { AreDefined table.now writes.old }
+    requires value { IsDefined table.now value }
+    ensures { AreDefined table.now writes.new }
+{
+    let node_there = table.get(node).is_some();
+    assert!(rt; node_there);
+    writes.push(node, value).expect(rt, "no memory");
+}
+
+// A payload with the field `name`, where it is written at all.
+#[tactic(auto, unfolding(smithy_serde::specs::StoredValues::IsDefined))]
+fn writes_of(
+    rt: &impl Abort,
+    alloc: Global,
+    table: &Schemas,
+    payload: SchemaIndex,
+    name: SchemaIndex,
+    is_written: bool,
+) -> WriteList
+    ensures { AreDefined table.now result }
+{
+    let mut writes = WriteList::new(alloc);
+    if is_written {
+        let mut fields = WriteList::new(alloc);
+        let text = Text::from_str(alloc, "a").expect(rt, "no memory");
+        add(rt, table, &mut fields, name, ShapeValue::String(text));
+        add(rt, table, &mut writes, payload, ShapeValue::Struct(fields));
+    }
+    writes
+}
+
+#[test]
+fn a_payload_is_the_codecs_text(rt: HostRuntime) {
+    let alloc = rt.alloc();
+    let mut table = Schemas::new(alloc);
+    let payload = Schema::new_member(shape(), ShapeType::Structure, "Body", 0).with_http_payload();
+    let payload = inserted(&rt, &mut table, payload);
+    let name = Schema::new_member(shape(), ShapeType::String, "name", 0);
+    let name = inserted(&rt, &mut table, name);
+    let members = [payload];
+    let input = Schema::new_struct(shape(), ShapeType::Structure, &members);
+    let input = input.with_http(HttpTrait::new("PUT", "/p", None));
+    let place = inserted(&rt, &mut table, input);
+    let schema = table.get(place).expect(&rt, "no node");
+    let is_checked = checked_input(alloc, schema).expect(&rt, "no memory");
+    assert!(rt; is_checked);
+    let id = ShapeId::from_parts("test#spaced", "test", "spaced");
+    let protocol = HttpBindingProtocol::new(id, SpacedJson, "application/json");
+    spaced_is_lawful(protocol.codec());
+    let leave = OmitFlags {
+        content_type: true,
+        content_length: true,
+    };
+    let text = "{\"name\":\"a\"}\n";
+    let rows = [
+        (true, OmitFlags::KEEP_ALL, Some("13"), text),
+        (true, leave, None, text),
+        (false, OmitFlags::KEEP_ALL, Some("0"), ""),
+    ];
+    for (is_written, omit, length, text) in rows {
+        let writes = writes_of(&rt, alloc, &table, payload, name, is_written);
+        let input = StructValue::with_writes(&table, place, writes);
+        let body = protocol
+            .codec()
+            .create_serializer(alloc)
+            .expect(&rt, "no serializer");
+        let request = protocol
+            .serialize_request_with_body(alloc, body, &input, schema, "", omit)
+            .expect(&rt, "no request");
+        assert_eq!(rt; request.uri(), "/p");
+        assert_eq!(rt; request.headers().get("content-length"), length);
+        assert_eq!(rt; request.body().as_slice(), text.as_bytes());
+    }
 }

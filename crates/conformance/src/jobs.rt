@@ -1,20 +1,127 @@
 // Jobs, from bytes to bytes: runs over sources and sinks in memory.
-use smithy_bind::{HELP, Status, VERSION, run, run_in_memory};
-use smithy_types::{
-    Blob, Longs, MemorySink, MemorySource, OutOfMemory, SureSink, SureSource, Words,
-};
+use smithy_bind::laws::run_in_memory;
+use smithy_bind::{Status, run};
+use smithy_io::{MemorySink, MemorySource, Source, SureSink, SureSource};
+use smithy_types::{Blob, Longs, OutOfMemory, Words};
 use std::alloc::Global;
 use std::process::Abort;
 use std::test::Fail;
 
-const OPERATION: &str =
+// A job of the operation `ex#Get` and its input `ex#GetIn`, as the two shapes and what is asked; how a run of `request` with it
+// ends, and what it writes.
+type Row = (
+    &'static str,
+    &'static str,
+    &'static str,
+    Status,
+    &'static str,
+);
+
+const GET: &str =
     r#"{"type":"operation","input":{"target":"ex#GetIn"},"traits":{"smithy.api#http":{"method":"GET","uri":"/{Bucket}/{Key+}","code":200}}}"#;
 
-const INPUT: &str =
+const GET_IN: &str =
     r#"{"type":"structure","members":{"Bucket":{"target":"smithy.api#String","traits":{"smithy.api#httpLabel":{}}},"Key":{"target":"smithy.api#String","traits":{"smithy.api#httpLabel":{}}},"Max":{"target":"smithy.api#Integer","traits":{"smithy.api#httpQuery":"max"}},"Id":{"target":"smithy.api#Integer","traits":{"smithy.api#httpHeader":"X-Id"}}}}"#;
 
 const ASKED: &str =
     r#""operation":"ex#Get","input":[["Bucket","b"],["Key","x/y z"],["Max",3],["Id",7]]"#;
+
+const REQUEST: &str = "GET /b/x/y%20z?max=3\nx-id: 7\n\n";
+
+const POST: &str =
+    r#"{"type":"operation","input":{"target":"ex#GetIn"},"traits":{"smithy.api#http":{"method":"POST","uri":"/t"}}}"#;
+
+const NAMED: &str = r#""operation":"ex#Get","input":[["name","a"]]"#;
+
+const BODY: &str =
+    "POST /t\ncontent-type: application/json\ncontent-length: 12\n\n{\"name\":\"a\"}";
+
+const ROOT: &str =
+    r#"{"type":"operation","input":{"target":"ex#GetIn"},"traits":{"smithy.api#http":{"method":"GET","uri":"/"}}}"#;
+
+const NOTHING: &str = r#""operation":"ex#Get","input":[]"#;
+
+const PLACED: [Row; 8] = [
+    (GET, GET_IN, ASKED, Status::Done, REQUEST),
+    (
+        GET,
+        GET_IN,
+        r#""operation":"ex#Get","input":[["Bucket",""],["Key","x/y z"],["Max",3],["Id",7]]"#,
+        Status::Fault,
+        "InvalidInput: invalid input: Bucket was missing: cannot be empty or unset\n",
+    ),
+    // The first write of a bound member counts.
+    (
+        GET,
+        GET_IN,
+        r#""operation":"ex#Get","input":[["Bucket","b"],["Key","x/y z"],["Max",3],["Id",1],["Id",2]]"#,
+        Status::Done,
+        "GET /b/x/y%20z?max=3\nx-id: 1\n\n",
+    ),
+    // The last value of a key counts, and other keys are passed over.
+    (
+        GET,
+        GET_IN,
+        r#""operation":"ex#None","operation":"ex#Get","input":[["Bucket","b"],["Key","k"]],"more":1.5"#,
+        Status::Done,
+        "GET /b/k\n\n",
+    ),
+    (
+        POST,
+        r#"{"type":"structure","members":{"name":{"target":"smithy.api#String"}}}"#,
+        NAMED,
+        Status::Done,
+        BODY,
+    ),
+    (
+        POST,
+        r#"{"type":"structure","members":{"name":{"target":"smithy.api#String","traits":{}}}}"#,
+        NAMED,
+        Status::Done,
+        BODY,
+    ),
+    (
+        POST,
+        r#"{"type":"structure","members":{"name":{"target":"smithy.api#Integer"}}}"#,
+        r#""operation":"ex#Get","input":[["name",-2147483648]]"#,
+        Status::Done,
+        "POST /t\ncontent-type: application/json\ncontent-length: 20\n\n{\"name\":-2147483648}",
+    ),
+    (
+        r#"{"type":"operation","input":{"target":"smithy.api#Unit"},"traits":{"smithy.api#http":{"method":"GET","uri":"/"}}}"#,
+        "5",
+        NOTHING,
+        Status::Done,
+        "GET /\n\n",
+    ),
+];
+
+// What is asked of `GET` in a form that no job has.
+const ASKED_WRONGLY: [&str; 10] = [
+    r#""operation":"ex#Get""#,
+    r#""operation":"ex#None","input":[]"#,
+    r#""operation":"ex#GetIn","input":[]"#,
+    r#""operation":"ex#Get","input":{}"#,
+    r#""operation":"ex#Get","input":[["Id",1.0]]"#,
+    r#""operation":"ex#Get","input":[["Id",2147483648]]"#,
+    r#""operation":"ex#Get","input":[["Id","7"]]"#,
+    r#""operation":"ex#Get","input":[["Id",7,7]]"#,
+    r#""operation":"ex#Get","input":[["Zed",7]]"#,
+    r#""operation":"ex#Get","input":[],"endpoint":null"#,
+];
+
+// Inputs that no job has.
+const WRONG_INPUTS: [&str; 5] = [
+    r#"{"type":"structure"}"#,
+    r#"{"type":"structure","members":{"Name":{"target":"ex#None"}}}"#,
+    r#"{"type":"structure","members":{"Name":{"target":"smithy.api#String","traits":null}}}"#,
+    r#"{"type":"structure","members":{"Id":{"target":"smithy.api#Integer","traits":{"smithy.api#httpHeader":5}}}}"#,
+    r#"{"type":"structure","members":{},"traits":{"internal":{}}}"#,
+];
+
+// An operation that no job has.
+const WRONG_CODE: &str =
+    r#"{"type":"operation","input":{"target":"ex#GetIn"},"traits":{"smithy.api#http":{"method":"GET","uri":"/","code":65536}}}"#;
 
 // What a run ends with, and what it wrote.
 #[derive(Drop)]
@@ -23,7 +130,6 @@ struct Ran {
     written: Vec<u8>,
 }
 
-// A job of an operation `ex#Get`, its input `ex#GetIn`, and what is asked.
 fn job_of(alloc: Global, operation: &str, input: &str, asked: &str) -> Result<String, OutOfMemory> {
     Ok(format!(in alloc;
         "{{\"model\":{{\"shapes\":{{\"ex#Get\":{operation},\"ex#GetIn\":{input}}}}},{asked}}}"
@@ -42,7 +148,7 @@ fn run_of(alloc: Global, texts: &[&str], bytes: &[u8]) -> Result<Ran, OutOfMemor
     let words = words_of(alloc, texts)?;
     let mut source = SureSource::new(Blob::new(alloc, bytes)?);
     let mut sink = SureSink::new(alloc, 70_000)?;
-    let status = run(alloc, &words, &mut source, &mut sink);
+    let status = run_in_memory(alloc, &words, &mut source, &mut sink);
     let written = Vec::from_slice(alloc, sink.written())?;
     Ok(Ran { status, written })
 }
@@ -51,195 +157,125 @@ fn run_of(alloc: Global, texts: &[&str], bytes: &[u8]) -> Result<Ran, OutOfMemor
 fn answers(
     rt: &impl Abort,
     alloc: Global,
-    job: &[u8],
+    job: &str,
     status: Status,
     text: &str,
 ) -> Result<(), OutOfMemory> {
-    let found = run_of(alloc, &["request"], job)?;
-    assert_eq!(rt; found.status, status);
-    assert_eq!(rt; found.written.as_slice(), text.as_bytes());
-    Ok(())
-}
-
-#[test]
-fn places_the_first_sample(rt: HostRuntime) -> Result<(), Fail> {
-    let alloc = rt.alloc();
-    let job = job_of(alloc, OPERATION, INPUT, ASKED)?;
-    let text = "GET /b/x/y%20z?max=3\nx-id: 7\n\n";
-    answers(&rt, alloc, job.as_bytes(), Status::Done, text)?;
-    Ok(())
-}
-
-// What is asked of an operation `POST /t` whose input has the member `name`, of these traits.
-fn posts(alloc: Global, traits: &str) -> Result<String, OutOfMemory> {
-    let operation =
-        r#"{"type":"operation","input":{"target":"ex#GetIn"},"traits":{"smithy.api#http":{"method":"POST","uri":"/t"}}}"#;
-    let input = format!(in alloc;
-        r#"{{"type":"structure","members":{{"name":{{"target":"smithy.api#String"{traits}}}}}}}"#
-    )?;
-    let asked = r#""operation":"ex#Get","input":[["name","a"]]"#;
-    job_of(alloc, operation, input.as_str(), asked)
-}
-
-#[test]
-fn places_a_body(rt: HostRuntime) -> Result<(), Fail> {
-    let alloc = rt.alloc();
-    let text = "POST /t\ncontent-type: application/json\ncontent-length: 12\n\n{\"name\":\"a\"}";
-    answers(&rt, alloc, posts(alloc, "")?.as_bytes(), Status::Done, text)?;
-    let none = posts(alloc, r#","traits":{}"#)?;
-    answers(&rt, alloc, none.as_bytes(), Status::Done, text)?;
-    let null = posts(alloc, r#","traits":null"#)?;
-    answers(&rt, alloc, null.as_bytes(), Status::Job, "")?;
-    Ok(())
-}
-
-#[test]
-fn answers_words(rt: HostRuntime) -> Result<(), Fail> {
-    let alloc = rt.alloc();
-    for words in [
-        &[] as &[&str],
-        &["request", "x"],
-        &["generate", "100001"],
-        &["Request"],
-    ] {
-        assert_eq!(rt; run_of(alloc, words, b"")?.status, Status::Usage);
-    }
-    let help = run_of(alloc, &["--help"], b"")?;
-    assert_eq!(rt; help.status, Status::Done);
-    assert_eq!(rt; help.written.as_slice(), HELP.as_bytes());
-    let version = run_of(alloc, &["--version"], b"")?;
-    assert_eq!(rt; version.written.as_slice(), VERSION.as_bytes());
-    Ok(())
-}
-
-#[test]
-fn runs_in_memory(rt: HostRuntime) {
-    let words = Words::new(rt.alloc());
-    let mut source = SureSource::new(Blob::new(rt.alloc(), b"").expect(&rt, "no memory"));
-    let mut sink = SureSink::new(rt.alloc(), 4096).expect(&rt, "no memory");
-    let status = run_in_memory(rt.alloc(), &words, &mut source, &mut sink);
-    assert_eq!(rt; status, Status::Usage);
-}
-
-// Each row has an operation, an input, what is asked, and the end.
-// A run of `request` with a job of these parts ends so.
-fn ends(
-    rt: &impl Abort,
-    alloc: Global,
-    operation: &str,
-    input: &str,
-    asked: &str,
-    status: Status,
-) -> Result<(), OutOfMemory> {
-    let job = job_of(alloc, operation, input, asked)?;
     let found = run_of(alloc, &["request"], job.as_bytes())?;
-    assert_eq!(rt; found.status, status, "{operation} {input} {asked}");
+    assert_eq!(rt; found.status, status, "{job}");
+    assert_eq!(rt; found.written.as_slice(), text.as_bytes(), "{job}");
     Ok(())
 }
 
 #[test]
-fn reads_what_is_asked_by_its_form(rt: HostRuntime) -> Result<(), Fail> {
-    let rows = [
-        r#""operation":"ex#Get""#,
-        r#""operation":"ex#None","input":[]"#,
-        r#""operation":"ex#GetIn","input":[]"#,
-        r#""operation":"ex#Get","input":{}"#,
-        r#""operation":"ex#Get","input":[["Id",1.0]]"#,
-        r#""operation":"ex#Get","input":[["Id",2147483648]]"#,
-        r#""operation":"ex#Get","input":[["Id","7"]]"#,
-        r#""operation":"ex#Get","input":[["Id",7,7]]"#,
-        r#""operation":"ex#Get","input":[["Zed",7]]"#,
-        r#""operation":"ex#Get","input":[],"endpoint":null"#,
-    ];
-    for asked in rows {
-        ends(&rt, rt.alloc(), OPERATION, INPUT, asked, Status::Job)?;
-    }
-    let asked =
-        r#""operation":"ex#None","operation":"ex#Get","input":[["Bucket","b"],["Key","k"]],"more":1.5"#;
-    ends(&rt, rt.alloc(), OPERATION, INPUT, asked, Status::Done)?;
-    Ok(())
-}
-
-const ROOT: &str =
-    r#"{"type":"operation","input":{"target":"ex#GetIn"},"traits":{"smithy.api#http":{"method":"GET","uri":"/"}}}"#;
-
-const NOTHING_ASKED: &str = r#""operation":"ex#Get","input":[]"#;
-
-#[test]
-fn reads_inputs_by_their_form(rt: HostRuntime) -> Result<(), Fail> {
-    let rows = [
-        r#"{"type":"structure"}"#,
-        r#"{"type":"structure","members":{"Name":{"target":"ex#None"}}}"#,
-        r#"{"type":"structure","members":{"Id":{"target":"smithy.api#Integer","traits":{"smithy.api#httpHeader":5}}}}"#,
-        r#"{"type":"structure","members":{},"traits":{"internal":{}}}"#,
-    ];
-    for input in rows {
-        ends(&rt, rt.alloc(), ROOT, input, NOTHING_ASKED, Status::Job)?;
+fn places_jobs(rt: HostRuntime) -> Result<(), Fail> {
+    let alloc = rt.alloc();
+    for (operation, input, asked, status, text) in PLACED {
+        let job = job_of(alloc, operation, input, asked)?;
+        answers(&rt, alloc, job.as_str(), status, text)?;
     }
     Ok(())
 }
 
 #[test]
-fn reads_operations_by_their_form(rt: HostRuntime) -> Result<(), Fail> {
-    let code =
-        r#"{"type":"operation","input":{"target":"ex#GetIn"},"traits":{"smithy.api#http":{"method":"GET","uri":"/","code":65536}}}"#;
-    let empty = r#"{"type":"structure","members":{}}"#;
-    ends(&rt, rt.alloc(), code, empty, NOTHING_ASKED, Status::Job)?;
-    let unit =
-        r#"{"type":"operation","input":{"target":"smithy.api#Unit"},"traits":{"smithy.api#http":{"method":"GET","uri":"/"}}}"#;
-    ends(&rt, rt.alloc(), unit, "5", NOTHING_ASKED, Status::Done)?;
+fn refuses_what_is_no_job(rt: HostRuntime) -> Result<(), Fail> {
+    let alloc = rt.alloc();
+    for asked in ASKED_WRONGLY {
+        let job = job_of(alloc, GET, GET_IN, asked)?;
+        answers(&rt, alloc, job.as_str(), Status::Job, "")?;
+    }
+    for input in WRONG_INPUTS {
+        let job = job_of(alloc, ROOT, input, NOTHING)?;
+        answers(&rt, alloc, job.as_str(), Status::Job, "")?;
+    }
+    let input = r#"{"type":"structure","members":{}}"#;
+    let job = job_of(alloc, WRONG_CODE, input, NOTHING)?;
+    answers(&rt, alloc, job.as_str(), Status::Job, "")?;
     Ok(())
 }
 
 #[test]
 fn refuses_damaged_bytes(rt: HostRuntime) -> Result<(), Fail> {
     let alloc = rt.alloc();
-    let whole = job_of(alloc, OPERATION, INPUT, ASKED)?;
+    let whole = job_of(alloc, GET, GET_IN, ASKED)?;
     let cut = whole.len().saturating_sub(60);
     let rows = [
-        Vec::from_slice(alloc, b"")?,
-        Vec::from_slice(alloc, whole.as_bytes().get(..cut).unwrap_or(b""))?,
-        [b"\xEF\xBB\xBF", whole.as_bytes()].concat(alloc)?,
-        [whole.as_bytes(), b" x"].concat(alloc)?,
-        Vec::from_slice(alloc, b"{\"a\":\"\xFF\"}")?,
+        (Vec::from_slice(alloc, b"")?, Status::Job),
+        (
+            Vec::from_slice(alloc, whole.as_bytes().get(..cut).unwrap_or(b""))?,
+            Status::Job,
+        ),
+        (
+            [b"\xEF\xBB\xBF", whole.as_bytes()].concat(alloc)?,
+            Status::Job,
+        ),
+        ([whole.as_bytes(), b" x"].concat(alloc)?, Status::Job),
+        (Vec::from_slice(alloc, b"{\"a\":\"\xFF\"}")?, Status::Job),
+        // The most bytes that are read whole, and one more.
+        (vec![in alloc; b' '; 16_777_216]?, Status::Job),
+        (vec![in alloc; b' '; 16_777_217]?, Status::TooLong),
     ];
-    for bytes in &rows {
-        answers(&rt, alloc, bytes.as_slice(), Status::Job, "")?;
+    for (bytes, status) in &rows {
+        let found = run_of(alloc, &["request"], bytes.as_slice())?;
+        assert_eq!(rt; found.status, *status, "{} bytes", bytes.len());
+        assert!(rt; found.written.is_empty());
     }
     Ok(())
 }
 
+// A target of 65,534 bytes, and one that is longer.
 #[test]
-fn tells_faults(rt: HostRuntime) -> Result<(), Fail> {
+fn measures_the_target(rt: HostRuntime) -> Result<(), Fail> {
     let alloc = rt.alloc();
-    let empty = r#""operation":"ex#Get","input":[["Bucket",""],["Key","k"]]"#;
-    let job = job_of(alloc, OPERATION, INPUT, empty)?;
-    let line = "InvalidInput: invalid input: Bucket was missing: cannot be empty or unset\n";
-    answers(&rt, alloc, job.as_bytes(), Status::Fault, line)?;
-    let twice = r#""operation":"ex#Get","input":[["Bucket","b"],["Key","k"],["Id",1],["Id",2]]"#;
-    let job = job_of(alloc, OPERATION, INPUT, twice)?;
-    answers(
-        &rt,
-        alloc,
-        job.as_bytes(),
-        Status::Done,
-        "GET /b/k\nx-id: 1\n\n",
-    )?;
+    let operation =
+        r#"{"type":"operation","input":{"target":"ex#GetIn"},"traits":{"smithy.api#http":{"method":"GET","uri":"/{K}"}}}"#;
+    let input =
+        r#"{"type":"structure","members":{"K":{"target":"smithy.api#String","traits":{"smithy.api#httpLabel":{}}}}}"#;
+    let longest = "a".repeat(alloc, 65_533)?;
+    let asked = format!(in alloc; "\"operation\":\"ex#Get\",\"input\":[[\"K\",\"{longest}\"]]")?;
+    let job = job_of(alloc, operation, input, asked.as_str())?;
+    let text = format!(in alloc; "GET /{longest}\n\n")?;
+    answers(&rt, alloc, job.as_str(), Status::Done, text.as_str())?;
+    let asked = format!(in alloc; "\"operation\":\"ex#Get\",\"input\":[[\"K\",\"a{longest}\"]]")?;
+    let job = job_of(alloc, operation, input, asked.as_str())?;
+    let line = "Custom: invalid endpoint URI: longer than 65534 bytes\n";
+    answers(&rt, alloc, job.as_str(), Status::Fault, line)?;
     Ok(())
 }
 
 #[test]
-fn stops_past_the_most_bytes(rt: HostRuntime) -> Result<(), Fail> {
+fn answers_words(rt: HostRuntime) -> Result<(), Fail> {
     let alloc = rt.alloc();
-    let spaces = vec![in alloc; b' '; 16_777_217]?;
-    answers(&rt, alloc, spaces.as_slice(), Status::TooLong, "")?;
+    let usage = Status::Usage;
+    let rows = [
+        (&[] as &[&str], usage, ""),
+        (&["request", "x"], usage, ""),
+        (&["generate", "100001"], usage, ""),
+        (&["Request"], usage, ""),
+        (&["--version"], Status::Done, "smithy_bind 0.1.0\n"),
+    ];
+    for (texts, status, text) in rows {
+        let words = words_of(alloc, texts)?;
+        let mut source = SureSource::new(Blob::new(alloc, b"{")?);
+        let mut sink = SureSink::new(alloc, 100)?;
+        let ended = run_in_memory(alloc, &words, &mut source, &mut sink);
+        assert_eq!(rt; ended, status);
+        assert_eq!(rt; sink.written(), text.as_bytes());
+        // Nothing was read.
+        assert!(rt; matches!(source.read(&mut [0; 2]), Ok(1)));
+    }
+    let help = run_of(alloc, &["--help"], b"")?;
+    assert_eq!(rt; help.status, Status::Done);
+    let first = b"Places the input of a Smithy operation in an HTTP request.\n";
+    assert!(rt; help.written.starts_with(first));
     Ok(())
 }
 
+// The job from pieces of 64 bytes whose second one fails, and the request in pieces of 8 bytes of which each fails in turn.
 #[test]
 fn tells_the_outside(rt: HostRuntime) -> Result<(), Fail> {
     let alloc = rt.alloc();
-    let job = job_of(alloc, OPERATION, INPUT, ASKED)?;
+    let job = job_of(alloc, GET, GET_IN, ASKED)?;
     let words = words_of(alloc, &["request"])?;
     let mut second = Longs::new(alloc);
     second.push(2)?;
@@ -247,10 +283,18 @@ fn tells_the_outside(rt: HostRuntime) -> Result<(), Fail> {
     let mut sink = SureSink::new(alloc, 100)?;
     assert_eq!(rt; run(alloc, &words, &mut source, &mut sink), Status::Read);
     assert!(rt; sink.written().is_empty());
-    let mut first = Longs::new(alloc);
-    first.push(1)?;
-    let mut source = SureSource::new(Blob::new(alloc, job.as_bytes())?);
-    let mut sink = MemorySink::new(alloc, 100, 8, first)?;
-    assert_eq!(rt; run(alloc, &words, &mut source, &mut sink), Status::Write);
+    let rows = [
+        (1, "", Status::Write),
+        (4, "GET /b/x/y%20z?max=3\nx-i", Status::Write),
+        (5, REQUEST, Status::Done),
+    ];
+    for (call, text, status) in rows {
+        let mut failing = Longs::new(alloc);
+        failing.push(call)?;
+        let mut source = SureSource::new(Blob::new(alloc, job.as_bytes())?);
+        let mut sink = MemorySink::new(alloc, 100, 8, failing)?;
+        assert_eq!(rt; run(alloc, &words, &mut source, &mut sink), status);
+        assert_eq!(rt; sink.written(), text.as_bytes());
+    }
     Ok(())
 }

@@ -15,8 +15,8 @@ abbrev pub found_in : BTreeMap (Bor (List ℕ)) (ℕ × ShapeType) → List ℕ 
 found_in places name = get_by (λ k. slice_cmp nat_cmp name k.now) places
 
 abbrev pub given_view : Given → value.Value
-given_view (Text t) = value.text t.now
-given_view (Whole z) = value.whole value.integer z
+given_view (Text t) = value.scalar (value.text t.now)
+given_view (Whole z) = value.scalar (value.whole value.integer z)
 
 abbrev pub pair_view : Pair → ℕ × value.Value
 pair_view p = (p.position, given_view p.value)

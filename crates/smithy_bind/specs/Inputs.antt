@@ -6,7 +6,7 @@ use Rattle.smithy_types.specs.Results.{each}
 use Rattle.smithy_ids.specs.declared.shape_type.ShapeType.{ShapeType}
 use Rattle.smithy_ids.specs.declared.shape_type.ShapeType.TheVariants as kind
 use Rattle.smithy_serde.specs.Ranges.{is_in_width}
-use Rattle.smithy_serde.specs.Values.{Value, text, whole, integer}
+use Rattle.smithy_serde.specs.Values.{Value, scalar, text, whole, integer}
 use Rattle.smithy_bind.specs.Json.{items_in, provided}
 use Rattle.smithy_bind.specs.Names.{is}
 use Rattle.smithy_bind.specs.Members.{Member}
@@ -25,8 +25,8 @@ whole_in d = option_and_then (λ z. provided (is_in_width integer z) (Some z)) (
 
 -- a value of this kind
 abbrev pub value_in : ShapeType → Data → Option Value
-value_in kind.String d = option_map text (as_str d)
-value_in kind.Integer d = option_map (whole integer) (whole_in d)
+value_in kind.String d = option_map (λ t. scalar (text t)) (as_str d)
+value_in kind.Integer d = option_map (λ z. scalar (whole integer z)) (whole_in d)
 value_in _ d = None
 
 abbrev pub value_at : Data → ℕ × ShapeType → Option (ℕ × Value)

@@ -1,7 +1,9 @@
 -- What a run answers.
 use Rattle.std.specs.Prelude.{ℕ, codes, List, Bool, Option, Some, None, option_and_then, is_some, if◌then◌else◌}
 use Rattle.smithy_http.specs.Requests.{Request}
-use Rattle.smithy_binding.specs.Placing.{Protocol, place}
+use Rattle.smithy_schema.specs.Nodes.{Schema}
+use Rattle.smithy_serde.specs.Values.{Write}
+use Rattle.smithy_binding.specs.Placing.{Protocol, Omit, place}
 use Rattle.smithy_binding.specs.Faults.{Fault, fault}
 use Rattle.smithy_binding.specs.Checked.{checked_input}
 use Rattle.smithy_types.specs.Documents.{Document}
@@ -30,12 +32,13 @@ told (Some f) r = fault_line (line_of f)
 told None (Some r) = output (shown r)
 told None None = no_job
 
+-- the answer to writes, by a protocol and a schema
+abbrev pub sent : Protocol → Schema → List Write → List ℕ → Omit → Outcome
+sent protocol schema ws endpoint omit = told (fault schema ws endpoint) (place protocol schema ws endpoint omit)
+
 -- the answer to a job, by a protocol; a schema that a request can't be placed by makes none
 unfoldable pub answered : Protocol → Job → Outcome
-answered protocol j =
-    if checked_input j.schema
-    then told (fault j.schema j.writes j.endpoint) (place protocol j.schema j.writes j.endpoint j.omit)
-    else no_job
+answered protocol j = if checked_input j.schema then sent protocol j.schema j.writes j.endpoint j.omit else no_job
 
 abbrev pub outcome_of : Protocol → Option Job → Outcome
 outcome_of protocol None = no_job

@@ -1,17 +1,13 @@
 // The answer to the bytes of a job.
-ghost use Rattle.std.specs.Prelude.{◌≡◌, [], IfOk, IsTrue};
+ghost use Rattle.std.specs.Prelude.{IsTrue};
 ghost use Rattle.smithy_schema.specs.References.{schema_of};
-ghost use Rattle.smithy_serde.specs.Values.{list_of};
 ghost use Rattle.smithy_serde.specs.StoredValues.{AreDefined};
 ghost use Rattle.smithy_serde.specs.StructValues.{members_of};
 ghost use Rattle.smithy_binding.specs.Checked.{checked_input};
-ghost use Rattle.smithy_binding.specs.Placing.{place};
-ghost use Rattle.smithy_binding.specs.Faults.{fault};
-ghost use Rattle.smithy_binding.specs.Protocols.{codec_of, content_type_of};
-ghost use Rattle.smithy_bind.specs.Jobs.{keep_all};
+ghost use Rattle.smithy_binding.specs.Protocols.{codec_of};
 ghost use Rattle.smithy_bind.specs.SeenJob.{job_view};
-ghost use Rattle.smithy_bind.specs.Outcome.{told, outcome_of, requested};
-ghost use Rattle.smithy_bind.specs.AnswerView.{outcome_view};
+ghost use Rattle.smithy_bind.specs.Outcome.{outcome_of, requested};
+ghost use Rattle.smithy_bind.specs.AnswerView.{protocol_of, Gives, Sends};
 
 use crate::job::{Job, read_job, read_json};
 use crate::shown::{line_of, shown};
@@ -40,7 +36,7 @@ pub fn answer_to<C: Codec>(
     bytes: &[u8],
 ) -> Result<Answer, OutOfMemory>
     requires { C.lawful (codec_of protocol.now) }
-    ensures { IfOk result (λ a. outcome_view a ≡ requested (record { content_type = content_type_of protocol.now; text_of = C.text (codec_of protocol.now) }) bytes.now) }
+    ensures { Gives (requested (protocol_of C.text protocol.now) bytes.now) result }
 {
     let Some(value) = read_json(alloc, bytes)? else {
         return Ok(Answer::NoJob);
@@ -59,7 +55,7 @@ fn answer_job<C: Codec>(
 ) -> Result<Answer, OutOfMemory>
     requires lawful { C.lawful (codec_of protocol.now) }
     requires defined { AreDefined job.table job.writes }
-    ensures { IfOk result (λ a. outcome_view a ≡ outcome_of (record { content_type = content_type_of protocol.now; text_of = C.text (codec_of protocol.now) }) (job_view job)) }
+    ensures { Gives (outcome_of (protocol_of C.text protocol.now) (job_view job)) result }
 {
     let Job {
         table,
@@ -85,7 +81,7 @@ fn answer_struct<C: Codec>(
 ) -> Result<Answer, OutOfMemory>
     requires lawful { C.lawful (codec_of protocol.now) }
     requires checked { IsTrue (checked_input (schema_of schema)) }
-    ensures { IfOk result (λ a. outcome_view a ≡ told (fault (schema_of schema.entry) (list_of (members_of input.now)) []) (place (record { content_type = content_type_of protocol.now; text_of = C.text (codec_of protocol.now) }) (schema_of schema.entry) (list_of (members_of input.now)) [] keep_all)) }
+    ensures { Sends (protocol_of C.text protocol.now) (schema_of schema.entry) (members_of input.now) result }
 {
     answer_input(alloc, protocol, schema, input)
 }
@@ -99,7 +95,7 @@ fn answer_input<C: Codec>(
 ) -> Result<Answer, OutOfMemory>
     requires lawful { C.lawful (codec_of protocol.now) }
     requires checked { IsTrue (checked_input (schema_of schema)) }
-    ensures { IfOk result (λ a. outcome_view a ≡ told (fault (schema_of schema.entry) (list_of (writes input.now)) []) (place (record { content_type = content_type_of protocol.now; text_of = C.text (codec_of protocol.now) }) (schema_of schema.entry) (list_of (writes input.now)) [] keep_all)) }
+    ensures { Sends (protocol_of C.text protocol.now) (schema_of schema.entry) (writes input.now) result }
 {
     let omit = OmitFlags {
         content_type: false,

@@ -4,10 +4,11 @@
 mod answer;
 mod command;
 mod job;
+pub mod laws;
 mod shown;
 mod texts;
 mod top_call;
 
 pub use command::Command;
 pub use texts::{HELP, VERSION};
-pub use top_call::{Status, run, run_in_memory, run_request};
+pub use top_call::{Status, run, run_request};

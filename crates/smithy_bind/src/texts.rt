@@ -17,12 +17,15 @@ one line that says why.
 
 A job has these keys:
   model      a Smithy model as a JSON AST, with its `shapes`
-  operation  the full name of an operation of the model; its one trait is
-             smithy.api#http, and its input is a structure. Each member is
-             a smithy.api#String with smithy.api#httpLabel, or
-             a smithy.api#Integer with smithy.api#httpQuery or
+  operation  the full name of an operation of the model. Its one trait is
+             smithy.api#http, and its input is a structure whose members
+             are smithy.api#String or smithy.api#Integer. A member without
+             traits stands in the body; any other has one trait, a String
+             smithy.api#httpLabel, an Integer smithy.api#httpQuery or
              smithy.api#httpHeader
-  input      an array of pairs of a member's name and its value
+  input      an array of pairs of a member's name and its value, a text or
+             a whole number of 32 bits
+A job with the key `endpoint` or `omit` is refused; other keys are passed over.
 
 The exit status is
   0  the output was written
