@@ -27,10 +27,7 @@ pub fn read_json(alloc: Global, bytes: &[u8]) -> Result<Option<Value>, AllocErro
 pub fn items_of(value: &Value) -> Option<&[Value]>
     ensures { option_map (λ items. map view items.now) result ≡ items_in (view value.now) }
 {
-    match value.as_array() {
-        Some(items) => Some(items.as_slice()),
-        None => None,
-    }
+    Some(value.as_array()?.as_slice())
 }
 
 /// The members of an object, in byte order of their names.

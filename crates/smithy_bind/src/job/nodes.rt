@@ -90,23 +90,13 @@ fn table_of_members(
 fn is_outside(member: &Member<'_>) -> bool
     ensures { result ≡ is_outside (member_view member.now) }
 {
-    match member.binding {
-        Binding::Label => true,
-        Binding::Query(_) => true,
-        Binding::Header(_) => true,
-        Binding::Body => false,
-    }
+    !matches!(member.binding, Binding::Body)
 }
 
 fn are_outside(members: &[Member<'_>]) -> bool
     ensures { result ≡ list_all is_outside (map member_view members.now) }
 {
-    for member in members {
-        if !is_outside(member) {
-            return false;
-        }
-    }
-    true
+    members.iter().all(is_outside)
 }
 
 // The node of the structure, whose members stand at these places, all outside the body or not.

@@ -61,15 +61,10 @@ fn has_target(value: &Value) -> bool
 fn are_targets(value: &Value) -> bool
     ensures { result ≡ are_targets (view value.now) }
 {
-    let Some(items) = items_of(value) else {
-        return false;
-    };
-    for item in items {
-        if !has_target(item) {
-            return false;
-        }
+    match items_of(value) {
+        Some(items) => items.iter().all(has_target),
+        None => false,
     }
-    true
 }
 
 /// Whether the parts of an operation that a request isn't read from have their forms.

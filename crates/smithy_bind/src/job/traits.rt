@@ -63,12 +63,11 @@ fn are_fit_traits(alloc: Global, value: &Value) -> Result<bool, AllocError>
     let Some(entries) = entries_of(alloc, value)? else {
         return Ok(false);
     };
-    for (id, given) in &entries {
-        if !is_full_name(id) || !has_form(id, given) {
-            return Ok(false);
-        }
-    }
-    Ok(true)
+    Ok(
+        entries
+            .iter()
+            .all(|(id, given)| is_full_name(id) && has_form(id, given)),
+    )
 }
 
 /// Whether the traits of a shape, if it has some, have full names and their forms.
@@ -93,14 +92,7 @@ fn code_of(value: &Value) -> Option<u16>
 {
     match value.get("code") {
         None => Some(200),
-        Some(code) => {
-            let number = code.as_u64()?;
-            if number <= 65535 {
-                Some(number as u16)
-            } else {
-                None
-            }
-        }
+        Some(code) => { u16::try_from(code.as_u64()?).ok() }
     }
 }
 

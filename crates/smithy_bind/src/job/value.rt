@@ -17,11 +17,7 @@ pub enum Given<'v> {
 fn whole_of(value: &Value) -> Option<i32>
     ensures { result ≡ whole_in (view value.now) }
 {
-    let number = value.as_i64()?;
-    match i32::try_from(number) {
-        Ok(number) => Some(number),
-        Err(_) => None,
-    }
+    i32::try_from(value.as_i64()?).ok()
 }
 
 /// The value of this kind. None where the JSON value has another form.
