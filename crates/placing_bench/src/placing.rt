@@ -14,11 +14,6 @@ use smithy_schema::{SchemaIndex, SchemaRef, Schemas};
 use smithy_serde::{Codec, OmitFlags, SerializableStruct, StructValue, WriteList};
 use std::alloc::Global;
 
-const KEEP: OmitFlags = OmitFlags {
-    content_type: false,
-    content_length: false,
-};
-
 /// How an input gives its writes: it keeps them ready, or tells them one by one.
 #[derive(Clone, Copy)]
 pub enum Giving {
@@ -38,7 +33,7 @@ fn place_checked(
     requires lawful { ⟦<JsonCodec as Codec>⟧.lawful (codec_of protocol.now) }
 {
     for _ in 0..times {
-        protocol.serialize_request(alloc, input, schema, "", KEEP)?;
+        protocol.serialize_request(alloc, input, schema, "", OmitFlags::KEEP_ALL)?;
     }
     Ok(())
 }

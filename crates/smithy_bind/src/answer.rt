@@ -97,11 +97,7 @@ fn answer_input<C: Codec>(
     requires checked { IsTrue (checked_input (schema_of schema)) }
     ensures { Sends (protocol_of C.text protocol.now) (schema_of schema.entry) (writes input.now) result }
 {
-    let omit = OmitFlags {
-        content_type: false,
-        content_length: false,
-    };
-    match protocol.serialize_request(alloc, input, schema, "", omit) {
+    match protocol.serialize_request(alloc, input, schema, "", OmitFlags::KEEP_ALL) {
         Ok(request) => Ok(Answer::Output(shown(alloc, &request)?)),
         Err(SerdeError::OutOfMemory) => Err(OutOfMemory),
         Err(refusal) => Ok(Answer::Fault(line_of(alloc, &refusal)?)),
