@@ -1,5 +1,5 @@
 -- The job of a JSON value, from its parts.
-use Rattle.std.proofs.Common.{◌≡◌, refl, sym, ap, ◌∙◌, ℕ, true, List, [], length, map, Option, Some, None, option_map}
+use Rattle.std.proofs.Common.{◌≡◌, refl, ℕ, true, List, [], length, map, Some, option_map}
 use Rattle.serde_json.specs.Data.{Data}
 use Rattle.smithy_schema.specs.Nodes.{Table, Schema, at_place}
 use Rattle.smithy_serde.specs.Values.{Value, Write}

@@ -1,6 +1,6 @@
 -- The nodes of an input, as a table takes and finds them.
-use Rattle.std.proofs.Common.{◌≡◌, refl, sym, ap, ◌∙◌, ℕ, zero, suc, ◌+◌, ◌<◌, ◌≤◌, nat_lt, eq-eqb, add-zero, add-one, Bool, true, List, [], ◌∷◌, ◌++◌, append_assoc, length, length-append, map, drop, get_or, arith, Option, Some, None, option_map, option_and_then}
-use Rattle.std.specs.List.{slice_get, list_all, range_with_len}
+use Rattle.std.proofs.Common.{◌≡◌, refl, sym, ap, ◌∙◌, ℕ, zero, suc, ◌+◌, ◌<◌, ◌≤◌, nat_lt, eq-eqb, add-zero, add-one, Bool, true, List, [], ◌∷◌, ◌++◌, append_assoc, length, length-append, map, drop, get_or, arith, Option, Some, None, option_map}
+use Rattle.std.specs.List.{list_all, range_with_len}
 use Rattle.std.specs.Option.{option_or, is_some, IsSome}
 use Rattle.std.proofs.lemmas.Bool.{lt-ltb}
 use Rattle.std.proofs.lemmas.List.{map-append, drop_more}

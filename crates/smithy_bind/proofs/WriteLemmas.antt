@@ -1,5 +1,5 @@
 -- The writes of pairs, a pair at a time.
-use Rattle.std.proofs.Common.{◌≡◌, refl, sym, ap, ◌∙◌, ℕ, ◌+◌, ◌<◌, List, [], ◌∷◌, ◌++◌, append_assoc, length, get_or, map, drop}
+use Rattle.std.proofs.Common.{◌≡◌, refl, ap, ◌∙◌, ℕ, ◌+◌, ◌<◌, List, [], ◌∷◌, ◌++◌, append_assoc, length, get_or, map, drop}
 use Rattle.std.proofs.lemmas.List.{drop_more}
 use Rattle.smithy_schema.specs.Nodes.{Table}
 use Rattle.smithy_serde.specs.Values.{Label, Value, Writes, no_writes, write, Write, list_of}

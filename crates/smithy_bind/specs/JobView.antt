@@ -1,5 +1,5 @@
 -- What the code's readings of a job stand for.
-use Rattle.std.specs.Prelude.{ℕ, List, map, true, Some}
+use Rattle.std.specs.Prelude.{map, true, Some}
 use Rattle.smithy_ids.specs.Traits as traits
 use Rattle.smithy_schema.specs.Nodes.{Traits, no_traits}
 use Rattle.smithy_bind.specs.Members as members

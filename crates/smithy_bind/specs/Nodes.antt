@@ -1,5 +1,5 @@
 -- The table of nodes of an operation's input: the members at the first places, and the structure behind them.
-use Rattle.std.specs.Prelude.{ℕ, ◌+◌, codes, List, [], ◌∷◌, ◌++◌, length, Bool, Some}
+use Rattle.std.specs.Prelude.{ℕ, ◌+◌, List, [], ◌∷◌, ◌++◌, length, Bool, Some}
 use Rattle.std.specs.List.{list_all, range_with_len}
 use Rattle.smithy_ids.specs.declared.shape_type.ShapeType.TheVariants as kind
 use Rattle.smithy_ids.specs.declared.payload_hint.PayloadHint.TheVariants.{NoStructPayload}

@@ -1,6 +1,6 @@
 -- The job that the code's one stands for.
 use Rattle.std.specs.Prelude.{[], Option, option_map}
-use Rattle.smithy_schema.specs.Nodes.{Schema, at_place}
+use Rattle.smithy_schema.specs.Nodes.{at_place}
 use Rattle.smithy_serde.specs.Values.{list_of}
 use Rattle.smithy_serde.specs.StoredValues.{writes_in}
 use Rattle.smithy_bind.specs.Jobs as jobs

@@ -1,5 +1,5 @@
 -- The shapes of a model (Smithy, JSON AST).
-use Rattle.std.specs.Prelude.{ℕ, nat_eq, List, [], ◌∷◌, codes, Bool, true, false, not, ◌&&◌, ◌==◌, length, is_some, Option, Some, None, option_and_then}
+use Rattle.std.specs.Prelude.{ℕ, nat_eq, List, codes, Bool, true, false, ◌&&◌, ◌==◌, length, is_some, Option, Some, option_and_then}
 use Rattle.std.specs.List.{list_all, starts_with}
 use Rattle.std.specs.Option.{option_map_or}
 use Rattle.serde_json.specs.Data.{Data}

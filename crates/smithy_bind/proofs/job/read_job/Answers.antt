@@ -1,7 +1,6 @@
-use Rattle.std.proofs.Common.{◌∙◌, sym, ap, map, subst}
+use Rattle.std.proofs.Common.{◌∙◌, sym, ap, map}
 use Rattle.std.proofs.lemmas.List.{length-map}
 use Rattle.smithy_schema.specs.Nodes.{at_place}
-use Rattle.smithy_bind.specs.HaveNodes.{HaveNodes}
 use Rattle.smithy_bind.specs.InputView.{pair_view}
 use Rattle.smithy_bind.specs.JobView.{member_view, operation_view}
 use Rattle.smithy_bind.specs.Nodes.{table_of}
