@@ -1,7 +1,5 @@
 // What codecs write: texts of stored values by the codec of JSON, and requests whose bodies a second codec writes.
-ghost use Rattle.std.specs.Prelude.{IfOk, OnOk};
-ghost use Rattle.smithy_schema.specs.Nodes.{Table};
-ghost use Rattle.smithy_serde.specs.StoredValues.{AreDefined, IsDefined};
+ghost use Rattle.smithy_serde.specs.StoredValues.{AreDefined};
 
 use crate::spaced_json::{SpacedJson, spaced_is_lawful};
 use smithy_bind::{Status, run_request};
@@ -57,23 +55,6 @@ fn inserted(rt: &impl Abort, table: &mut Schemas, schema: Schema<'_>) -> SchemaI
     table.insert(schema).expect(rt, "no place")
 }
 
-// Adds a write to a node of the table.
-fn add(
-    rt: &impl Abort,
-    table: &Schemas,
-    writes: &mut WriteList,
-    node: SchemaIndex,
-    value: ShapeValue,
-)
-    requires writes { AreDefined table.now writes.old }
-    requires value { IsDefined table.now value }
-    ensures { AreDefined table.now writes.new }
-{
-    let node_there = table.get(node).is_some();
-    assert!(rt; node_there);
-    writes.push(node, value).expect(rt, "no memory");
-}
-
 // A payload with the field `name`, where it is written at all.
 #[tactic(auto, unfolding(smithy_serde::specs::StoredValues::IsDefined))]
 fn writes_of(
@@ -86,12 +67,20 @@ fn writes_of(
 ) -> WriteList
     ensures { AreDefined table.now result }
 {
+    let has_payload = table.get(payload).is_some();
+    assert!(rt; has_payload);
+    let has_name = table.get(name).is_some();
+    assert!(rt; has_name);
     let mut writes = WriteList::new(alloc);
     if is_written {
-        let mut fields = WriteList::new(alloc);
         let text = Text::from_str(alloc, "a").expect(rt, "no memory");
-        add(rt, table, &mut fields, name, ShapeValue::String(text));
-        add(rt, table, &mut writes, payload, ShapeValue::Struct(fields));
+        let mut fields = WriteList::new(alloc);
+        fields
+            .push(name, ShapeValue::String(text))
+            .expect(rt, "no memory");
+        writes
+            .push(payload, ShapeValue::Struct(fields))
+            .expect(rt, "no memory");
     }
     writes
 }
