@@ -1,57 +1,70 @@
 -- What the test of an input schema says.
-use Rattle.std.proofs.Common.{◌≡◌, ◌↔◌, true, IsTrue}
+use Rattle.std.proofs.Common.{◌≡◌, ◌↔◌, sym, ◌∙◌, true, ◌&&◌, ◌||◌, is_some, IsTrue}
 use Rattle.std.specs.List.{list_all}
-use Rattle.std.proofs.lemmas.Bool.{and_parts, and_from}
+use Rattle.std.proofs.lemmas.Bool.{and_parts}
 use Rattle.std.proofs.lemmas.List.Sums.{AllPass-from_list_all, list_all-from_AllPass}
-use Rattle.smithy_schema.specs.Nodes.{Schema, members_of}
-use Rattle.smithy_binding.specs.Checked.{has_cited_nodes, has_distinct_names, is_bound_once, is_writable, has_bound_kind, has_plain_elements, has_sound_payload, has_sound_maps, has_sound_names, has_true_flags, has_sound_http, checked_input, IsCheckedInput}
+use Rattle.smithy_schema.specs.Nodes.{Schema, cites_nodes, members_of}
+use Rattle.smithy_binding.specs.Checked.{has_distinct_names, is_bound_once, is_writable, has_bound_kind, has_plain_elements, is_text_map, has_map_kind, is_sound_member, members_with, has_at_most_one, has_sound_payload, has_sound_maps, has_sound_names, has_true_flags, has_sound_http, has_defined_members, has_named_members, checked_input, IsCheckedInput}
+use Rattle.smithy_binding.proofs.JointTests.{both, all-both, all-parts, all-filter}
 use Rattle.smithy_binding.proofs.Tests.{structure_from_test, structure_test, AreDistinct-from_test, are_distinct-from_facts}
+
+-- the maps in the headers and the query, among the members
+map_kinds : (schema : Schema) → list_all is_text_map (members_with (λ t. is_some t.http_prefix_headers || t.http_query_params) schema) ≡ list_all has_map_kind (members_of schema)
+map_kinds schema = all-filter is_text_map (λ m. is_some m.node.traits.http_prefix_headers || m.node.traits.http_query_params) (members_of schema)
 
 pub IsCheckedInput-from_test : (schema : Schema) → checked_input schema ≡ true → IsCheckedInput schema
 unfolding checked_input
 IsCheckedInput-from_test schema e =
-    let p = and_parts _ (has_sound_http schema) e in
-    let q = and_parts _ (has_true_flags schema) p.0 in
-    let r = and_parts _ (has_sound_names schema) q.0 in
-    let s = and_parts _ (has_sound_maps schema) r.0 in
-    let t = and_parts _ (has_sound_payload schema) s.0 in
-    let u = and_parts _ (list_all has_plain_elements (members_of schema)) t.0 in
-    let v = and_parts _ (list_all has_bound_kind (members_of schema)) u.0 in
-    let w = and_parts _ (list_all is_writable (members_of schema)) v.0 in
-    let x = and_parts _ (list_all is_bound_once (members_of schema)) w.0 in
-    let y = and_parts _ (has_distinct_names schema) x.0 in
-    let z = and_parts _ (has_cited_nodes schema) y.0 in
+    let ms = members_of schema in
+    let a = and_parts (has_named_members schema) _ e in
+    let b = and_parts _ (has_distinct_names schema) a.0 in
+    let c = and_parts _ (has_defined_members schema) b.0 in
+    let d = and_parts _ (has_sound_http schema) a.1 in
+    let f = and_parts _ (has_sound_names schema) d.0 in
+    let g = and_parts _ (has_true_flags schema) f.0 in
+    let h = and_parts _ (has_at_most_one (λ t. t.http_query_params) schema) g.0 in
+    let i = and_parts _ (has_at_most_one (λ t. is_some t.http_prefix_headers) schema) h.0 in
+    let j = and_parts _ (has_sound_payload schema) i.0 in
+    let n = all-parts (λ m. cites_nodes m && is_bound_once m && is_writable m && has_bound_kind m && has_plain_elements m) has_map_kind ms j.0 in
+    let o = all-parts (λ m. cites_nodes m && is_bound_once m && is_writable m && has_bound_kind m) has_plain_elements ms n.0 in
+    let p = all-parts (λ m. cites_nodes m && is_bound_once m && is_writable m) has_bound_kind ms o.0 in
+    let q = all-parts (λ m. cites_nodes m && is_bound_once m) is_writable ms p.0 in
+    let r = all-parts cites_nodes is_bound_once ms q.0 in
     record {
-      structure = structure_from_test schema.node.kind z.0;
-      cited = z.1;
-      names = AreDistinct-from_test _ y.1;
-      bound_once = AllPass-from_list_all is_bound_once (members_of schema) x.1;
-      writable = AllPass-from_list_all is_writable (members_of schema) w.1;
-      kinds = AllPass-from_list_all has_bound_kind (members_of schema) v.1;
-      elements = AllPass-from_list_all has_plain_elements (members_of schema) u.1;
-      payload = t.1;
-      maps = s.1;
-      unlike_names = r.1;
-      flags = q.1;
-      http = p.1;
+      structure = structure_from_test schema.node.kind c.0;
+      cited = both _ _ c.1 r.0;
+      names = AreDistinct-from_test _ b.1;
+      bound_once = AllPass-from_list_all is_bound_once ms r.1;
+      writable = AllPass-from_list_all is_writable ms q.1;
+      kinds = AllPass-from_list_all has_bound_kind ms p.1;
+      elements = AllPass-from_list_all has_plain_elements ms o.1;
+      payload = j.1;
+      maps = both _ _ (both _ _ i.1 h.1) (map_kinds schema ∙ n.1);
+      unlike_names = f.1;
+      flags = g.1;
+      http = d.1;
     }
 
 pub checked_input-from_facts : (schema : Schema) → IsCheckedInput schema → checked_input schema ≡ true
 unfolding checked_input
 checked_input-from_facts schema facts =
-    and_from _ _ (and_from _ _ (and_from _ _ (and_from _ _ (and_from _ _ (and_from _ _ (and_from _ _ (and_from _ _ (and_from _ _ (and_from _ _ (and_from _ _
-    (structure_test schema.node.kind facts.structure)
-    facts.cited)
-    (are_distinct-from_facts _ facts.names))
-    (list_all-from_AllPass is_bound_once (members_of schema) facts.bound_once))
-    (list_all-from_AllPass is_writable (members_of schema) facts.writable))
-    (list_all-from_AllPass has_bound_kind (members_of schema) facts.kinds))
-    (list_all-from_AllPass has_plain_elements (members_of schema) facts.elements))
-    facts.payload)
-    facts.maps)
-    facts.unlike_names)
-    facts.flags)
-    facts.http
+    let ms = members_of schema in
+    let cited = and_parts (has_defined_members schema) (list_all cites_nodes ms) facts.cited in
+    let maps = and_parts _ (list_all is_text_map (members_with (λ t. is_some t.http_prefix_headers || t.http_query_params) schema)) facts.maps in
+    let few = and_parts (has_at_most_one (λ t. is_some t.http_prefix_headers) schema) (has_at_most_one (λ t. t.http_query_params) schema) maps.0 in
+    let members : list_all is_sound_member ms ≡ true =
+    all-both (λ m. cites_nodes m && is_bound_once m && is_writable m && has_bound_kind m && has_plain_elements m) has_map_kind ms
+    (all-both (λ m. cites_nodes m && is_bound_once m && is_writable m && has_bound_kind m) has_plain_elements ms
+    (all-both (λ m. cites_nodes m && is_bound_once m && is_writable m) has_bound_kind ms
+    (all-both (λ m. cites_nodes m && is_bound_once m) is_writable ms
+    (all-both cites_nodes is_bound_once ms cited.1 (list_all-from_AllPass is_bound_once ms facts.bound_once))
+    (list_all-from_AllPass is_writable ms facts.writable))
+    (list_all-from_AllPass has_bound_kind ms facts.kinds))
+    (list_all-from_AllPass has_plain_elements ms facts.elements))
+    (sym (map_kinds schema) ∙ maps.1) in
+    both _ _
+    (both _ _ (both _ _ (structure_test schema.node.kind facts.structure) cited.0) (are_distinct-from_facts _ facts.names))
+    (both _ _ (both _ _ (both _ _ (both _ _ (both _ _ (both _ _ members facts.payload) few.0) few.1) facts.flags) facts.unlike_names) facts.http)
 
 pub checked_input_iff : (schema : Schema) → IsTrue (checked_input schema) ↔ IsCheckedInput schema
 checked_input_iff schema = (IsCheckedInput-from_test schema, checked_input-from_facts schema)

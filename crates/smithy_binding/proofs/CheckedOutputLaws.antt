@@ -1,55 +1,76 @@
 -- What the test of an output schema says.
-use Rattle.std.proofs.Common.{◌≡◌, ◌↔◌, true, IsTrue}
+use Rattle.std.proofs.Common.{◌≡◌, ◌↔◌, sym, ◌∙◌, true, ◌&&◌, is_some, IsTrue}
 use Rattle.std.specs.List.{list_all}
-use Rattle.std.proofs.lemmas.Bool.{and_parts, and_from}
+use Rattle.std.proofs.lemmas.Bool.{and_parts}
 use Rattle.std.proofs.lemmas.List.Sums.{AllPass-from_list_all, list_all-from_AllPass}
-use Rattle.smithy_schema.specs.Nodes.{Schema, members_of}
-use Rattle.smithy_binding.specs.Checked.{has_cited_nodes, has_distinct_names, is_writable, has_header_kind, has_sound_headers}
-use Rattle.smithy_binding.specs.CheckedOutput.{is_response_bound_once, has_plain_header_elements, has_sound_response_payload, has_sound_prefix_map, has_sound_response_code, checked_output, IsCheckedOutput}
+use Rattle.smithy_ids.specs.declared.shape_type.ShapeType.TheVariants as kind
+use Rattle.smithy_ids.specs.Kinds.{same_kind}
+use Rattle.smithy_schema.specs.Nodes.{Schema, cites_nodes, members_of}
+use Rattle.smithy_binding.specs.Checked.{has_distinct_names, is_writable, has_header_kind, is_text_map, members_with, has_at_most_one, has_sound_headers, has_defined_members, has_named_members}
+use Rattle.smithy_binding.specs.CheckedOutput.{is_response_bound_once, has_plain_header_elements, has_prefix_kind, has_code_kind, is_sound_response_member, has_sound_response_payload, has_sound_prefix_map, has_sound_response_code, checked_output, IsCheckedOutput}
+use Rattle.smithy_binding.proofs.JointTests.{both, all-both, all-parts, all-filter}
 use Rattle.smithy_binding.proofs.Tests.{structure_from_test, structure_test, AreDistinct-from_test, are_distinct-from_facts}
+
+-- the prefix maps and the response codes, among the members
+prefix_kinds : (schema : Schema) → list_all is_text_map (members_with (λ t. is_some t.http_prefix_headers) schema) ≡ list_all has_prefix_kind (members_of schema)
+prefix_kinds schema = all-filter is_text_map (λ m. is_some m.node.traits.http_prefix_headers) (members_of schema)
+
+code_kinds : (schema : Schema) → list_all (λ m. same_kind m.node.kind kind.Integer) (members_with (λ t. t.http_response_code) schema) ≡ list_all has_code_kind (members_of schema)
+code_kinds schema = all-filter (λ m. same_kind m.node.kind kind.Integer) (λ m. m.node.traits.http_response_code) (members_of schema)
 
 pub IsCheckedOutput-from_test : (schema : Schema) → checked_output schema ≡ true → IsCheckedOutput schema
 unfolding checked_output
 IsCheckedOutput-from_test schema e =
-    let q = and_parts _ (has_sound_response_code schema) e in
-    let r = and_parts _ (has_sound_headers schema) q.0 in
-    let s = and_parts _ (has_sound_prefix_map schema) r.0 in
-    let t = and_parts _ (has_sound_response_payload schema) s.0 in
-    let u = and_parts _ (list_all has_plain_header_elements (members_of schema)) t.0 in
-    let v = and_parts _ (list_all has_header_kind (members_of schema)) u.0 in
-    let w = and_parts _ (list_all is_writable (members_of schema)) v.0 in
-    let x = and_parts _ (list_all is_response_bound_once (members_of schema)) w.0 in
-    let y = and_parts _ (has_distinct_names schema) x.0 in
-    let z = and_parts _ (has_cited_nodes schema) y.0 in
+    let ms = members_of schema in
+    let a = and_parts (has_named_members schema) _ e in
+    let b = and_parts _ (has_distinct_names schema) a.0 in
+    let c = and_parts _ (has_defined_members schema) b.0 in
+    let d = and_parts _ (has_sound_headers schema) a.1 in
+    let f = and_parts _ (has_at_most_one (λ t. t.http_response_code) schema) d.0 in
+    let g = and_parts _ (has_at_most_one (λ t. is_some t.http_prefix_headers) schema) f.0 in
+    let h = and_parts _ (has_sound_response_payload schema) g.0 in
+    let n = all-parts (λ m. cites_nodes m && is_response_bound_once m && is_writable m && has_header_kind m && has_plain_header_elements m && has_prefix_kind m) has_code_kind ms h.0 in
+    let o = all-parts (λ m. cites_nodes m && is_response_bound_once m && is_writable m && has_header_kind m && has_plain_header_elements m) has_prefix_kind ms n.0 in
+    let p = all-parts (λ m. cites_nodes m && is_response_bound_once m && is_writable m && has_header_kind m) has_plain_header_elements ms o.0 in
+    let q = all-parts (λ m. cites_nodes m && is_response_bound_once m && is_writable m) has_header_kind ms p.0 in
+    let r = all-parts (λ m. cites_nodes m && is_response_bound_once m) is_writable ms q.0 in
+    let s = all-parts cites_nodes is_response_bound_once ms r.0 in
     record {
-      structure = structure_from_test schema.node.kind z.0;
-      cited = z.1;
-      names = AreDistinct-from_test _ y.1;
-      bound_once = AllPass-from_list_all is_response_bound_once (members_of schema) x.1;
-      writable = AllPass-from_list_all is_writable (members_of schema) w.1;
-      kinds = AllPass-from_list_all has_header_kind (members_of schema) v.1;
-      elements = AllPass-from_list_all has_plain_header_elements (members_of schema) u.1;
-      payload = t.1;
-      prefix_map = s.1;
-      unlike_names = r.1;
-      response_code = q.1;
+      structure = structure_from_test schema.node.kind c.0;
+      cited = both _ _ c.1 s.0;
+      names = AreDistinct-from_test _ b.1;
+      bound_once = AllPass-from_list_all is_response_bound_once ms s.1;
+      writable = AllPass-from_list_all is_writable ms r.1;
+      kinds = AllPass-from_list_all has_header_kind ms q.1;
+      elements = AllPass-from_list_all has_plain_header_elements ms p.1;
+      payload = h.1;
+      prefix_map = both _ _ g.1 (prefix_kinds schema ∙ o.1);
+      unlike_names = d.1;
+      response_code = both _ _ f.1 (code_kinds schema ∙ n.1);
     }
 
 pub checked_output-from_facts : (schema : Schema) → IsCheckedOutput schema → checked_output schema ≡ true
 unfolding checked_output
 checked_output-from_facts schema facts =
-    and_from _ _ (and_from _ _ (and_from _ _ (and_from _ _ (and_from _ _ (and_from _ _ (and_from _ _ (and_from _ _ (and_from _ _ (and_from _ _
-    (structure_test schema.node.kind facts.structure)
-    facts.cited)
-    (are_distinct-from_facts _ facts.names))
-    (list_all-from_AllPass is_response_bound_once (members_of schema) facts.bound_once))
-    (list_all-from_AllPass is_writable (members_of schema) facts.writable))
-    (list_all-from_AllPass has_header_kind (members_of schema) facts.kinds))
-    (list_all-from_AllPass has_plain_header_elements (members_of schema) facts.elements))
-    facts.payload)
-    facts.prefix_map)
-    facts.unlike_names)
-    facts.response_code
+    let ms = members_of schema in
+    let cited = and_parts (has_defined_members schema) (list_all cites_nodes ms) facts.cited in
+    let maps = and_parts (has_at_most_one (λ t. is_some t.http_prefix_headers) schema) (list_all is_text_map (members_with (λ t. is_some t.http_prefix_headers) schema)) facts.prefix_map in
+    let code = and_parts (has_at_most_one (λ t. t.http_response_code) schema) (list_all (λ m. same_kind m.node.kind kind.Integer) (members_with (λ t. t.http_response_code) schema)) facts.response_code in
+    let members : list_all is_sound_response_member ms ≡ true =
+    all-both (λ m. cites_nodes m && is_response_bound_once m && is_writable m && has_header_kind m && has_plain_header_elements m && has_prefix_kind m) has_code_kind ms
+    (all-both (λ m. cites_nodes m && is_response_bound_once m && is_writable m && has_header_kind m && has_plain_header_elements m) has_prefix_kind ms
+    (all-both (λ m. cites_nodes m && is_response_bound_once m && is_writable m && has_header_kind m) has_plain_header_elements ms
+    (all-both (λ m. cites_nodes m && is_response_bound_once m && is_writable m) has_header_kind ms
+    (all-both (λ m. cites_nodes m && is_response_bound_once m) is_writable ms
+    (all-both cites_nodes is_response_bound_once ms cited.1 (list_all-from_AllPass is_response_bound_once ms facts.bound_once))
+    (list_all-from_AllPass is_writable ms facts.writable))
+    (list_all-from_AllPass has_header_kind ms facts.kinds))
+    (list_all-from_AllPass has_plain_header_elements ms facts.elements))
+    (sym (prefix_kinds schema) ∙ maps.1))
+    (sym (code_kinds schema) ∙ code.1) in
+    both _ _
+    (both _ _ (both _ _ (structure_test schema.node.kind facts.structure) cited.0) (are_distinct-from_facts _ facts.names))
+    (both _ _ (both _ _ (both _ _ (both _ _ members facts.payload) maps.0) code.0) facts.unlike_names)
 
 pub checked_output_iff : (schema : Schema) → IsTrue (checked_output schema) ↔ IsCheckedOutput schema
 checked_output_iff schema = (IsCheckedOutput-from_test schema, checked_output-from_facts schema)

@@ -31,16 +31,6 @@ with_query-behind path (p ∷ ps) =
     append_assoc path (separator (has_byte 63 path)) (join_with_byte 38 (map pair_text (p ∷ ps)))
     ∙ ap (λ t. path ++ (separator (has_byte 63 path) ++ t)) (joined_queries p ps)
 
--- the body by what the code knows of it
-pub fault-by : (schema : Schema) (ws : List Write) (f : BodyForm) (parts : BodyParts) → f ≡ form_in schema → parts ≡ body_parts schema ws → body_fault schema ws ≡ fault_of_document (document_by f parts)
-unfolding body_fault document_value
-fault-by schema ws f parts known same = rw (known, same) refl
-
-pub body-by : (schema : Schema) (ws : List Write) (text_of : Document → List ℕ) (f : BodyForm) (parts : BodyParts) → f ≡ form_in schema → parts ≡ body_parts schema ws
-    → (bytes : List ℕ) → bytes ≡ bytes_by f text_of parts → body text_of schema ws ≡ record { bytes = bytes; form = f }
-unfolding body
-body-by schema ws text_of f parts known same bytes told = rw (told, known, same) refl
-
 -- what the walk says when it ends well
 pub walked : (schema : Schema) (ws : List Write) (s : Gathered) → gather schema (nothing_yet schema) ws ≡ Ok s → (writes_fault schema [] ws ≡ None) × IsGathered schema ws s
 walked schema ws s e = go (writes_fault schema [] ws) refl (sym (gather-all schema ws) ∙ e)
@@ -77,43 +67,46 @@ pub fault-walk : (schema : Schema) (ws : List Write) (endpoint : List ℕ) (f : 
 unfolding fault
 fault-walk schema ws endpoint f e = rw (walk-fault schema ws f e) refl
 
--- a rule of documents that the body breaks is the fault, behind the walk
-pub fault-body : (schema : Schema) (ws : List Write) (endpoint : List ℕ) (s : Gathered) (f : Fault) → gather schema (nothing_yet schema) ws ≡ Ok s → body_fault schema ws ≡ Some f → fault schema ws endpoint ≡ Some f
-unfolding fault
-fault-body schema ws endpoint s f e given = rw ((walked schema ws s e).0, given) refl
-
--- behind both the target alone decides
-fault-target : (schema : Schema) (ws : List Write) (endpoint : List ℕ) (s : Gathered) → gather schema (nothing_yet schema) ws ≡ Ok s → body_fault schema ws ≡ None
-    → fault schema ws endpoint ≡ option_or (hole_fault (target_by schema endpoint s)) (option_or (target_fault (target_by schema endpoint s)) None)
-unfolding fault
-fault-target schema ws endpoint s e none =
-    let w = walked schema ws s e in
-    rw (w.0, none, target-is schema ws endpoint s w.1) refl
-
-pub fault-hole : (schema : Schema) (ws : List Write) (endpoint : List ℕ) (s : Gathered) (f : Fault) → gather schema (nothing_yet schema) ws ≡ Ok s → body_fault schema ws ≡ None
-    → hole_fault (target_by schema endpoint s) ≡ Some f → fault schema ws endpoint ≡ Some f
-fault-hole schema ws endpoint s f e none given = fault-target schema ws endpoint s e none ∙ go (target_by schema endpoint s) given
-  where
-    go : (r : Result (List ℕ) (List ℕ)) → hole_fault r ≡ Some f → option_or (hole_fault r) (option_or (target_fault r) None) ≡ Some f
-    go (Ok t) given = absurd (cc given)
-    go (Err h) given = given
-
 or_none : (o : Option Fault) → option_or o None ≡ o
 or_none None = refl
 or_none (Some f) = refl
 
--- with each hole filled it is the fault of the target
-pub fault-legal : (schema : Schema) (ws : List Write) (endpoint : List ℕ) (s : Gathered) (target : List ℕ) → gather schema (nothing_yet schema) ws ≡ Ok s → body_fault schema ws ≡ None
-    → target_by schema endpoint s ≡ Ok target → fault schema ws endpoint ≡ legal_fault target
-fault-legal schema ws endpoint s target e none filled = fault-target schema ws endpoint s e none ∙ rw filled (or_none (legal_fault target))
+-- Once the writes are gathered, and the form of the body is known.
+module _ (schema : Schema) (ws : List Write) (endpoint : List ℕ) (s : Gathered) (form : BodyForm) (parts : BodyParts) (walk : gather schema (nothing_yet schema) ws ≡ Ok s) (known : form ≡ form_in schema) (same : parts ≡ body_parts schema ws) where
+  body-fault : body_fault schema ws ≡ fault_of_document (document_by form parts)
+  unfolding body_fault document_value
+  body-fault = rw (known, same) refl
 
-pub place-is : (protocol : Protocol) (schema : Schema) (ws : List Write) (endpoint : List ℕ) (omit : Omit) (s : Gathered) (target : List ℕ) (b : Body) → gather schema (nothing_yet schema) ws ≡ Ok s
-    → body protocol.text_of schema ws ≡ b → target_by schema endpoint s ≡ Ok target
-    → place protocol schema ws endpoint omit ≡ Some (record { method = method_of schema; target = target; headers = all_headers protocol b omit s.headers; body = b.bytes })
-unfolding place
-place-is protocol schema ws endpoint omit s target b e same filled =
-    let g = (walked schema ws s e).1 in
-    rw (same, target-is schema ws endpoint s g, filled, ← g.headers) refl
+  -- a rule of documents that the body breaks is the fault
+  pub fault-body : (f : Fault) → fault_of_document (document_by form parts) ≡ Some f → fault schema ws endpoint ≡ Some f
+  unfolding fault
+  fault-body f given = rw ((walked schema ws s walk).0, body-fault ∙ given) refl
+
+  -- where it breaks none, the target alone decides
+  fault-target : fault_of_document (document_by form parts) ≡ None → fault schema ws endpoint ≡ option_or (hole_fault (target_by schema endpoint s)) (option_or (target_fault (target_by schema endpoint s)) None)
+  unfolding fault
+  fault-target none =
+      let w = walked schema ws s walk in
+      rw (w.0, body-fault ∙ none, target-is schema ws endpoint s w.1) refl
+
+  pub fault-hole : fault_of_document (document_by form parts) ≡ None → (f : Fault) → hole_fault (target_by schema endpoint s) ≡ Some f → fault schema ws endpoint ≡ Some f
+  fault-hole none f given = fault-target none ∙ go (target_by schema endpoint s) given
+    where
+      go : (r : Result (List ℕ) (List ℕ)) → hole_fault r ≡ Some f → option_or (hole_fault r) (option_or (target_fault r) None) ≡ Some f
+      go (Ok t) given = absurd (cc given)
+      go (Err h) given = given
+
+  -- with each hole filled it is the fault of the target
+  pub fault-legal : fault_of_document (document_by form parts) ≡ None → (target : List ℕ) → target_by schema endpoint s ≡ Ok target → fault schema ws endpoint ≡ legal_fault target
+  fault-legal none target filled = fault-target none ∙ rw filled (or_none (legal_fault target))
+
+  -- and the request
+  pub place-is : (protocol : Protocol) (omit : Omit) (target bytes : List ℕ) → bytes ≡ bytes_by form protocol.text_of parts → target_by schema endpoint s ≡ Ok target
+      → place protocol schema ws endpoint omit ≡ Some (record { method = method_of schema; target = target; headers = all_headers protocol (record { bytes = bytes; form = form }) omit s.headers; body = bytes })
+  unfolding place body
+  place-is protocol omit target bytes told filled =
+      let g = (walked schema ws s walk).1 in
+      rw (told, known, same, target-is schema ws endpoint s g, filled, ← g.headers) refl
 
 pub same_request : (m n t u : List ℕ) (g h : List (List ℕ × List ℕ)) (b c : List ℕ) → m ≡ n → t ≡ u → g ≡ h → b ≡ c
     → ◌≡◌ {A = Request} (record { method = m; target = t; headers = g; body = b }) (record { method = n; target = u; headers = h; body = c })

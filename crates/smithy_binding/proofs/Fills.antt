@@ -1,4 +1,4 @@
--- A template filled part by part is the filled template.
+-- A template, cut and filled hole by hole.
 use Rattle.std.proofs.Common.{◌≡◌, ◌≢◌, refl, ap, sym, ◌∙◌, ℕ, ◌+◌, ◌<◌, Bool, true, false, List, [], ◌∷◌, ◌++◌, append_assoc, length, Result, Ok, Err, if◌then◌else◌, codes, arith, count_by, cond, not, suc, ◌||◌, ◌-◌, Option, Some, None, MatchOption, lit<, drop, take, length-drop, nat_eq}
 use Rattle.std.specs.Borrow.{Bor}
 use Rattle.std.specs.List.{slice_split, before_first, after_first, position_or_len, onto_first, ends_with}
@@ -9,75 +9,36 @@ use Rattle.std.proofs.lemmas.List.Splits.{length-slice_split, slice_split_first}
 use Rattle.std.proofs.lemmas.Str.Pattern.{IsSplitOnceResult, split_once_first}
 use Rattle.smithy_types.specs.Texts.{found, has_byte}
 use Rattle.smithy_types.specs.Results.{then_try, then_give}
-use Rattle.smithy_schema.specs.Templates.{Hole, Template, hole_of, pieces, pieces_of_parts}
-use Rattle.smithy_binding.specs.Filling.{fill, fill_rest}
+use Rattle.smithy_schema.specs.Templates.{Hole, Template, hole_of}
+use Rattle.smithy_binding.specs.CutTemplate.{behind_hole, literal_alone}
+use Rattle.smithy_binding.specs.Filling.{fill_rest, filled_by, text_in}
 use Rattle.smithy_binding.specs.Faults.{Fault, hole_fault}
-use Rattle.smithy_binding.specs.TargetParts.{is_close, is_open, text_in, part_text, fill_parts, filled_by}
+use Rattle.smithy_binding.specs.TargetParts.{is_close, is_open}
 
-pub fill-parts : (labels : List (List ℕ × List ℕ)) (parts : List (List ℕ)) → fill (pieces_of_parts parts) labels ≡ fill_parts (λ name. found name labels) parts
-fill-parts labels [] = refl
-fill-parts labels (part ∷ []) = ap (λ (t : List ℕ). Ok t) (append-nil part)
-fill-parts labels (part ∷ next ∷ parts) = go (has_byte 123 part) (fill-parts labels (next ∷ parts))
+-- a hole further
+pub fill-more : (texts : List ℕ → Option (List ℕ)) (out out2 literal : List ℕ) (hole : Hole) (t u : Template) → u ≡ behind_hole literal hole t
+    → then_give (text_in texts hole) (λ x. (out ++ literal) ++ x) ≡ Ok out2
+    → then_give (filled_by texts u) (λ x. out ++ x) ≡ then_give (filled_by texts t) (λ x. out2 ++ x)
+fill-more texts out out2 literal hole t u e given = rw e (go (text_in texts hole) given (fill_rest texts t.rest))
   where
-    later : Template
-    later = pieces_of_parts (next ∷ parts)
-
-    texts : List ℕ → Option (List ℕ)
-    texts name = found name labels
-
-    -- a hole: its text stands between
-    with_hole : (hole : Hole) (before : List ℕ) (text rest : Result (List ℕ) (List ℕ))
-        → then_give (then_try text (λ t. then_give rest (λ r. t ++ later.first ++ r))) (λ r. before ++ r)
-        ≡ then_try (then_give text (λ t. before ++ t)) (λ t. then_give (then_give rest (λ r. later.first ++ r)) (λ r. t ++ r))
-    with_hole hole before (Err h) rest = refl
-    with_hole hole before (Ok t) (Err h) = refl
-    with_hole hole before (Ok t) (Ok r) = ap (λ (x : List ℕ). Ok x) (ap (λ (x : List ℕ). before ++ x) (append_assoc t later.first r) ∙ sym (append_assoc before t (later.first ++ r)))
-
-    without_hole : (rest : Result (List ℕ) (List ℕ))
-        → then_give rest (λ r. (part ++ codes "}" ++ later.first) ++ r) ≡ then_give (then_give rest (λ r. later.first ++ r)) (λ r. (part ++ codes "}") ++ r)
-    without_hole (Err h) = refl
-    without_hole (Ok r) = ap (λ (x : List ℕ). Ok x) (append_assoc (part ++ codes "}") later.first r)
-
-    go : (b : Bool) → then_give (fill_rest labels later.rest) (λ rest. later.first ++ rest) ≡ fill_parts texts (next ∷ parts)
-        → fill (if b
-        then record { first = before_first is_open part; rest = record { hole = hole_of (after_first is_open part); literal = later.first } ∷ later.rest }
-        else record { first = part ++ codes "}" ++ later.first; rest = later.rest }) labels
-        ≡ then_try (if b then then_give (text_in texts (hole_of (after_first is_open part))) (λ text. before_first is_open part ++ text) else Ok (part ++ codes "}"))
-        (λ text. then_give (fill_parts texts (next ∷ parts)) (λ rest. text ++ rest))
-    go true e = rw (← e) (with_hole (hole_of (after_first is_open part)) (before_first is_open part) (text_in texts (hole_of (after_first is_open part))) (fill_rest labels later.rest))
-    go false e = rw (← e) (without_hole (fill_rest labels later.rest))
-
--- there is always a part
-first_part : (text : List ℕ) → (part : List ℕ) × (parts : List (List ℕ)) × (slice_split is_close text ≡ part ∷ parts)
-first_part text = go (slice_split is_close text) refl
-  where
-    go : (ps : List (List ℕ)) → slice_split is_close text ≡ ps → (part : List ℕ) × (parts : List (List ℕ)) × (ps ≡ part ∷ parts)
-    go [] e = absurd (let n : length (slice_split is_close text) ≡ count_by is_close text + 1 = length-slice_split is_close text in let z : length (slice_split is_close text) ≡ 0 = ap length e in omega arith)
-    go (p ∷ ps) e = (p, ps, refl)
-
-given_twice : (out t out2 : List ℕ) (rest : Result (List ℕ) (List ℕ)) → (out ++ t) ≡ out2 → then_give (then_give rest (λ r. t ++ r)) (λ r. out ++ r) ≡ then_give rest (λ r. out2 ++ r)
-given_twice out t out2 (Err h) e = refl
-given_twice out t out2 (Ok r) e = ap (λ (x : List ℕ). Ok x) (sym (append_assoc out t r) ∙ ap (λ (x : List ℕ). x ++ r) e)
-
--- a part further
-pub fill-more : (texts : List ℕ → Option (List ℕ)) (out out2 rest part behind : List ℕ) → slice_split is_close rest ≡ part ∷ slice_split is_close behind
-    → then_give (part_text texts part) (λ t. out ++ t) ≡ Ok out2
-    → then_give (fill_parts texts (slice_split is_close rest)) (λ t. out ++ t) ≡ then_give (fill_parts texts (slice_split is_close behind)) (λ t. out2 ++ t)
-fill-more texts out out2 rest part behind e given =
-    let next = first_part behind in
-    rw (e, next.2) (go (part_text texts part) given (fill_parts texts (next.0 ∷ next.1)))
-  where
-    go : (text : Result (List ℕ) (List ℕ)) → then_give text (λ t. out ++ t) ≡ Ok out2 → (later : Result (List ℕ) (List ℕ))
-        → then_give (then_try text (λ t. then_give later (λ r. t ++ r))) (λ t. out ++ t) ≡ then_give later (λ t. out2 ++ t)
+    go : (text : Result (List ℕ) (List ℕ)) → then_give text (λ x. (out ++ literal) ++ x) ≡ Ok out2 → (later : Result (List ℕ) (List ℕ))
+        → then_give (then_give (then_try text (λ x. then_give later (λ y. x ++ t.first ++ y))) (λ y. literal ++ y)) (λ y. out ++ y) ≡ then_give (then_give later (λ y. t.first ++ y)) (λ y. out2 ++ y)
     go (Err h) given later = absurd (cc given)
-    go (Ok t) given later = given_twice out t out2 later (cc given)
+    go (Ok x) given (Err h) = refl
+    go (Ok x) given (Ok y) =
+        let made : (out ++ literal) ++ x ≡ out2 = cc given in
+        ap (λ (z : List ℕ). Ok z)
+        (ap (λ (z : List ℕ). out ++ (literal ++ z)) (append_assoc x t.first y)
+        ∙ sym (append_assoc out literal (x ++ (t.first ++ y))) ∙ sym (append_assoc (out ++ literal) x (t.first ++ y)) ∙ ap (λ (z : List ℕ). z ++ (t.first ++ y)) made)
 
 -- a hole without a text
-pub fill-stop : (texts : List ℕ → Option (List ℕ)) (out rest part behind hole : List ℕ) → slice_split is_close rest ≡ part ∷ slice_split is_close behind
-    → part_text texts part ≡ Err hole → then_give (fill_parts texts (slice_split is_close rest)) (λ t. out ++ t) ≡ Err hole
-fill-stop texts out rest part behind hole e given =
-    let next = first_part behind in
-    rw (e, next.2, given) refl
+pub fill-stop : (texts : List ℕ → Option (List ℕ)) (out literal name : List ℕ) (hole : Hole) (t u : Template) → u ≡ behind_hole literal hole t
+    → text_in texts hole ≡ Err name → then_give (filled_by texts u) (λ x. out ++ x) ≡ Err name
+fill-stop texts out literal name hole t u e given = rw (e, given) refl
+
+-- no further hole
+pub fill-end : (texts : List ℕ → Option (List ℕ)) (out rest : List ℕ) (u : Template) → u ≡ literal_alone rest → then_give (filled_by texts u) (λ x. out ++ x) ≡ Ok (out ++ rest)
+fill-end texts out rest u e = rw e (ap (λ (x : List ℕ). Ok (out ++ x)) (append-nil rest))
 
 pub split_none : (xs : List ℕ) → position_or_len is_close xs ≡ length xs → slice_split is_close xs ≡ xs ∷ []
 split_none [] e = refl
@@ -144,26 +105,10 @@ not_greedy text no_name = go (ends_with nat_eq text (codes "+")) refl
     go true e = absurd (no_name (take (length text - 1) text) (sym (take-append-drop (length text - 1) text) ∙ ap (λ t. take (length text - 1) text ++ t) (sym (same_from_test (codes "+") (drop (length text - 1) text) (sym e)))))
     go false e = refl
 
--- the fault of a hole in the next part is the fault of the whole
-pub fill-fault : (texts : List ℕ → Option (List ℕ)) (out rest part behind : List ℕ) (f : Fault) → slice_split is_close rest ≡ part ∷ slice_split is_close behind
-    → hole_fault (part_text texts part) ≡ Some f → hole_fault (then_give (fill_parts texts (slice_split is_close rest)) (λ t. out ++ t)) ≡ Some f
-fill-fault texts out rest part behind f e given = go (part_text texts part) refl given
-  where
-    go : (r : Result (List ℕ) (List ℕ)) → part_text texts part ≡ r → hole_fault r ≡ Some f → hole_fault (then_give (fill_parts texts (slice_split is_close rest)) (λ t. out ++ t)) ≡ Some f
-    go (Err hole) same told = ap hole_fault (fill-stop texts out rest part behind hole e same) ∙ told
-    go (Ok t) same told = absurd (cc told)
-
 -- the fault of a hole, with what stands behind the template
 pub hole-given : (r : Result (List ℕ) (List ℕ)) (behind : List ℕ → List ℕ) (f : Fault) → hole_fault r ≡ Some f → hole_fault (then_give r behind) ≡ Some f
 hole-given (Ok t) behind f e = absurd (cc e)
 hole-given (Err h) behind f e = e
-
-pub fill-end : (texts : List ℕ → Option (List ℕ)) (out rest : List ℕ) → slice_split is_close rest ≡ rest ∷ [] → then_give (fill_parts texts (slice_split is_close rest)) (λ t. out ++ t) ≡ Ok (out ++ rest)
-fill-end texts out rest e = rw e refl
-
-pub fill-pieces : (template : List ℕ) (labels : List (List ℕ × List ℕ)) → fill (pieces template) labels ≡ filled_by (λ name. found name labels) template
-unfolding pieces
-fill-pieces template labels = fill-parts labels (slice_split is_close template)
 
 abbrev pub is_plain : List ℕ → Hole → Type 0
 is_plain text hole = hole ≡ record { name = text; greedy = false }
@@ -176,4 +121,4 @@ pub greedy_cases : (text : List ℕ) (r : Option (Bor (List ℕ))) → MatchOpti
 greedy_cases text None h = not_greedy text h
 greedy_cases text (Some x) h = rw h (greedy x.now)
 
-pub ruleset filling = (fill-more, fill-fault, fill-end)
+pub ruleset filling = (fill-more, fill-end)

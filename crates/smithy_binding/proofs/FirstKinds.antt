@@ -10,10 +10,10 @@ use Rattle.smithy_serde.specs.Fits.{fits, fits_member, is_null, kind_takes}
 use Rattle.smithy_serde.specs.Values.{Value, list, Writes}
 use Rattle.smithy_serde.specs.Values as value
 use Rattle.smithy_binding.specs.Bindings.{pairs_at, query_names}
-use Rattle.smithy_binding.specs.Checked.{is_header_kind, has_element, has_label_kind, has_query_kind, has_header_kind, has_bound_kind, is_plain_string, is_text_map}
+use Rattle.smithy_binding.specs.Checked.{is_header_kind, has_element, has_label_kind, has_query_kind, has_header_kind, has_bound_kind, is_plain_string, is_text_map, has_map_kind}
 use Rattle.smithy_binding.specs.Faults.{is_placed_at}
 use Rattle.smithy_binding.specs.Gather.{Gathered}
-use Rattle.smithy_binding.specs.Placed.{has_map_kind, has_placed_kind, is_text_binding, is_list_binding, takes_map, placed_first, IsSingle}
+use Rattle.smithy_binding.specs.Placed.{has_placed_kind, is_text_binding, is_list_binding, takes_map, placed_first, IsSingle}
 use Rattle.smithy_binding.specs.TargetParts.{queries}
 use Rattle.smithy_binding.proofs.FittingKinds.{fits-some}
 

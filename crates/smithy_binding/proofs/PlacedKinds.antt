@@ -4,8 +4,8 @@ use Rattle.std.specs.List.{list_all}
 use Rattle.std.proofs.lemmas.Bool.{and_parts, and_from}
 use Rattle.std.proofs.lemmas.List.Sums.{list_all-from_AllPass}
 use Rattle.smithy_schema.specs.Nodes.{Schema, members_of}
-use Rattle.smithy_binding.specs.Checked.{has_bound_kind, is_text_map, members_with, checked_input}
-use Rattle.smithy_binding.specs.Placed.{has_map_kind, has_placed_kind}
+use Rattle.smithy_binding.specs.Checked.{has_bound_kind, is_text_map, has_map_kind, members_with, checked_input}
+use Rattle.smithy_binding.specs.Placed.{has_placed_kind}
 use Rattle.smithy_binding.proofs.CheckedLaws.{IsCheckedInput-from_test}
 use Rattle.smithy_binding.proofs.JointTests.{all-filter}
 

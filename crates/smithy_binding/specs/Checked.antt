@@ -1,10 +1,11 @@
 -- Schemas that a request can be placed by (Smithy, HTTP protocol bindings: where each trait may stand, and beside which).
+use denote.Enum.Declared.{tag_of}
 use Rattle.std.specs.Prelude.{◌≡◌, ℕ, ◌+◌, nat_eq, nat_le, Bool, true, false, not, ◌&&◌, ◌||◌, ◌==◌, codes, List, length, map, filter, filter_map, Option, Some, None, is_some, is_none, IsTrue, All}
 use Rattle.std.specs.List.{list_all, list_any, starts_with}
-use Rattle.std.specs.Option.{option_map_or}
+use Rattle.std.specs.Option.{option_eq, option_map_or}
 use Rattle.std.specs.Str.{str_to_ascii_lowercase}
 use Rattle.smithy_ids.specs.declared.traits.TimestampFormat.{TimestampFormat}
-use Rattle.smithy_ids.specs.declared.traits.TimestampFormat.TheVariants.{EpochSeconds, DateTime, HttpDate}
+use Rattle.smithy_ids.specs.contracts.traits.TimestampFormat.{the_type}
 use Rattle.smithy_types.specs.Texts.{are_distinct, AreDistinct}
 use Rattle.smithy_types.specs.Grammars.{is_token}
 use Rattle.smithy_ids.specs.declared.shape_type.ShapeType.{ShapeType}
@@ -73,16 +74,13 @@ has_header_kind m = is_none m.node.traits.http_header || is_header_kind m.node.k
 abbrev pub has_bound_kind : Schema → Bool
 has_bound_kind m = has_label_kind m && has_query_kind m && has_header_kind m
 
--- a number for each time format and for none, so that formats can be compared (timestampFormat)
-abbrev pub format_number : Option TimestampFormat → ℕ
-format_number None = 0
-format_number (Some EpochSeconds) = 1
-format_number (Some DateTime) = 2
-format_number (Some HttpDate) = 3
+-- both nodes name one time format, as `==` of formats tells it, or neither names one (timestampFormat)
+abbrev pub same_format : Option TimestampFormat → Option TimestampFormat → Bool
+same_format f g = option_eq (λ x y. tag_of the_type x == tag_of the_type y) f g
 
 -- the element has no media type, and the member's time format or none where that has none (mediaType, timestampFormat)
 abbrev pub is_plain_element : Schema → Schema → Bool
-is_plain_element m e = is_none e.node.traits.media_type && (format_number e.node.traits.timestamp_format == format_number m.node.traits.timestamp_format)
+is_plain_element m e = is_none e.node.traits.media_type && same_format e.node.traits.timestamp_format m.node.traits.timestamp_format
 
 -- so is the element of a list, if it has one
 abbrev pub is_element_plain : Schema → Bool
@@ -168,21 +166,33 @@ abbrev pub has_sound_http : Schema → Bool
 has_sound_http schema =
     option_map_or (λ h. is_token h.method && is_clear h.uri schema && starts_with nat_eq h.uri (codes "/")) schema.node.traits.http true
 
+-- a map in the headers or the query is one from texts to texts (httpPrefixHeaders, httpQueryParams)
+abbrev pub has_map_kind : Schema → Bool
+has_map_kind m = not (is_some m.node.traits.http_prefix_headers || m.node.traits.http_query_params) || is_text_map m
+
+-- what is asked of each member
+abbrev pub is_sound_member : Schema → Bool
+is_sound_member m = cites_nodes m && is_bound_once m && is_writable m && has_bound_kind m && has_plain_elements m && has_map_kind m
+
+-- the place of each member has a node
+abbrev pub has_defined_members : Schema → Bool
+has_defined_members schema = list_all (λ p. is_some (at_place schema.table p)) schema.node.members
+
+-- a structure whose members are defined and have distinct names
+abbrev pub has_named_members : Schema → Bool
+has_named_members schema = same_kind schema.node.kind kind.Structure && has_defined_members schema && has_distinct_names schema
+
 -- a checked input schema, as a test
 unfoldable pub checked_input : Schema → Bool
 checked_input schema =
-    same_kind schema.node.kind kind.Structure
-    && has_cited_nodes schema
-    && has_distinct_names schema
-    && list_all is_bound_once (members_of schema)
-    && list_all is_writable (members_of schema)
-    && list_all has_bound_kind (members_of schema)
-    && list_all has_plain_elements (members_of schema)
+    has_named_members schema
+    && (list_all is_sound_member (members_of schema)
     && has_sound_payload schema
-    && has_sound_maps schema
-    && has_sound_names schema
+    && has_at_most_one (λ t. is_some t.http_prefix_headers) schema
+    && has_at_most_one (λ t. t.http_query_params) schema
     && has_true_flags schema
-    && has_sound_http schema
+    && has_sound_names schema
+    && has_sound_http schema)
 
 -- a checked input schema, as facts, one for each rule
 pub record IsCheckedInput (schema : Schema) : Type 0 where

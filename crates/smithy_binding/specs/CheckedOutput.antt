@@ -5,8 +5,8 @@ use Rattle.smithy_types.specs.Texts.{AreDistinct}
 use Rattle.smithy_ids.specs.declared.shape_type.ShapeType.{ShapeType}
 use Rattle.smithy_ids.specs.declared.shape_type.ShapeType.TheVariants as kind
 use Rattle.smithy_ids.specs.Kinds.{same_kind}
-use Rattle.smithy_schema.specs.Nodes.{Schema, Traits, members_of, is_response_bound}
-use Rattle.smithy_binding.specs.Checked.{has_cited_nodes, member_names, has_distinct_names, one_if, is_writable, has_header_kind, is_element_plain, members_with, has_at_most_one, is_sound_payload, is_text_map, has_sound_headers}
+use Rattle.smithy_schema.specs.Nodes.{Schema, Traits, cites_nodes, members_of, is_response_bound}
+use Rattle.smithy_binding.specs.Checked.{has_cited_nodes, has_named_members, member_names, one_if, is_writable, has_header_kind, is_element_plain, members_with, has_at_most_one, is_sound_payload, is_text_map, has_sound_headers}
 
 -- how many of the four response bindings a node has (httpHeader, httpPrefixHeaders, httpResponseCode, httpPayload)
 abbrev pub response_binding_count : Traits → ℕ
@@ -45,20 +45,28 @@ has_sound_response_code schema =
     has_at_most_one (λ t. t.http_response_code) schema
     && list_all (λ m. same_kind m.node.kind kind.Integer) (members_with (λ t. t.http_response_code) schema)
 
+-- a prefix map is one from texts to texts (httpPrefixHeaders)
+abbrev pub has_prefix_kind : Schema → Bool
+has_prefix_kind m = not (is_some m.node.traits.http_prefix_headers) || is_text_map m
+
+-- a response code is an Integer (httpResponseCode)
+abbrev pub has_code_kind : Schema → Bool
+has_code_kind m = not m.node.traits.http_response_code || same_kind m.node.kind kind.Integer
+
+-- what is asked of each member
+abbrev pub is_sound_response_member : Schema → Bool
+is_sound_response_member m =
+    cites_nodes m && is_response_bound_once m && is_writable m && has_header_kind m && has_plain_header_elements m && has_prefix_kind m && has_code_kind m
+
 -- a checked output schema, as a test
 unfoldable pub checked_output : Schema → Bool
 checked_output schema =
-    same_kind schema.node.kind kind.Structure
-    && has_cited_nodes schema
-    && has_distinct_names schema
-    && list_all is_response_bound_once (members_of schema)
-    && list_all is_writable (members_of schema)
-    && list_all has_header_kind (members_of schema)
-    && list_all has_plain_header_elements (members_of schema)
+    has_named_members schema
+    && (list_all is_sound_response_member (members_of schema)
     && has_sound_response_payload schema
-    && has_sound_prefix_map schema
-    && has_sound_headers schema
-    && has_sound_response_code schema
+    && has_at_most_one (λ t. is_some t.http_prefix_headers) schema
+    && has_at_most_one (λ t. t.http_response_code) schema
+    && has_sound_headers schema)
 
 -- a checked output schema, as facts, one for each rule
 pub record IsCheckedOutput (schema : Schema) : Type 0 where

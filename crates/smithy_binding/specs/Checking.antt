@@ -1,4 +1,4 @@
--- The tests of a schema in the order of the code.
+-- The tests of a schema over the members that the code lists.
 use Rattle.std.specs.Borrow.{Bor}
 use Rattle.std.specs.Prelude.{ℕ, Bool, false, not, ◌&&◌, ◌||◌, if◌then◌else◌, None, List, length, filter, map, find, filter_map, nat_le, nat_eq, ◌==◌, Option, option_map, is_some}
 use Rattle.std.specs.List.{list_all, list_any, starts_with}
@@ -8,15 +8,15 @@ use Rattle.smithy_types.specs.Grammars.{is_token, is_legal_target}
 use Rattle.smithy_types.specs.Texts.{are_distinct}
 use Rattle.smithy_ids.specs.declared.shape_type.ShapeType.{ShapeType}
 use Rattle.smithy_ids.specs.declared.shape_type.ShapeType.TheVariants as kind
-use Rattle.smithy_ids.specs.Kinds.{same_kind, is_structure_or_union}
-use Rattle.smithy_schema.specs.Nodes.{Schema, Traits, at_place, cites_nodes, members_of, is_bound, is_response_bound, binding_of}
+use Rattle.smithy_ids.specs.Kinds.{is_structure_or_union}
+use Rattle.smithy_schema.specs.Nodes.{Schema, Traits, is_bound, is_response_bound, binding_of}
 use Rattle.smithy_schema.specs.Templates.{pieces, holes_of, has_unclosed_brace}
 use Rattle.smithy_binding.specs.Clear.{filled_by_a, are_whole_segments, has_whole_authority, holes_named, is_greedy_last}
 use Rattle.smithy_schema.specs.References.{schema_of}
 use Rattle.smithy_schema.specs.declared.schema_ref.SchemaRef.{SchemaRef}
 use Rattle.smithy_binding.specs.Bodies.{is_payload}
-use Rattle.smithy_binding.specs.Checked.{is_bound_once, is_writable, has_header_kind, has_bound_kind, has_plain_elements, is_text_map, is_sound_payload, agrees, has_distinct_names, has_sound_headers, has_sound_names, has_sound_http}
-use Rattle.smithy_binding.specs.CheckedOutput.{is_response_bound_once, has_plain_header_elements}
+use Rattle.smithy_binding.specs.Checked.{is_sound_member, is_sound_payload, agrees}
+use Rattle.smithy_binding.specs.CheckedOutput.{is_sound_response_member}
 use Rattle.smithy_binding.specs.declared.name_check.NameKind.{NameKind}
 use Rattle.smithy_binding.specs.declared.name_check.NameKind.TheVariants as names
 use Rattle.smithy_binding.specs.declared.member_check.Direction.{Direction}
@@ -38,24 +38,6 @@ counted_test counted.ResponseCode t = t.http_response_code
 -- a prefix map or a query map
 abbrev pub is_map_binding : Traits → Bool
 is_map_binding t = is_some t.http_prefix_headers || t.http_query_params
-
--- what is asked of each member of an input
-abbrev pub is_sound_member : Schema → Bool
-is_sound_member m =
-    cites_nodes m && is_bound_once m && is_writable m && has_bound_kind m && has_plain_elements m && (not (is_map_binding m.node.traits) || is_text_map m)
-
--- a prefix map is one from texts to texts
-abbrev pub has_prefix_kind : Schema → Bool
-has_prefix_kind m = not (is_some m.node.traits.http_prefix_headers) || is_text_map m
-
--- a response code is an Integer
-abbrev pub has_code_kind : Schema → Bool
-has_code_kind m = not m.node.traits.http_response_code || same_kind m.node.kind kind.Integer
-
--- what is asked of each member of an output
-abbrev pub is_sound_response_member : Schema → Bool
-is_sound_response_member m =
-    cites_nodes m && is_response_bound_once m && is_writable m && has_header_kind m && has_plain_header_elements m && has_prefix_kind m && has_code_kind m
 
 -- what is asked of each member
 abbrev pub is_sound_in : Direction → Schema → Bool
@@ -107,19 +89,6 @@ are_sound_response ms =
     && has_sound_payload_in direction.Response ms
     && nat_le (count_of counted.Prefix ms) 1
     && nat_le (count_of counted.ResponseCode ms) 1
-
-abbrev pub has_defined_members : Schema → Bool
-has_defined_members schema = list_all (λ p. is_some (at_place schema.table p)) schema.node.members
-
--- a structure whose members are defined and have distinct names
-abbrev pub has_named_members : Schema → Bool
-has_named_members schema = same_kind schema.node.kind kind.Structure && has_defined_members schema && has_distinct_names schema
-
-abbrev pub checked_in_order : Schema → Bool
-checked_in_order schema = has_named_members schema && (are_sound schema (members_of schema) && has_sound_names schema && has_sound_http schema)
-
-abbrev pub checked_output_in_order : Schema → Bool
-checked_output_in_order schema = has_named_members schema && (are_sound_response (members_of schema) && has_sound_headers schema)
 
 abbrev pub texts_shown : List (Bor (List ℕ)) → List (List ℕ)
 texts_shown names = map (λ n. n.now) names

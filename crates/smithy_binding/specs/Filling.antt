@@ -24,12 +24,19 @@ filled_hole hole None = Err hole.name
 filled_hole hole (Some []) = Err hole.name
 filled_hole hole (Some (b ∷ text)) = Ok (hole_text hole (b ∷ text))
 
--- the holes and the literals behind them, in order
-abbrev pub fill_rest : List (List ℕ × List ℕ) → List Piece → Result (List ℕ) (List ℕ)
-fill_rest labels [] = Ok []
-fill_rest labels (p ∷ ps) =
-    then_try (filled_hole p.hole (found p.hole.name labels)) λ text. then_give (fill_rest labels ps) λ rest. text ++ p.literal ++ rest
+-- the hole with its text, where `texts` gives the text of a label by its name
+abbrev pub text_in : (List ℕ → Option (List ℕ)) → Hole → Result (List ℕ) (List ℕ)
+text_in texts hole = filled_hole hole (texts hole.name)
 
--- The template with the text of each hole, which the labels have under its name. The name of the first hole without a non-empty text is the error.
+-- the holes and the literals behind them, in order
+abbrev pub fill_rest : (List ℕ → Option (List ℕ)) → List Piece → Result (List ℕ) (List ℕ)
+fill_rest texts [] = Ok []
+fill_rest texts (p ∷ ps) = then_try (text_in texts p.hole) λ text. then_give (fill_rest texts ps) λ rest. text ++ p.literal ++ rest
+
+-- The template with the text of each hole. The name of the first hole without a non-empty text is the error.
+abbrev pub filled_by : (List ℕ → Option (List ℕ)) → Template → Result (List ℕ) (List ℕ)
+filled_by texts template = then_give (fill_rest texts template.rest) λ rest. template.first ++ rest
+
+-- the texts are those that the labels have under the names
 abbrev pub fill : Template → List (List ℕ × List ℕ) → Result (List ℕ) (List ℕ)
-fill template labels = then_give (fill_rest labels template.rest) λ rest. template.first ++ rest
+fill template labels = filled_by (λ name. found name labels) template

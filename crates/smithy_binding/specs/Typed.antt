@@ -5,6 +5,7 @@ use Rattle.std.specs.Option.{option_map_or}
 use Rattle.std.specs.Str.{str_to_ascii_lowercase}
 use Rattle.smithy_types.specs.Texts.{found, same_text, is_one_of, are_distinct}
 use Rattle.smithy_types.specs.Documents.{Document, nesting}
+use Rattle.smithy_ids.specs.declared.traits.TimestampFormat.{TimestampFormat}
 use Rattle.smithy_ids.specs.Kinds.{is_structure_or_union}
 use Rattle.smithy_schema.specs.Nodes.{Schema, element_of, members_of, Binding, to_header, binding_of, is_bound}
 use Rattle.smithy_serde.specs.Values.{Value, list, Writes, Write, list_of, keys_of}
@@ -19,20 +20,20 @@ use Rattle.smithy_binding.specs.Bodies.{Body, is_payload, body, document_value}
 use Rattle.smithy_binding.specs.Placing.{Protocol, Omit, adds_content_type, adds_content_length, template_of}
 use Rattle.smithy_binding.specs.Faults.{fault}
 use Rattle.smithy_binding.specs.Clear.{is_clear}
-use Rattle.smithy_binding.specs.Checked.{format_number}
+use Rattle.smithy_binding.specs.Checked.{same_format}
 
 -- a map has each key once
 abbrev pub has_distinct_keys : Value → Bool
 has_distinct_keys (value.map ws) = are_distinct (keys_of ws)
 has_distinct_keys _ = true
 
--- the time format of the schema's element node, as a number (timestampFormat)
-abbrev pub element_format : Schema → ℕ
-element_format m = option_map_or (λ e. format_number e.node.traits.timestamp_format) (element_of m) 0
+-- the time format of the schema's element node (timestampFormat)
+abbrev pub element_format : Schema → Option TimestampFormat
+element_format m = option_and_then (λ e. e.node.traits.timestamp_format) (element_of m)
 
 -- the elements of a list are written with the time format of the schema's element node
 abbrev pub has_own_formats : Schema → Value → Bool
-has_own_formats m (list ws) = list_all (λ w. format_number w.label.time_format == element_format m) (list_of ws)
+has_own_formats m (list ws) = list_all (λ w. same_format w.label.time_format (element_format m)) (list_of ws)
 has_own_formats m _ = true
 
 -- what is asked of the value of a bound member beside fitting

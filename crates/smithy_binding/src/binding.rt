@@ -13,21 +13,14 @@ use smithy_schema::{Binding, SchemaRef};
 pub fn is_bound(member: SchemaRef<'_>) -> bool
     ensures { result ≡ bound (schema_of member.entry) }
 {
-    match member.request_binding() {
-        Binding::Body => false,
-        _ => true,
-    }
+    !matches!(member.request_binding(), Binding::Body)
 }
 
 /// Whether a member with this binding stands in the target or the headers.
 pub fn is_placed(binding: Binding<'_>) -> bool
     ensures { result ≡ is_placed_at (binding_shown binding.entry) }
 {
-    match binding {
-        Binding::Payload => false,
-        Binding::Body => false,
-        _ => true,
-    }
+    !matches!(binding, Binding::Payload | Binding::Body)
 }
 
 // Whether an unbound member stands at the position.
@@ -64,8 +57,5 @@ pub fn has_unbound_members(schema: SchemaRef<'_>) -> bool
 pub fn name_of<'t>(member: SchemaRef<'t>) -> &'t str
     ensures { result.now ≡ name (schema_of member.entry) }
 {
-    match member.member_name() {
-        Some(name) => name,
-        None => "",
-    }
+    member.member_name().unwrap_or("")
 }

@@ -28,12 +28,7 @@ impl BodyForm {
     pub fn is_codec(self) -> bool
         ensures { result ≡ is_codec self }
     {
-        match self {
-            BodyForm::Raw => false,
-            BodyForm::Payload => true,
-            BodyForm::Unbound => true,
-            BodyForm::Nothing => false,
-        }
+        matches!(self, BodyForm::Payload | BodyForm::Unbound)
     }
 }
 
@@ -93,10 +88,8 @@ fn payload_form(schema: SchemaRef<'_>, kind: ShapeType) -> BodyForm
     ensures { result ≡ form_at (Some kind) (has_unbound (schema_of schema.entry)) }
 {
     match kind {
-        ShapeType::Blob => BodyForm::Raw,
-        ShapeType::String => BodyForm::Raw,
-        ShapeType::Structure => BodyForm::Payload,
-        ShapeType::Union => BodyForm::Payload,
+        ShapeType::Blob | ShapeType::String => BodyForm::Raw,
+        ShapeType::Structure | ShapeType::Union => BodyForm::Payload,
         _ => unbound_form(has_unbound_members(schema)),
     }
 }

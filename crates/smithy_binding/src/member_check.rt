@@ -4,14 +4,15 @@ ghost use Rattle.smithy_ids.specs.Kinds.{same_kind, is_scalar as scalar, is_unwr
 ghost use Rattle.smithy_ids.specs.declared.shape_type.ShapeType.TheVariants as kind;
 ghost use Rattle.smithy_schema.specs.Nodes.{element_of, binding_of as binding};
 ghost use Rattle.smithy_schema.specs.References.{schema_of};
-ghost use Rattle.smithy_binding.specs.Checked.{one_if as one, is_bound_once as bound_once, is_header_kind as header_kind, has_label_kind as label_kind, has_query_kind as query_kind, has_header_kind as header_test, format_number as number, is_plain_element as plain_element, is_element_plain as element_plain, has_plain_elements as plain_elements, is_plain_string as plain_string, is_text_map as text_map, is_payload_kind as payload_test};
-ghost use Rattle.smithy_binding.specs.CheckedOutput.{is_response_bound_once as response_bound_once, has_plain_header_elements as plain_header_elements};
-ghost use Rattle.smithy_binding.specs.Checking.{is_map_binding as map_binding, has_prefix_kind as prefix_kind, has_code_kind as code_kind, is_sound_member as sound_request_member, is_sound_response_member as sound_response_member, is_sound_in, is_payload_in, is_bound_in as bound_in};
+ghost use Rattle.smithy_binding.specs.Checked.{one_if as one, is_bound_once as bound_once, is_header_kind as header_kind, has_label_kind as label_kind, has_query_kind as query_kind, has_header_kind as header_test, is_plain_element as plain_element, is_element_plain as element_plain, has_plain_elements as plain_elements, is_plain_string as plain_string, is_text_map as text_map, is_payload_kind as payload_test, is_sound_member as sound_request_member};
+ghost use Rattle.smithy_binding.specs.CheckedOutput.{is_response_bound_once as response_bound_once, has_plain_header_elements as plain_header_elements, has_prefix_kind as prefix_kind, has_code_kind as code_kind, is_sound_response_member as sound_response_member};
+ghost use Rattle.smithy_binding.specs.Checking.{is_map_binding as map_binding, is_sound_in, is_payload_in, is_bound_in as bound_in};
 ghost use Rattle.smithy_binding.specs.Bodies.{is_payload as payload};
 
 use crate::binding::is_bound;
-use smithy_ids::{ShapeType, TimestampFormat};
+use smithy_ids::ShapeType;
 use smithy_schema::{Binding, SchemaRef};
+use smithy_strings::format_in;
 
 /// Whose members they are: those of an input stand in a request, those of an output in a response.
 #[derive(Clone, Copy)]
@@ -54,26 +55,18 @@ fn is_response_bound_once(member: SchemaRef<'_>) -> bool
 fn is_scalar(kind: ShapeType) -> bool
     ensures { result ≡ scalar kind }
 {
-    match kind {
-        ShapeType::Boolean => true,
-        ShapeType::Byte => true,
-        ShapeType::Short => true,
-        ShapeType::Integer => true,
-        ShapeType::Long => true,
-        ShapeType::BigInteger => true,
-        ShapeType::BigDecimal => true,
-        ShapeType::String => true,
-        ShapeType::Timestamp => true,
-        ShapeType::Float => false,
-        ShapeType::Double => false,
-        ShapeType::Blob => false,
-        ShapeType::Document => false,
-        ShapeType::List => false,
-        ShapeType::Map => false,
-        ShapeType::Structure => false,
-        ShapeType::Union => false,
-        ShapeType::Member => false,
-    }
+    matches!(
+        kind,
+        ShapeType::Boolean
+            | ShapeType::Byte
+            | ShapeType::Short
+            | ShapeType::Integer
+            | ShapeType::Long
+            | ShapeType::BigInteger
+            | ShapeType::BigDecimal
+            | ShapeType::String
+            | ShapeType::Timestamp
+    )
 }
 
 fn is_header_kind(kind: ShapeType) -> bool
@@ -89,23 +82,17 @@ fn is_header_kind(kind: ShapeType) -> bool
 fn is_unwritable(kind: ShapeType) -> bool
     ensures { result ≡ unwritable kind }
 {
-    match kind {
-        ShapeType::Float => true,
-        ShapeType::Double => true,
-        ShapeType::Member => true,
-        _ => false,
-    }
+    matches!(
+        kind,
+        ShapeType::Float | ShapeType::Double | ShapeType::Member
+    )
 }
 
 /// A structure or a union.
 pub fn is_structure_or_union(kind: ShapeType) -> bool
     ensures { result ≡ struct_or_union kind }
 {
-    match kind {
-        ShapeType::Structure => true,
-        ShapeType::Union => true,
-        _ => false,
-    }
+    matches!(kind, ShapeType::Structure | ShapeType::Union)
 }
 
 /// The kinds of a payload.
@@ -113,8 +100,7 @@ pub fn is_payload_kind(kind: ShapeType) -> bool
     ensures { result ≡ payload_test kind }
 {
     match kind {
-        ShapeType::Blob => true,
-        ShapeType::String => true,
+        ShapeType::Blob | ShapeType::String => true,
         _ => is_structure_or_union(kind),
     }
 }
@@ -159,24 +145,10 @@ fn has_header_kind(member: SchemaRef<'_>) -> bool
     }
 }
 
-// A number for each time format and for none.
-fn format_number(member: SchemaRef<'_>) -> u8
-    ensures { result ≡ number (schema_of member.entry).node.traits.timestamp_format }
-{
-    match member.timestamp_format() {
-        None => 0,
-        Some(format) => match format.format() {
-            TimestampFormat::EpochSeconds => 1,
-            TimestampFormat::DateTime => 2,
-            TimestampFormat::HttpDate => 3,
-        },
-    }
-}
-
 fn is_plain_element(member: SchemaRef<'_>, element: SchemaRef<'_>) -> bool
     ensures { result ≡ plain_element (schema_of member.entry) (schema_of element.entry) }
 {
-    element.media_type().is_none() && format_number(element) == format_number(member)
+    element.media_type().is_none() && format_in(element) == format_in(member)
 }
 
 // The elements, where the member is a list, have no media type and the member's time format.
@@ -254,10 +226,7 @@ fn has_prefix_kind(member: SchemaRef<'_>) -> bool
 fn is_integer(member: SchemaRef<'_>) -> bool
     ensures { result ≡ same_kind (schema_of member.entry).node.kind kind.Integer }
 {
-    match member.shape_type() {
-        ShapeType::Integer => true,
-        _ => false,
-    }
+    matches!(member.shape_type(), ShapeType::Integer)
 }
 
 fn has_code_kind(member: SchemaRef<'_>) -> bool
@@ -294,10 +263,7 @@ pub fn is_sound_member(member: SchemaRef<'_>, way: Direction) -> bool
 fn is_request_payload(member: SchemaRef<'_>) -> bool
     ensures { result ≡ payload (binding (schema_of member.entry)) }
 {
-    match member.request_binding() {
-        Binding::Payload => true,
-        _ => false,
-    }
+    matches!(member.request_binding(), Binding::Payload)
 }
 
 /// Whether the member is the payload (httpPayload).

@@ -5,8 +5,8 @@ ghost use Rattle.smithy_ids.specs.Kinds.{same_kind};
 ghost use Rattle.smithy_ids.specs.declared.shape_type.ShapeType.TheVariants as kind;
 ghost use Rattle.smithy_schema.specs.Nodes.{members_of};
 ghost use Rattle.smithy_schema.specs.References.{schema_of};
-ghost use Rattle.smithy_binding.specs.Checked.{is_sound_payload as sound_payload};
-ghost use Rattle.smithy_binding.specs.Checking.{shown, counted_test, count_of, is_sound_in, payload_in, has_unbound_in, has_sound_payload_in, has_defined_members, has_named_members};
+ghost use Rattle.smithy_binding.specs.Checked.{is_sound_payload as sound_payload, has_defined_members, has_named_members};
+ghost use Rattle.smithy_binding.specs.Checking.{shown, counted_test, count_of, is_sound_in, payload_in, has_unbound_in, has_sound_payload_in};
 
 use crate::member_check::{Direction, is_bound_in, is_payload, is_payload_kind, is_sound_member};
 use crate::name_check::have_distinct_names;
@@ -53,12 +53,7 @@ pub fn count(members: &[SchemaRef<'_>], which: Counted) -> usize
 pub fn are_sound_members(members: &[SchemaRef<'_>], way: Direction) -> bool
     ensures { result ≡ list_all (is_sound_in way) (shown members.now) }
 {
-    for member in members {
-        if !is_sound_member(*member, way) {
-            return false;
-        }
-    }
-    true
+    members.iter().all(|member| is_sound_member(*member, way))
 }
 
 /// The kind of the payload member, if there is one.
@@ -77,12 +72,7 @@ pub fn payload_kind(members: &[SchemaRef<'_>], way: Direction) -> Option<ShapeTy
 pub fn has_unbound_member(members: &[SchemaRef<'_>], way: Direction) -> bool
     ensures { result ≡ has_unbound_in way (shown members.now) }
 {
-    for member in members {
-        if !is_bound_in(*member, way) {
-            return true;
-        }
-    }
-    false
+    members.iter().any(|member| !is_bound_in(*member, way))
 }
 
 // A payload, if there is one, has a payload's kind and no unbound member beside it.
@@ -106,10 +96,7 @@ pub fn has_sound_payload(members: &[SchemaRef<'_>], way: Direction) -> bool
 fn is_structure(schema: SchemaRef<'_>) -> bool
     ensures { result ≡ same_kind (schema_of schema.entry).node.kind kind.Structure }
 {
-    match schema.shape_type() {
-        ShapeType::Structure => true,
-        _ => false,
-    }
+    matches!(schema.shape_type(), ShapeType::Structure)
 }
 
 // The members, if each of their places has a node.

@@ -28,22 +28,13 @@ fn name_under<'t>(member: SchemaRef<'t>, kind: NameKind) -> Option<&'t str>
 {
     match kind {
         NameKind::Member => member.member_name(),
-        NameKind::Label => match member.http_label() {
-            Some(_) => member.member_name(),
-            None => None,
-        },
-        NameKind::Header => match member.http_header() {
-            Some(header) => Some(header.value()),
-            None => None,
-        },
-        NameKind::Prefix => match member.http_prefix_headers() {
-            Some(prefix) => Some(prefix.value()),
-            None => None,
-        },
-        NameKind::Query => match member.http_query() {
-            Some(query) => Some(query.value()),
-            None => None,
-        },
+        NameKind::Label => {
+            member.http_label()?;
+            member.member_name()
+        }
+        NameKind::Header => Some(member.http_header()?.value()),
+        NameKind::Prefix => Some(member.http_prefix_headers()?.value()),
+        NameKind::Query => Some(member.http_query()?.value()),
     }
 }
 
@@ -105,24 +96,16 @@ fn as_texts<'s>(alloc: Global, names: &'s [String]) -> Result<Vec<&'s str>, Allo
 fn are_tokens(names: &[&str]) -> bool
     ensures { result ≡ list_all token (texts_shown names.now) }
 {
-    for name in names {
-        if !is_token(name) {
-            return false;
-        }
-    }
-    true
+    names.iter().all(|name| is_token(name))
 }
 
 // Whether the prefix begins one of the names.
 fn begins_any(prefix: &str, names: &[&str]) -> bool
     ensures { result ≡ list_any (λ name. starts_with nat_eq name prefix.now) (texts_shown names.now) }
 {
-    for name in names {
-        if name.as_bytes().starts_with(prefix.as_bytes()) {
-            return true;
-        }
-    }
-    false
+    names
+        .iter()
+        .any(|name| name.as_bytes().starts_with(prefix.as_bytes()))
 }
 
 fn is_sound_prefix(alloc: Global, headers: &[&str], prefix: &str) -> Result<bool, AllocError>

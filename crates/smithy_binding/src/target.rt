@@ -1,19 +1,18 @@
 // A request target: the template with its holes filled (Smithy, HTTP protocol bindings, httpLabel).
-ghost use Rattle.std.specs.Prelude.{◌≡◌, ◌∷◌, ◌++◌, ◌<◌, [], Err, IfOk, IfErr, OnOk, Ok, Some, MatchOption, ℕ, List, true, false, codes, length, map, option_map, string_bytes};
-ghost use Rattle.std.specs.List.{slice_split, before_first, after_first};
+ghost use Rattle.std.specs.Prelude.{◌≡◌, ◌∷◌, ◌++◌, [], Err, IfOk, IfErr, OnOk, Ok, Some, MatchOption, ℕ, List, true, false, codes, length, map, option_map, string_bytes};
 ghost use Rattle.smithy_types.specs.Texts.{has_byte};
 ghost use Rattle.smithy_types.specs.Results.{then_give};
-ghost use Rattle.smithy_schema.specs.Templates.{pieces, hole_of};
-ghost use Rattle.smithy_binding.specs.Filling.{fill as filled, hole_text, keep_slashes};
+ghost use Rattle.smithy_schema.specs.Templates.{pieces};
+ghost use Rattle.smithy_binding.specs.Filling.{fill as filled, filled_by, hole_text, keep_slashes, text_in};
 ghost use Rattle.smithy_binding.specs.Faults.{hole_fault};
 ghost use Rattle.smithy_binding.specs.Refusing.{TellsFault, missing_hole as missing_fault};
 ghost use Rattle.smithy_binding.specs.Seen.{label_pair};
 ghost use Rattle.smithy_binding.specs.LabelTexts.{text_under};
-ghost use Rattle.smithy_binding.specs.TargetParts.{text_in, part_text, filled_by, separator, queries, target_behind, target_with};
+ghost use Rattle.smithy_binding.specs.TargetParts.{separator, queries, target_behind, target_with};
 
 use crate::labels::{Label, LabelTexts, text_of_label, texts_by_name};
 use crate::refusal::missing_hole;
-use crate::template::{cut_at_close, cut_at_open, greedy_name};
+use crate::template::cut_hole;
 use percent_encoding::{AsciiSet, NON_ALPHANUMERIC, ascii_set, utf8_percent_encode};
 use smithy_serde::SerdeError;
 use smithy_strings::push_escaped;
@@ -66,43 +65,6 @@ fn push_label<'l>(
     Ok(())
 }
 
-fn push_hole<'l>(
-    alloc: Global,
-    out: &mut String,
-    hole: &'l str,
-    texts: &LabelTexts<'l>,
-) -> Result<(), SerdeError>
-    ensures ok { OnOk result (then_give (text_in (text_under texts.now) (hole_of hole.now)) (λ t. string_bytes out.old ++ t) ≡ Ok (string_bytes out.new)) }
-    ensures err { IfErr result (λ e. TellsFault e (λ f. (f ≡ missing_fault (hole_of hole.now).name) × (text_in (text_under texts.now) (hole_of hole.now) ≡ Err (hole_of hole.now).name))) }
-{
-    match greedy_name(hole) {
-        Some(name) => push_label(alloc, out, name, true, texts),
-        None => push_label(alloc, out, hole, false, texts),
-    }
-}
-
-fn push_part<'l>(
-    alloc: Global,
-    out: &mut String,
-    part: &'l str,
-    texts: &LabelTexts<'l>,
-) -> Result<(), SerdeError>
-    ensures ok { OnOk result (then_give (part_text (text_under texts.now) part.now) (λ t. string_bytes out.old ++ t) ≡ Ok (string_bytes out.new)) }
-    ensures err { IfErr result (λ e. TellsFault e (λ f. hole_fault (part_text (text_under texts.now) part.now) ≡ Some f)) }
-{
-    match cut_at_open(part) {
-        Some((literal, hole)) => {
-            out.push_str(literal)?;
-            push_hole(alloc, out, hole, texts)
-        }
-        None => {
-            out.push_str(part)?;
-            out.push_str("}")?;
-            Ok(())
-        }
-    }
-}
-
 // The template with the text of each hole.
 #[tactic(auto, using(crate::proofs::Fills::filling))]
 fn fill_by<'l>(
@@ -110,13 +72,14 @@ fn fill_by<'l>(
     template: &'l str,
     texts: &LabelTexts<'l>,
 ) -> Result<String, SerdeError>
-    ensures ok { IfOk result (λ t. filled_by (text_under texts.now) template.now ≡ Ok (string_bytes t)) }
-    ensures err { IfErr result (λ e. TellsFault e (λ f. hole_fault (filled_by (text_under texts.now) template.now) ≡ Some f)) }
+    ensures ok { IfOk result (λ t. filled_by (text_under texts.now) (pieces template.now) ≡ Ok (string_bytes t)) }
+    ensures err { IfErr result (λ e. TellsFault e (λ f. hole_fault (filled_by (text_under texts.now) (pieces template.now)) ≡ Some f)) }
 {
     let mut out = String::new(alloc);
     let mut rest = template;
-    while let Some((part, behind)) = cut_at_close(rest) {
-        push_part(alloc, &mut out, part, texts)?;
+    while let Some((hole, behind)) = cut_hole(rest) {
+        out.push_str(hole.literal)?;
+        push_label(alloc, &mut out, hole.name, hole.is_greedy, texts)?;
         rest = behind;
     }
     out.push_str(rest)?;

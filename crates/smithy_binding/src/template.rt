@@ -24,7 +24,7 @@ pub struct CutTemplate<'t> {
 }
 
 // The text before a `}` and the text behind it.
-pub fn cut_at_close<'t>(text: &'t str) -> Option<(&'t str, &'t str)>
+fn cut_at_close<'t>(text: &'t str) -> Option<(&'t str, &'t str)>
     ensures { MatchOption result (slice_split is_close text.now ≡ text.now ∷ [])
         (λ x. (slice_split is_close text.now ≡ x.0.now ∷ slice_split is_close x.1.now) × (length x.1.now < length text.now)) }
 {
@@ -32,7 +32,7 @@ pub fn cut_at_close<'t>(text: &'t str) -> Option<(&'t str, &'t str)>
 }
 
 // The text before a `{` and the text behind it.
-pub fn cut_at_open<'t>(text: &'t str) -> Option<(&'t str, &'t str)>
+fn cut_at_open<'t>(text: &'t str) -> Option<(&'t str, &'t str)>
     ensures { MatchOption result (has_byte 123 text.now ≡ false)
         (λ x. (has_byte 123 text.now ≡ true) × (x.0.now ≡ before_first is_open text.now) × (x.1.now ≡ after_first is_open text.now) × (length x.1.now < length text.now)) }
 {
@@ -40,7 +40,7 @@ pub fn cut_at_open<'t>(text: &'t str) -> Option<(&'t str, &'t str)>
 }
 
 // The name of a hole that is greedy.
-pub fn greedy_name<'t>(hole: &'t str) -> Option<&'t str>
+fn greedy_name<'t>(hole: &'t str) -> Option<&'t str>
     ensures { MatchOption result (hole_of hole.now ≡ record { name = hole.now; greedy = false })
         (λ x. hole_of hole.now ≡ record { name = x.now; greedy = true }) }
 {
@@ -66,9 +66,9 @@ fn hole_behind<'t>(literal: &'t str, hole: &'t str) -> CutHole<'t>
     }
 }
 
-// The first hole, behind its literal, and the text behind it.
+/// The first hole, behind its literal, and the text behind it. Takes no memory.
 #[tactic(auto, using(crate::proofs::PieceLemmas::cutting))]
-fn cut_hole<'t>(text: &'t str) -> Option<(CutHole<'t>, &'t str)>
+pub fn cut_hole<'t>(text: &'t str) -> Option<(CutHole<'t>, &'t str)>
     ensures { MatchOption result (pieces text.now ≡ literal_alone text.now)
         (λ x. (pieces text.now ≡ behind_hole x.0.literal.now (hole_shown x.0) (pieces x.1.now)) × (length x.1.now < length text.now)) }
 {

@@ -1,20 +1,19 @@
-use Rattle.std.proofs.Common.{ap, sym, ◌∙◌, map}
+use Rattle.std.proofs.Common.{ap, sym, ◌∙◌}
 use Rattle.std.proofs.lemmas.Result.{IfOk-weaker}
 use Rattle.smithy_binding.specs.Faults.{hole_fault}
-use Rattle.smithy_binding.specs.Seen.{label_pair}
-use Rattle.smithy_binding.specs.TargetParts.{filled_by}
-use Rattle.smithy_binding.proofs.Fills.{fill-pieces}
+use Rattle.smithy_binding.specs.Filling.{filled_by}
+use Rattle.smithy_schema.specs.Templates.{pieces}
 use Rattle.smithy_binding.proofs.Refusals.{IfErr-then}
 use Rattle.smithy_binding.proofs.target.fill.Goals as goal
 
 pub returns-clause-ok : goal.returns-clause-ok
 returns-clause-ok c =
     let template = c.args.template.now in
-    let same = fill-pieces template (map label_pair c.args.labels.now) ∙ sym (ap (λ texts. filled_by texts template) c.in_ok-texts.ensures) in
+    let same = sym (ap (λ texts. filled_by texts (pieces template)) c.in_ok-texts.ensures) in
     IfOk-weaker c.fill_by.result _ _ (λ t e. same ∙ e) c.fill_by.ensures.ok
 
 pub returns-clause-err : goal.returns-clause-err
 returns-clause-err c =
     let template = c.args.template.now in
-    let same = fill-pieces template (map label_pair c.args.labels.now) ∙ sym (ap (λ texts. filled_by texts template) c.in_ok-texts.ensures) in
+    let same = sym (ap (λ texts. filled_by texts (pieces template)) c.in_ok-texts.ensures) in
     IfErr-then c.fill_by.result _ _ (λ f e. ap hole_fault same ∙ e) c.fill_by.ensures.err

@@ -1,14 +1,18 @@
-use Rattle.std.proofs.Common.{rules, ◌≡◌, sym, ap, ◌∙◌, Some, IfErr, string_bytes}
-use Rattle.smithy_binding.specs.Faults.{hole_fault}
+use Rattle.std.proofs.Common.{rules, ◌≡◌, sym, ap, ◌∙◌, Err, Some, IfErr, string_bytes}
+use Rattle.smithy_schema.specs.Templates.{pieces}
+use Rattle.smithy_binding.specs.CutTemplate.{hole_shown}
+use Rattle.smithy_binding.specs.Faults.{Fault, hole_fault}
+use Rattle.smithy_binding.specs.Filling.{text_in}
 use Rattle.smithy_binding.specs.LabelTexts.{text_under}
-use Rattle.smithy_binding.specs.Refusing.{TellsFault}
-use Rattle.smithy_binding.specs.TargetParts.{part_text}
+use Rattle.smithy_binding.specs.Refusing.{TellsFault, missing_hole}
+use Rattle.smithy_binding.proofs.Fills.{fill-stop}
 use Rattle.smithy_binding.proofs.Refusals.{IfErr-then}
-use Rattle.smithy_binding.proofs.Fills.{fill-fault}
 use Rattle.smithy_binding.proofs.target.fill_by.Goals as goal
 
-pub returns-in_err-push_part-clause-err : goal.returns-in_err-push_part-clause-err
-returns-in_err-push_part-clause-err c =
-    let told : IfErr c.from_residual.result (λ e. TellsFault e (λ f. hole_fault (part_text (text_under c.args.texts.now) c.in-Some.part.now) ≡ Some f)) = search rules in
-    IfErr-then c.from_residual.result _ _
-    (λ f e. ap hole_fault (sym c.loop-part.invariant.filled) ∙ fill-fault (text_under c.args.texts.now) (string_bytes c.loop-part.out) c.loop-part.rest.now c.in-Some.part.now c.in-Some.behind.now f c.in-Some.ensures.0 e) told
+pub returns-in_err-push_label-clause-err : goal.returns-in_err-push_label-clause-err
+returns-in_err-push_label-clause-err c =
+    let texts = text_under c.args.texts.now in
+    let hole = c.in-Some.hole in
+    let told : IfErr c.from_residual-in_err-push_label.result (λ e. TellsFault e (λ f. (f ≡ missing_hole hole.name.now) × (text_in texts (hole_shown hole) ≡ Err hole.name.now))) = search rules in
+    let stop = fill-stop texts (string_bytes c.loop-hole.out) hole.literal.now hole.name.now (hole_shown hole) (pieces c.in-Some.behind.now) (pieces c.loop-hole.rest.now) c.in-Some.ensures.0 in
+    IfErr-then c.from_residual-in_err-push_label.result _ _ (λ f e. ap hole_fault (sym c.loop-hole.invariant.filled ∙ stop e.1) ∙ ap (λ (f : Fault). Some f) (sym e.0)) told
