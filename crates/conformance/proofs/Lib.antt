@@ -13,4 +13,5 @@ pub mod Samples
 pub mod Schemas
 pub mod SecondSample
 pub mod Sizes
+pub mod SpacedTexts
 pub mod Told

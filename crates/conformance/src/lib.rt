@@ -5,5 +5,6 @@
 mod codecs;
 #[cfg(test)]
 mod jobs;
+pub mod spaced_json;
 #[cfg(test)]
 mod texts;

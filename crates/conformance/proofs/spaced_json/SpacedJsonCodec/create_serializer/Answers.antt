@@ -1,6 +1,6 @@
 use Rattle.std.proofs.Common.{refl}
 use Rattle.smithy_document.proofs.JsonLaws.{json_is_lawful}
-use Rattle.spaced_json.proofs.spaced_json.SpacedJsonCodec.create_serializer.Goals as goal
+use Rattle.conformance.proofs.spaced_json.SpacedJsonCodec.create_serializer.Goals as goal
 
 pub returns-clause-fresh : goal.returns-clause-fresh
 returns-clause-fresh c =
