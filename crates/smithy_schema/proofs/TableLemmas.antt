@@ -29,19 +29,23 @@ pub table_stored-push : (nodes : List (Option StoredNode)) (o : Option StoredNod
 table_stored-push [] o = refl
 table_stored-push (p ∷ nodes) o = ap (λ (t : Table). option_map node_stored p ∷ t) (table_stored-push nodes o)
 
--- a kept node with an index has a name, and its name is as it was copied
-pub is_whole-node_stored : (n : StoredNode) → has_hash n.full_name ≡ true → is_whole (node_stored n) ≡ true
-is_whole-node_stored n hash = rw hash (go n.membership)
+-- a kept node with an index has a name
+pub is_whole-node_stored : (n : StoredNode) → has_hash n.head.value.full_name ≡ true → is_whole (node_stored n) ≡ true
+is_whole-node_stored n hash = rw hash (go n.head.value.membership)
   where
     go : (m : StoredMember) → (is_some (name_stored m) || is_none (index_stored m)) ≡ true
     go Shape = refl
     go (Named name) = refl
     go (Indexed name index) = refl
 
+-- and its full name has a hash where it is whole
+pub hash_of_whole : (node : Node) → is_whole node ≡ true → has_hash node.full_name ≡ true
+hash_of_whole node whole = (and_parts (has_hash node.full_name) (is_some node.member_name || is_none node.member_index) whole).0
+
 -- a whole node's full name has parts
 pub whole-parts : (node : Node) (name : List ℕ) → name ≡ node.full_name → is_whole node ≡ true → None ≡ parts_in name → ⊥
 whole-parts node name same whole none =
-    let hash : has_hash node.full_name ≡ true = (and_parts (has_hash node.full_name) (is_some node.member_name || is_none node.member_index) whole).0 in
+    let hash = hash_of_whole node whole in
     let hash' : has_hash name ≡ true = rw same hash in
     let bad = rw hash' at none in cc bad
 

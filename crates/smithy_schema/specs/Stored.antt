@@ -8,10 +8,11 @@ use Rattle.smithy_schema.specs.declared.stored.StoredTraits.{StoredTraits}
 use Rattle.smithy_schema.specs.declared.stored.FullDetails.{FullDetails}
 use Rattle.smithy_schema.specs.declared.stored.StoredDetails.{StoredDetails}
 use Rattle.smithy_schema.specs.declared.stored.StoredDetails.TheVariants.{Outline, Full}
+use Rattle.smithy_schema.specs.declared.stored.Head.{Head}
 use Rattle.smithy_schema.specs.declared.stored.StoredNode.{StoredNode}
 use Rattle.smithy_schema.specs.Details.{Details, outlined}
 use Rattle.smithy_schema.specs.Places.{place_of, places_of}
-use Rattle.smithy_schema.specs.Nodes.{Http, Namespace, Traits, Node, Table}
+use Rattle.smithy_schema.specs.Nodes.{Http, Namespace, Traits, Node, bare_node, Table}
 
 abbrev pub name_stored : StoredMember → Option (List ℕ)
 name_stored Shape = None
@@ -72,13 +73,17 @@ abbrev pub details_stored : StoredDetails → Details
 details_stored (Outline format) = outlined format
 details_stored (Full d) = details_full d.value
 
+-- a node of which the head alone is known
+abbrev pub head_stored : Head → Node
+head_stored h = record (bare_node h.full_name h.shape_type) { member_name = name_stored h.membership; member_index = index_stored h.membership }
+
 abbrev pub node_stored : StoredNode → Node
 node_stored n = record {
-  full_name = n.full_name;
-  kind = n.shape_type;
-  member_name = name_stored n.membership;
+  full_name = n.head.value.full_name;
+  kind = n.head.value.shape_type;
+  member_name = name_stored n.head.value.membership;
   original_name = (details_stored n.details).original_name;
-  member_index = index_stored n.membership;
+  member_index = index_stored n.head.value.membership;
   target = (details_stored n.details).target;
   members = (details_stored n.details).members;
   element = (details_stored n.details).element;

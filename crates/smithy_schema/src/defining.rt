@@ -27,7 +27,7 @@ pub(crate) fn stored_at(nodes: &[Option<StoredNode>], place: usize) -> Option<&S
 fn index_of(nodes: &[Option<StoredNode>], place: usize) -> Option<usize>
     ensures { result ≡ index_at (node_at (table_stored nodes.now) place) }
 {
-    match &stored_at(nodes, place)?.membership {
+    match &stored_at(nodes, place)?.head().membership {
         StoredMember::Indexed(_, index) => Some(*index),
         _ => None,
     }

@@ -19,7 +19,7 @@ pub(crate) type Positions = BTreeMap<String, usize>;
 fn name_at(nodes: &[Option<StoredNode>], place: usize) -> Option<&str>
     ensures { option_map (λ t. t.now) result ≡ name_held (node_at (table_stored nodes.now) place) }
 {
-    match &stored_at(nodes, place)?.membership {
+    match &stored_at(nodes, place)?.head().membership {
         StoredMember::Shape => None,
         StoredMember::Named(name) => Some(name.as_str()),
         StoredMember::Indexed(name, _) => Some(name.as_str()),

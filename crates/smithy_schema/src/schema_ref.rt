@@ -81,7 +81,7 @@ impl<'t> TableRef<'t> {
     fn shape_id(self) -> ShapeId<'t>
         ensures { Some (parts_of result) ≡ parts_in (node_in self.entry.table.now self.entry.index.0).full_name }
     {
-        match ShapeId::parse(self.stored().full_name.as_str()) {
+        match ShapeId::parse(self.stored().head().full_name.as_str()) {
             Some(id) => id,
             None => unreachable!(),
         }
@@ -96,7 +96,7 @@ impl<'t> SchemaRef<'t> {
     ghost use Rattle.smithy_schema.specs.Nodes.{at_place, position_of_name};
     ghost use Rattle.smithy_schema.specs.Places.{place_of, places_of};
     ghost use Rattle.smithy_schema.specs.PreludeNodes.{prelude_node, IsBare};
-    ghost use Rattle.smithy_schema.specs.Defining.{HasMembersInPlace, IsSound};
+    ghost use Rattle.smithy_schema.specs.Defining.{HasMembersInPlace, IsSound, is_whole};
     ghost use Rattle.smithy_schema.specs.References.{schema_of, index_of};
     ghost use Rattle.smithy_schema.specs.Details.{details_of, outlined};
     ghost use Rattle.smithy_schema.specs.Stored.{node_stored, details_full};
@@ -116,7 +116,8 @@ impl<'t> SchemaRef<'t> {
 
     // The node as the table keeps it, None for the prelude's.
     pub(crate) fn stored(&self) -> Option<&'t StoredNode>
-        ensures { MatchOption result (IsBare (schema_of self.now).node) (λ n. (schema_of self.now).node ≡ node_stored n.now) }
+        ensures node { MatchOption result (IsBare (schema_of self.now).node) (λ n. (schema_of self.now).node ≡ node_stored n.now) }
+        ensures whole { IfSome result (λ n. is_whole (node_stored n.now) ≡ true) }
     {
         match self.spot {
             Spot::Table(place) => Some(place.stored()),
@@ -182,7 +183,7 @@ impl<'t> SchemaRef<'t> {
         ensures hash { has_hash result.now ≡ true }
     {
         match self.spot {
-            Spot::Table(place) => place.stored().full_name.as_str(),
+            Spot::Table(place) => place.stored().head().full_name.as_str(),
             Spot::Prelude(shape_type) => prelude_id(shape_type).as_str(),
         }
     }
@@ -192,7 +193,7 @@ impl<'t> SchemaRef<'t> {
         ensures { result ≡ (schema_of self.now).node.kind }
     {
         match self.spot {
-            Spot::Table(place) => place.stored().shape_type,
+            Spot::Table(place) => place.stored().head().shape_type,
             Spot::Prelude(shape_type) => shape_type,
         }
     }
@@ -211,7 +212,7 @@ impl<'t> SchemaRef<'t> {
     pub fn member_name(&self) -> Option<&'t str>
         ensures { option_map (λ t. t.now) result ≡ (schema_of self.now).node.member_name }
     {
-        match &self.stored()?.membership {
+        match &self.stored()?.head().membership {
             StoredMember::Shape => None,
             StoredMember::Named(name) => Some(name.as_str()),
             StoredMember::Indexed(name, _) => Some(name.as_str()),
@@ -222,7 +223,7 @@ impl<'t> SchemaRef<'t> {
     pub fn member_index(&self) -> Option<usize>
         ensures { result ≡ (schema_of self.now).node.member_index }
     {
-        match &self.stored()?.membership {
+        match &self.stored()?.head().membership {
             StoredMember::Indexed(_, index) => Some(*index),
             _ => None,
         }

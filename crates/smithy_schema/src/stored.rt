@@ -13,6 +13,7 @@ use crate::schema::{Membership, Schema};
 use smithy_ids::{HttpTrait, PayloadHint, ShapeType, TimestampFormat, XmlNamespaceTrait};
 use smithy_types::{OutOfMemory, Text};
 use std::alloc::Global;
+use std::sync::Arc;
 
 // Whether a node is a member: by name, or by name and index.
 #[derive(Debug, Drop)]
@@ -68,12 +69,27 @@ pub(crate) enum StoredDetails {
     Full(Box<FullDetails>),
 }
 
+// The names, the kind and the index of a node.
 #[derive(Debug, Drop)]
-pub(crate) struct StoredNode {
+pub(crate) struct Head {
     pub(crate) full_name: Text,
     pub(crate) shape_type: ShapeType,
     pub(crate) membership: StoredMember,
+}
+
+// A node. Its outlines share its head.
+#[derive(Debug, Drop)]
+pub(crate) struct StoredNode {
+    pub(crate) head: Arc<Head>,
     pub(crate) details: StoredDetails,
+}
+
+impl StoredNode {
+    pub(crate) fn head(&self) -> &Head
+        ensures { result.now ≡ self.now.head.value }
+    {
+        &self.head
+    }
 }
 
 // A copy of the text, where there is one.
@@ -117,10 +133,7 @@ fn copied_namespace(
     }
 }
 
-pub(crate) fn copied_membership(
-    alloc: Global,
-    membership: Membership<'_>,
-) -> Result<StoredMember, OutOfMemory>
+fn copied_membership(alloc: Global, membership: Membership<'_>) -> Result<StoredMember, OutOfMemory>
     ensures name { IfOk result (λ m. name_stored m ≡ name_in membership.entry) }
     ensures index { IfOk result (λ m. index_stored m ≡ index_in membership.entry) }
 {
@@ -183,10 +196,13 @@ pub(crate) fn copied_node(
     ensures names { IfOk result (λ n. HasNames (table_stored nodes.now) n.details) }
 {
     let details = copied_details(alloc, nodes, schema)?;
-    Ok(StoredNode {
+    let head = Head {
         full_name: Text::from_str(alloc, schema.id.as_str())?,
         shape_type: schema.shape_type,
         membership: copied_membership(alloc, schema.membership)?,
+    };
+    Ok(StoredNode {
+        head: Arc::new(alloc, head)?,
         details: StoredDetails::Full(Box::new(alloc, details)?),
     })
 }

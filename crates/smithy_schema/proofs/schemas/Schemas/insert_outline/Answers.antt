@@ -4,4 +4,4 @@ use Rattle.smithy_schema.proofs.schemas.Schemas.insert_outline.Goals as goal
 
 pub invariant_of-self-2 : goal.invariant_of-self-2
 invariant_of-self-2 c =
-    rw c.in_ok-push.ensures.items (kept.IsKept-outlined c.self.inside.nodes.items c.in_ok-node.node (schema_of c.args.schema).node _ c.self.invariant c.in_ok-node.ensures.node c.in_ok-node.ensures.whole c.in_ok-node.ensures.details)
+    rw (c.in_ok-push.ensures.items, c.make_room.ensures) (kept.IsKept-outlined c.self.inside.nodes.items c.in_ok-node.node (schema_of c.args.schema).node _ c.self.invariant c.in_ok-node.ensures.node c.in_ok-node.ensures.whole c.in_ok-node.ensures.details)
