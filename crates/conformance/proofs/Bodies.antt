@@ -5,7 +5,7 @@ use Rattle.conformance.proofs.OnLiterals.{conformance_on_literals}
 use Rattle.smithy_ids.specs.declared.shape_type.ShapeType.TheVariants as kind
 use Rattle.smithy_schema.specs.Nodes.{Schema}
 use Rattle.smithy_serde.specs.Values.{scalar, Write, no_writes, writes_of, text, blob, null, structure}
-use Rattle.smithy_binding.specs.Placing.{place}
+use Rattle.smithy_binding.specs.Answer.{place}
 use Rattle.conformance.proofs.Making.{to, named, string_map, json, keep_all}
 use Rattle.conformance.proofs.Samples.{one_name, one_map, one_payload}
 

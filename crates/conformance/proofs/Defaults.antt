@@ -7,7 +7,7 @@ use Rattle.smithy_schema.specs.Nodes.{members_of, binding_of}
 use Rattle.smithy_serde.specs.Values.{scalar, text}
 use Rattle.smithy_binding.specs.Bindings.{headers}
 use Rattle.smithy_binding.specs.Bodies.{body}
-use Rattle.smithy_binding.specs.Placing.{place}
+use Rattle.smithy_binding.specs.Answer.{place}
 use Rattle.smithy_binding.specs.Typed.{IsTyped, writes_default}
 use Rattle.conformance.proofs.Making.{to, json, keep_all}
 use Rattle.conformance.proofs.Samples.{one_name, own_content_type, every_header}

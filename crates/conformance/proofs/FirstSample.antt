@@ -4,7 +4,7 @@ use Rattle.std.specs.Option.{option_map as mapped}
 use Rattle.conformance.proofs.OnLiterals.{conformance_on_literals}
 use Rattle.smithy_serde.specs.Values.{scalar, writes_of, whole, integer, structure}
 use Rattle.smithy_serde.specs.DocumentOf.{doc_of}
-use Rattle.smithy_binding.specs.Placing.{place}
+use Rattle.smithy_binding.specs.Answer.{place}
 use Rattle.smithy_binding.specs.Faults.{fault}
 use Rattle.smithy_binding.specs.Checked.{checked_input}
 use Rattle.smithy_binding.specs.NormalForm.{view}

@@ -9,7 +9,7 @@ use Rattle.smithy_serde.specs.Values.{scalar, Write, whole, integer, text, blob,
 use Rattle.smithy_strings.specs.declared.wire.Place.TheVariants.{Header}
 use Rattle.smithy_strings.specs.Wire.{scalar_wire}
 use Rattle.smithy_strings.specs.Lists.{listed, codec_listed}
-use Rattle.smithy_binding.specs.Placing.{place}
+use Rattle.smithy_binding.specs.Answer.{place}
 use Rattle.conformance.proofs.Making.{to, strings, string_map, json, keep_all}
 use Rattle.conformance.proofs.Samples.{get_object, bucket, key, one_header, tags, metadata}
 

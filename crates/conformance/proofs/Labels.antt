@@ -7,7 +7,7 @@ use Rattle.smithy_schema.specs.Templates.{has_unclosed_brace}
 use Rattle.smithy_serde.specs.Values.{scalar, Write, text}
 use Rattle.smithy_strings.specs.Escapes.{escape}
 use Rattle.smithy_binding.specs.Filling.{hole_text}
-use Rattle.smithy_binding.specs.Placing.{place}
+use Rattle.smithy_binding.specs.Answer.{place}
 use Rattle.conformance.proofs.Making.{to, json, keep_all}
 use Rattle.conformance.proofs.Samples.{endpoint_label, nothing_in, one_label}
 

@@ -5,7 +5,7 @@ use Rattle.conformance.proofs.OnLiterals.{conformance_on_literals}
 use Rattle.smithy_ids.specs.declared.shape_type.ShapeType.TheVariants as kind
 use Rattle.smithy_schema.specs.Nodes.{Schema}
 use Rattle.smithy_serde.specs.Values.{scalar, Write, text, timestamp}
-use Rattle.smithy_binding.specs.Placing.{place}
+use Rattle.smithy_binding.specs.Answer.{place}
 use Rattle.conformance.proofs.Making.{to, strings, string_map, json, keep_all}
 use Rattle.conformance.proofs.Samples.{search, tagged, one_query}
 

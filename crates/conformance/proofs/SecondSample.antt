@@ -5,7 +5,7 @@ use Rattle.conformance.proofs.OnLiterals.{conformance_on_literals}
 use Rattle.smithy_serde.specs.Values.{Write, writes_of, structure}
 use Rattle.smithy_serde.specs.DocumentOf.{doc_of}
 use Rattle.smithy_http.specs.Facts.{facts}
-use Rattle.smithy_binding.specs.Placing.{place}
+use Rattle.smithy_binding.specs.Answer.{place}
 use Rattle.smithy_binding.specs.Faults.{fault}
 use Rattle.smithy_binding.specs.Checked.{checked_input}
 use Rattle.smithy_binding.specs.NormalForm.{view}

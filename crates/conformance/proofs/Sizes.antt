@@ -4,7 +4,7 @@ use Rattle.std.specs.Option.{option_map as mapped}
 use Rattle.conformance.proofs.OnLiterals.{conformance_on_literals}
 use Rattle.smithy_types.specs.Grammars.{is_short_target}
 use Rattle.smithy_serde.specs.Values.{scalar, text}
-use Rattle.smithy_binding.specs.Placing.{place}
+use Rattle.smithy_binding.specs.Answer.{place}
 use Rattle.smithy_binding.specs.Faults.{fault, fault_line}
 use Rattle.conformance.proofs.Making.{to, json, keep_all}
 use Rattle.conformance.proofs.Samples.{one_label}

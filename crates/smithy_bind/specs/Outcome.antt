@@ -1,10 +1,11 @@
 -- What a run answers.
-use Rattle.std.specs.Prelude.{ℕ, codes, List, Bool, Option, Some, None, option_and_then, is_some, if◌then◌else◌}
+use Rattle.std.specs.Prelude.{ℕ, codes, List, Bool, Result, Ok, Err, Option, Some, None, option_and_then, is_some, if◌then◌else◌}
 use Rattle.smithy_http.specs.Requests.{Request}
 use Rattle.smithy_schema.specs.Nodes.{Schema}
 use Rattle.smithy_serde.specs.Values.{Write}
-use Rattle.smithy_binding.specs.Placing.{Protocol, Omit, place}
-use Rattle.smithy_binding.specs.Faults.{Fault, fault}
+use Rattle.smithy_binding.specs.Placing.{Protocol, Omit}
+use Rattle.smithy_binding.specs.Answer.{answer}
+use Rattle.smithy_binding.specs.Faults.{Fault}
 use Rattle.smithy_binding.specs.Checked.{checked_input}
 use Rattle.smithy_types.specs.Documents.{Document}
 use Rattle.smithy_document.specs.JsonText.{json_text}
@@ -26,15 +27,14 @@ pub data Outcome : Type 0 where
   fault_line : List ℕ → Outcome
   output : List ℕ → Outcome
 
--- the first fault, or the request
-abbrev pub told : Option Fault → Option Request → Outcome
-told (Some f) r = fault_line (line_of f)
-told None (Some r) = output (shown r)
-told None None = no_job
+-- the request, or the first fault
+abbrev pub told : Result Request Fault → Outcome
+told (Ok r) = output (shown r)
+told (Err f) = fault_line (line_of f)
 
 -- the answer to writes, by a protocol and a schema
 abbrev pub sent : Protocol → Schema → List Write → List ℕ → Omit → Outcome
-sent protocol schema ws endpoint omit = told (fault schema ws endpoint) (place protocol schema ws endpoint omit)
+sent protocol schema ws endpoint omit = told (answer protocol schema ws endpoint omit)
 
 -- the answer to a job, by a protocol; a schema that a request can't be placed by makes none
 unfoldable pub answered : Protocol → Job → Outcome

@@ -4,10 +4,10 @@ ghost use Rattle.smithy_schema.specs.References.{schema_of};
 ghost use Rattle.smithy_serde.specs.StoredValues.{AreDefined};
 ghost use Rattle.smithy_serde.specs.StructValues.{members_of};
 ghost use Rattle.smithy_binding.specs.Checked.{checked_input};
-ghost use Rattle.smithy_binding.specs.Protocols.{codec_of};
+ghost use Rattle.smithy_binding.specs.Protocols.{codec_of, protocol_of};
 ghost use Rattle.smithy_bind.specs.SeenJob.{job_view};
 ghost use Rattle.smithy_bind.specs.Outcome.{outcome_of, requested};
-ghost use Rattle.smithy_bind.specs.AnswerView.{protocol_of, Gives, Sends};
+ghost use Rattle.smithy_bind.specs.AnswerView.{Gives, Sends};
 
 use crate::job::{Job, read_job, read_json};
 use crate::shown::{line_of, shown};

@@ -1,7 +1,6 @@
 -- The end: the body, the target, and the request.
 use Rattle.std.proofs.Common.{◌≡◌, refl, ap, sym, ◌∙◌, ℕ, List, [], ◌∷◌, ◌++◌, append_assoc, map, subst, Result, Ok, Err, Option, Some, None}
 use Rattle.std.specs.List.{join_with_byte}
-use Rattle.std.specs.Option.{option_or}
 use Rattle.std.proofs.lemmas.List.{append-nil}
 use Rattle.smithy_types.specs.Documents.{Document}
 use Rattle.smithy_types.specs.Texts.{has_byte}
@@ -10,13 +9,13 @@ use Rattle.smithy_schema.specs.Nodes.{Schema}
 use Rattle.smithy_schema.specs.Templates.{pieces}
 use Rattle.smithy_serde.specs.Values.{Write}
 use Rattle.smithy_serde.specs.Writes.{all_resolved}
-use Rattle.smithy_http.specs.Requests.{Request}
 use Rattle.smithy_binding.specs.Filling.{fill}
 use Rattle.smithy_binding.specs.Bindings.{pairs, labels}
 use Rattle.smithy_binding.specs.Bodies.{Body, body, BodyParts, body_parts, document_value, document_by, bytes_by, form_in}
-use Rattle.smithy_binding.specs.Placing.{Protocol, Omit, place, target_of, template_of, method_of, with_query, pair_text, all_headers}
+use Rattle.smithy_binding.specs.Placing.{Protocol, Omit, target_of, template_of, method_of, with_query, pair_text, all_headers}
+use Rattle.smithy_binding.specs.Answer.{request_at, answer, legal_request}
 use Rattle.smithy_binding.specs.declared.body_form.BodyForm.{BodyForm}
-use Rattle.smithy_binding.specs.Faults.{Fault, fault, fault_of_document, writes_fault, body_fault, hole_fault, target_fault, legal_fault}
+use Rattle.smithy_binding.specs.Faults.{Fault, behind, legal_fault, legal_target, legal_or_fault, fault_of_document, writes_fault, body_fault, hole_fault}
 use Rattle.smithy_binding.specs.Gather.{Gathered, gather, ok_unless, nothing_yet}
 use Rattle.smithy_binding.specs.TargetParts.{separator, queries, target_behind, target_with}
 use Rattle.smithy_binding.proofs.Gathers.{gathered, gather-all, IsGathered, IsGathered-all}
@@ -62,52 +61,58 @@ target-is schema ws endpoint s g = rw (g.labels, g.query) (go (fill (pieces (tem
     go (Err h) = refl
     go (Ok path) = ap (λ (t : List ℕ). Ok t) (with_query-behind path (pairs schema ws))
 
--- a fault of the walk is the fault
-pub fault-walk : (schema : Schema) (ws : List Write) (endpoint : List ℕ) (f : Fault) → gather schema (nothing_yet schema) ws ≡ Err f → fault schema ws endpoint ≡ Some f
-unfolding fault
-fault-walk schema ws endpoint f e = rw (walk-fault schema ws f e) refl
+-- a fault of the input is the answer
+answer-err : (protocol : Protocol) (schema : Schema) (ws : List Write) (endpoint : List ℕ) (omit : Omit) (f : Fault) → legal_target schema ws endpoint ≡ Err f → answer protocol schema ws endpoint omit ≡ Err f
+unfolding answer
+answer-err protocol schema ws endpoint omit f e = rw e refl
 
-or_none : (o : Option Fault) → option_or o None ≡ o
-or_none None = refl
-or_none (Some f) = refl
+-- a fault of the walk is
+pub answer-walk : (protocol : Protocol) (schema : Schema) (ws : List Write) (endpoint : List ℕ) (omit : Omit) (f : Fault) → gather schema (nothing_yet schema) ws ≡ Err f → answer protocol schema ws endpoint omit ≡ Err f
+unfolding legal_target
+answer-walk protocol schema ws endpoint omit f e = answer-err protocol schema ws endpoint omit f (rw (walk-fault schema ws f e) refl)
 
 -- Once the writes are gathered, and the form of the body is known.
-module _ (schema : Schema) (ws : List Write) (endpoint : List ℕ) (s : Gathered) (form : BodyForm) (parts : BodyParts) (walk : gather schema (nothing_yet schema) ws ≡ Ok s) (known : form ≡ form_in schema) (same : parts ≡ body_parts schema ws) where
+module _ (protocol : Protocol) (schema : Schema) (ws : List Write) (endpoint : List ℕ) (omit : Omit) (s : Gathered) (form : BodyForm) (parts : BodyParts) (walk : gather schema (nothing_yet schema) ws ≡ Ok s) (known : form ≡ form_in schema) (same : parts ≡ body_parts schema ws) where
   body-fault : body_fault schema ws ≡ fault_of_document (document_by form parts)
   unfolding body_fault document_value
   body-fault = rw (known, same) refl
 
-  -- a rule of documents that the body breaks is the fault
-  pub fault-body : (f : Fault) → fault_of_document (document_by form parts) ≡ Some f → fault schema ws endpoint ≡ Some f
-  unfolding fault
-  fault-body f given = rw ((walked schema ws s walk).0, body-fault ∙ given) refl
+  -- a rule of documents that the body breaks is
+  pub answer-body : (f : Fault) → fault_of_document (document_by form parts) ≡ Some f → answer protocol schema ws endpoint omit ≡ Err f
+  unfolding legal_target
+  answer-body f given = answer-err protocol schema ws endpoint omit f (rw ((walked schema ws s walk).0, body-fault ∙ given) refl)
 
   -- where it breaks none, the target alone decides
-  fault-target : fault_of_document (document_by form parts) ≡ None → fault schema ws endpoint ≡ option_or (hole_fault (target_by schema endpoint s)) (option_or (target_fault (target_by schema endpoint s)) None)
-  unfolding fault
-  fault-target none =
+  target-decides : fault_of_document (document_by form parts) ≡ None → legal_target schema ws endpoint ≡ legal_or_fault (target_by schema endpoint s)
+  unfolding legal_target
+  target-decides none =
       let w = walked schema ws s walk in
       rw (w.0, body-fault ∙ none, target-is schema ws endpoint s w.1) refl
 
-  pub fault-hole : fault_of_document (document_by form parts) ≡ None → (f : Fault) → hole_fault (target_by schema endpoint s) ≡ Some f → fault schema ws endpoint ≡ Some f
-  fault-hole none f given = fault-target none ∙ go (target_by schema endpoint s) given
+  pub answer-hole : fault_of_document (document_by form parts) ≡ None → (f : Fault) → hole_fault (target_by schema endpoint s) ≡ Some f → answer protocol schema ws endpoint omit ≡ Err f
+  answer-hole none f given = answer-err protocol schema ws endpoint omit f (target-decides none ∙ go (target_by schema endpoint s) given)
     where
-      go : (r : Result (List ℕ) (List ℕ)) → hole_fault r ≡ Some f → option_or (hole_fault r) (option_or (target_fault r) None) ≡ Some f
+      go : (r : Result (List ℕ) (List ℕ)) → hole_fault r ≡ Some f → legal_or_fault r ≡ Err f
       go (Ok t) given = absurd (cc given)
-      go (Err h) given = given
+      go (Err h) given = ap (λ (o : Option Fault). behind o (Ok [])) given
 
-  -- with each hole filled it is the fault of the target
-  pub fault-legal : fault_of_document (document_by form parts) ≡ None → (target : List ℕ) → target_by schema endpoint s ≡ Ok target → fault schema ws endpoint ≡ legal_fault target
-  fault-legal none target filled = fault-target none ∙ rw filled (or_none (legal_fault target))
-
-  -- and the request
-  pub place-is : (protocol : Protocol) (omit : Omit) (target bytes : List ℕ) → bytes ≡ bytes_by form protocol.text_of parts → target_by schema endpoint s ≡ Ok target
-      → place protocol schema ws endpoint omit ≡ Some (record { method = method_of schema; target = target; headers = all_headers protocol (record { bytes = bytes; form = form }) omit s.headers; body = bytes })
-  unfolding place body
-  place-is protocol omit target bytes told filled =
+  request-is : (bytes : List ℕ) → bytes ≡ bytes_by form protocol.text_of parts → (target : List ℕ)
+      → request_at protocol schema ws omit target ≡ record { method = method_of schema; target = target; headers = all_headers protocol (record { bytes = bytes; form = form }) omit s.headers; body = bytes }
+  unfolding body
+  request-is bytes told target =
       let g = (walked schema ws s walk).1 in
-      rw (told, known, same, target-is schema ws endpoint s g, filled, ← g.headers) refl
+      rw (told, known, same, ← g.headers) refl
 
-pub same_request : (m n t u : List ℕ) (g h : List (List ℕ × List ℕ)) (b c : List ℕ) → m ≡ n → t ≡ u → g ≡ h → b ≡ c
-    → ◌≡◌ {A = Request} (record { method = m; target = t; headers = g; body = b }) (record { method = n; target = u; headers = h; body = c })
-same_request m n t u g h b c e f k p = λ i. record { method = e i; target = f i; headers = k i; body = p i }
+  -- with each hole filled it is the request, if the target is legal
+  pub answer-is : fault_of_document (document_by form parts) ≡ None → (target bytes : List ℕ) → bytes ≡ bytes_by form protocol.text_of parts → target_by schema endpoint s ≡ Ok target
+      → answer protocol schema ws endpoint omit ≡ legal_request (method_of schema) target (all_headers protocol (record { bytes = bytes; form = form }) omit s.headers) bytes
+  unfolding answer
+  answer-is none target bytes told filled =
+      rw (target-decides none, filled) (λ i. then_give (behind (legal_fault target) (Ok target)) (λ t. request-is bytes told t i))
+
+-- a target that is not legal has its fault for the request
+pub request-fault : (method target : List ℕ) (headers : List (List ℕ × List ℕ)) (bytes : List ℕ) (f : Fault) → legal_fault target ≡ Some f → legal_request method target headers bytes ≡ Err f
+request-fault method target headers bytes f e = rw e refl
+
+pub same_request : (m n target : List ℕ) (g h : List (List ℕ × List ℕ)) (bytes : List ℕ) → m ≡ n → g ≡ h → legal_request m target g bytes ≡ legal_request n target h bytes
+same_request m n target g h bytes e k = λ i. legal_request (e i) target (k i) bytes

@@ -8,7 +8,7 @@ use Rattle.smithy_serde.specs.Values as value
 use Rattle.smithy_binding.specs.Bindings.{place_of, member_text, texts, inserted_at}
 use Rattle.smithy_binding.specs.Faults.{Fault, item_fault, key_fault, value_fault, pairs_fault, is_placed_at}
 use Rattle.smithy_binding.specs.Placed.{is_text_binding, first_fault, IsSingle}
-use Rattle.smithy_binding.specs.Refusing.{no_year}
+use Rattle.smithy_binding.specs.Faults.{no_year}
 
 pub text-placed : (b : Binding) → is_text_binding b ≡ true → is_placed_at b ≡ true
 text-placed (to_header name) e = refl

@@ -122,7 +122,7 @@ gather-fault schema s seen (w ∷ ws) a = go (resolved schema w) refl (λ t seen
     go : (o : Option Resolved) → resolved schema w ≡ o
         → ((t : Gathered) (seen : List ℕ) → Agrees schema t.seen seen → gather schema t ws ≡ ok_unless (writes_fault schema seen ws) (gathered schema t (all_resolved schema ws)))
         → then_try (gather_resolved schema s w o) (λ t. gather schema t ws)
-        ≡ ok_unless (option_or (option_map_or (resolved_fault seen) o (Some (no_member w))) (writes_fault schema (seen ++ option_to_list (resolve schema w.label)) ws)) (gathered schema s (cons_option o (all_resolved schema ws)))
+        ≡ ok_unless (option_or (option_map_or (resolved_fault seen) o (Some (no_member w.label))) (writes_fault schema (seen ++ option_to_list (resolve schema w.label)) ws)) (gathered schema s (cons_option o (all_resolved schema ws)))
     go None e rest = refl
     go (Some r) e rest =
         let at = resolve-resolved schema w r e in

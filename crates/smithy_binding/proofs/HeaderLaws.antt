@@ -1,8 +1,9 @@
 -- A placed request has each header name once.
-use Rattle.std.proofs.Common.{◌≡◌, ◌≢◌, refl, ap, subst, sym, ◌∙◌, ℕ, Bool, true, false, not, ◌&&◌, List, [], ◌∷◌, ◌++◌, map, flat_map, length, codes, decimal, Option, Some, None, option_map, is_none, find, if◌then◌else◌}
+use Rattle.std.proofs.Common.{◌≡◌, ◌≢◌, refl, ap, subst, sym, ◌∙◌, ℕ, Bool, true, false, not, ◌&&◌, List, [], ◌∷◌, ◌++◌, map, flat_map, length, codes, decimal, Result, Ok, Err, Option, Some, None, option_map, is_none, find, if◌then◌else◌}
 use Rattle.std.specs.List.{AllByRecursion}
 use Rattle.std.specs.Option.{option_map_or}
 use Rattle.std.specs.Result.{result_ok}
+use Rattle.smithy_types.specs.Results.{then_give}
 use Rattle.smithy_types.specs.Texts.{same_text, found, AreDistinct}
 use Rattle.smithy_http.specs.Headers.{without, put, put_all}
 use Rattle.smithy_http.specs.Requests.{Request}
@@ -11,7 +12,9 @@ use Rattle.smithy_serde.specs.Values.{Write}
 use Rattle.smithy_serde.specs.Writes.{firsts}
 use Rattle.smithy_binding.specs.Bindings.{inserted, headers}
 use Rattle.smithy_binding.specs.Bodies.{Body, body}
-use Rattle.smithy_binding.specs.Placing.{Protocol, Omit, adds_content_type, adds_content_length, with_default, all_headers, target_of, place}
+use Rattle.smithy_binding.specs.Placing.{Protocol, Omit, adds_content_type, adds_content_length, with_default, all_headers}
+use Rattle.smithy_binding.specs.Answer.{request_at, answer, place}
+use Rattle.smithy_binding.specs.Faults.{Fault, legal_target}
 use Rattle.smithy_binding.specs.Laws.{header_names}
 use Rattle.smithy_binding.proofs.Tests.{same_text_self}
 
@@ -87,14 +90,14 @@ AreDistinct-headers : (schema : Schema) (ws : List Write) → AreDistinct (names
 unfolding headers
 AreDistinct-headers schema ws = AreDistinct-put_all [] (flat_map inserted (firsts schema ws)) tt
 
-from_target : (f : List ℕ → Request) (target : Option (List ℕ)) (request : Request) → ((t : List ℕ) → AreDistinct (header_names (f t))) → option_map f target ≡ Some request → AreDistinct (header_names request)
-from_target f (Some t) request h e =
+of_target : (f : List ℕ → Request) (target : Result (List ℕ) Fault) (request : Request) → ((t : List ℕ) → AreDistinct (header_names (f t))) → result_ok (then_give target f) ≡ Some request → AreDistinct (header_names request)
+of_target f (Ok t) request h e =
     let P : Option Request → Type 0 = λ o. AreDistinct (option_map_or header_names o []) in subst P e (h t)
-from_target f None request h e = absurd (cc e)
+of_target f (Err fault) request h e = absurd (cc e)
 
 pub headers_stand_once : (protocol : Protocol) (schema : Schema) (ws : List Write) (endpoint : List ℕ) (omit : Omit) (request : Request) → place protocol schema ws endpoint omit ≡ Some request → AreDistinct (header_names request)
-unfolding place
+unfolding answer
 headers_stand_once protocol schema ws endpoint omit request e =
-    from_target _ (result_ok (target_of schema ws endpoint)) request
+    of_target (request_at protocol schema ws omit) (legal_target schema ws endpoint) request
     (λ t. AreDistinct-all_headers protocol (body protocol.text_of schema ws) omit (headers schema ws) (AreDistinct-headers schema ws))
     e

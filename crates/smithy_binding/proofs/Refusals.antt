@@ -1,10 +1,10 @@
 -- What follows from a refusal.
-use Rattle.std.proofs.Common.{Result, Ok, Err, IfErr}
+use Rattle.std.proofs.Common.{◌≡◌, Result, Ok, Err, IsErr, IfErr}
 use Rattle.smithy_schema.specs.Nodes.{Table}
 use Rattle.smithy_serde.specs.declared.error.SerdeError.{SerdeError}
 use Rattle.smithy_serde.specs.declared.error.SerdeError.TheVariants.{UnknownMember, InvalidInput, UnsupportedOperation, Custom, OutOfMemory}
 use Rattle.smithy_binding.specs.Faults.{Fault}
-use Rattle.smithy_binding.specs.Refusing.{TellsFault}
+use Rattle.smithy_binding.specs.Refusing.{TellsFault, Answers}
 
 -- what follows from a fault that is told
 pub TellsFault-then : (e : SerdeError) (P Q : Fault → Type 0) → ((f : Fault) → P f → Q f) → TellsFault e P → TellsFault e Q
@@ -34,3 +34,8 @@ IfErr-at (Err e) P t p = p t
 pub IfErr-all : {A : Type 0} (r : Result A SerdeError) (P : Table → Fault → Type 0) → ((t : Table) → IfErr r (λ e. TellsFault e (P t))) → IfErr r (λ e. (t : Table) → TellsFault e (P t))
 IfErr-all (Ok x) P h = tt
 IfErr-all (Err e) P h = h
+
+-- a refusal is the answer, where the fault that it tells is
+pub Answers-err : {A : Type 0} (r : Result A SerdeError) (P : Fault → Type 0) (answer : Result A Fault) → IsErr r → ((f : Fault) → P f → answer ≡ Err f) → IfErr r (λ e. TellsFault e P) → Answers r answer
+Answers-err (Ok x) P answer err h p = absurd (cc err)
+Answers-err (Err e) P answer err h p = TellsFault-then e P (λ f. answer ≡ Err f) h p

@@ -41,11 +41,11 @@ pub gather_one-at : (schema : Schema) (s : Gathered) (w : Write) (i : ℕ) (m : 
 unfolding gather_one
 gather_one-at schema s w i m e at = rw (e, at) refl
 
-pub gather_one-none : (schema : Schema) (s : Gathered) (w : Write) → resolve schema w.label ≡ None → gather_one schema s w ≡ Err (no_member w)
+pub gather_one-none : (schema : Schema) (s : Gathered) (w : Write) → resolve schema w.label ≡ None → gather_one schema s w ≡ Err (no_member w.label)
 unfolding gather_one
 gather_one-none schema s w e = rw e refl
 
-pub gather_one-hole : (schema : Schema) (s : Gathered) (w : Write) (i : ℕ) → resolve schema w.label ≡ Some i → member_at schema i ≡ None → gather_one schema s w ≡ Err (no_member w)
+pub gather_one-hole : (schema : Schema) (s : Gathered) (w : Write) (i : ℕ) → resolve schema w.label ≡ Some i → member_at schema i ≡ None → gather_one schema s w ≡ Err (no_member w.label)
 unfolding gather_one
 gather_one-hole schema s w i e at = rw (e, at) refl
 

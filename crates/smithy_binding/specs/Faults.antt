@@ -1,14 +1,14 @@
 -- What is wrong with an input: the first fault in one order, as a variant and a text.
-use Rattle.std.specs.Prelude.{ℕ, Bool, true, false, not, ◌&&◌, ◌==◌, codes, List, [], ◌∷◌, ◌++◌, Result, Option, Some, None, option_map, option_and_then, option_to_list, unwrap_or, is_some, if◌then◌else◌}
+use Rattle.std.specs.Prelude.{ℕ, Bool, true, false, not, ◌&&◌, ◌==◌, codes, List, [], ◌∷◌, ◌++◌, Result, Ok, Err, Option, Some, None, option_map, option_and_then, option_to_list, unwrap_or, is_some, if◌then◌else◌}
 use Rattle.std.specs.List.{list_any}
 use Rattle.std.specs.Option.{option_map_or, option_or}
-use Rattle.std.specs.Result.{result_ok, result_err}
+use Rattle.std.specs.Result.{result_err}
 use Rattle.smithy_types.specs.Grammars.{is_token, is_header_value, is_short_target, is_target}
 use Rattle.smithy_types.specs.Results.{first_of_all, unless}
 use Rattle.smithy_ids.specs.declared.shape_type.ShapeType.{ShapeType}
 use Rattle.smithy_ids.specs.Kinds.{kind_word}
 use Rattle.smithy_schema.specs.Nodes.{Schema, element_of, key_of, value_of, name_of, Binding, to_payload, to_body, binding_of}
-use Rattle.smithy_serde.specs.Values.{Value, list, Writes, no_writes, write, Write, list_of}
+use Rattle.smithy_serde.specs.Values.{Label, Value, list, Writes, no_writes, write, Write, list_of}
 use Rattle.smithy_serde.specs.Values as value
 use Rattle.smithy_serde.specs.Fits.{fits, fits_member, written_word}
 use Rattle.smithy_serde.specs.DocumentOf.{document_fault, document_fault_text}
@@ -28,8 +28,8 @@ message (part ∷ []) = part
 message (part ∷ next ∷ parts) = part ++ message (next ∷ parts)
 
 -- no member has the write's node
-abbrev pub no_member : Write → Fault
-no_member w = unknown_member (unwrap_or w.label.member_name w.label.full_name)
+abbrev pub no_member : Label → Fault
+no_member l = unknown_member (unwrap_or l.member_name l.full_name)
 
 -- the value is not of the member's kind
 abbrev pub wrong_kind : Schema → Value → Fault
@@ -62,13 +62,21 @@ ends_with_value (write k key no_writes) = false
 ends_with_value (write k key (write l v ws)) = ends_with_value ws
 
 -- a map that ends with a key
+abbrev pub unmatched_key : Schema → Fault
+unmatched_key m = unsupported (message (codes "map member " ∷ name_of m ∷ codes " ends with a key without a value" ∷ []))
+
+-- its fault, where a map ends so
 abbrev pub key_fault : Schema → Value → Option Fault
-key_fault m (value.map ws) = unless (ends_with_value ws) (unsupported (message (codes "map member " ∷ name_of m ∷ codes " ends with a key without a value" ∷ [])))
+key_fault m (value.map ws) = unless (ends_with_value ws) (unmatched_key m)
 key_fault m _ = None
 
--- a value without a text: of the kinds that were tested before, a time whose year its format has not
+-- a time whose year its format has not
+abbrev pub no_year : Fault
+no_year = custom (codes "failed to format timestamp: year outside 1 to 9999")
+
+-- a value without a text: of the kinds that were tested before, such a time
 abbrev pub year_fault : Schema → Value → Option Fault
-year_fault m v = unless (is_some (texts m v)) (custom (codes "failed to format timestamp: year outside 1 to 9999"))
+year_fault m v = unless (is_some (texts m v)) no_year
 
 -- whether a header or an entry behind a prefix was to be made
 abbrev pub header_words : Schema → List ℕ
@@ -120,7 +128,7 @@ resolved_fault seen r =
 
 -- the fault of a write, behind such writes
 abbrev pub write_fault : Schema → List ℕ → Write → Option Fault
-write_fault schema seen w = option_map_or (resolved_fault seen) (resolved schema w) (Some (no_member w))
+write_fault schema seen w = option_map_or (resolved_fault seen) (resolved schema w) (Some (no_member w.label))
 
 -- the first fault of these writes, behind such writes
 unfoldable pub writes_fault : Schema → List ℕ → List Write → Option Fault
@@ -136,29 +144,45 @@ fault_of_document v = option_map (λ f. custom (document_fault_text f)) (option_
 unfoldable pub body_fault : Schema → List Write → Option Fault
 body_fault schema ws = fault_of_document (document_value schema ws)
 
--- the first hole without a text (httpLabel: a label may not be empty)
+-- a hole without a text (httpLabel: a label may not be empty)
+abbrev pub missing_hole : List ℕ → Fault
+missing_hole hole = invalid_input (hole ++ codes " was missing: cannot be empty or unset")
+
+-- the first hole without a text
 abbrev pub hole_fault : Result (List ℕ) (List ℕ) → Option Fault
-hole_fault target = option_map (λ hole. invalid_input (hole ++ codes " was missing: cannot be empty or unset")) (result_err target)
+hole_fault target = option_map missing_hole (result_err target)
 
--- a target that is too long, or else breaks the grammar (RFC 7230, section 5.3)
+-- a target that is too long
+abbrev pub too_long : Fault
+too_long = custom (codes "invalid endpoint URI: longer than 65534 bytes")
+
+-- a target that breaks the grammar (RFC 7230, section 5.3)
+abbrev pub not_legal : Fault
+not_legal = custom (codes "invalid endpoint URI: not a legal request target")
+
+-- a target that is too long, or else breaks the grammar
 abbrev pub legal_fault : List ℕ → Option Fault
-legal_fault target =
-    option_or (unless (is_short_target target) (custom (codes "invalid endpoint URI: longer than 65534 bytes")))
-    (unless (is_target target) (custom (codes "invalid endpoint URI: not a legal request target")))
+legal_fault target = option_or (unless (is_short_target target) too_long) (unless (is_target target) not_legal)
 
--- the same of a target that has each of its holes filled
-abbrev pub target_fault : Result (List ℕ) (List ℕ) → Option Fault
-target_fault target = option_and_then legal_fault (result_ok target)
+-- what comes, where there is no fault before it
+abbrev pub behind : {A : Type 0} → Option Fault → Result A Fault → Result A Fault
+behind (Some f) r = Err f
+behind None r = r
 
--- The fault of an input, if there is one (without one the input is conforming): the first of the writes in order, then of the body's document, of the template's holes, and of the target.
-unfoldable pub fault : Schema → List Write → List ℕ → Option Fault
-fault schema ws endpoint =
-    first_of_all (
-    writes_fault schema [] ws
-    ∷ body_fault schema ws
-    ∷ hole_fault (target_of schema ws endpoint)
-    ∷ target_fault (target_of schema ws endpoint)
-    ∷ [])
+-- a target that has each of its holes filled and is legal, or its fault
+abbrev pub legal_or_fault : Result (List ℕ) (List ℕ) → Result (List ℕ) Fault
+legal_or_fault (Err hole) = Err (missing_hole hole)
+legal_or_fault (Ok target) = behind (legal_fault target) (Ok target)
+
+-- The target of an input without a fault (such an input is conforming), or the first fault: of the writes in order, then
+-- of the body's document, of the template's holes, and of the target.
+unfoldable pub legal_target : Schema → List Write → List ℕ → Result (List ℕ) Fault
+legal_target schema ws endpoint =
+    behind (writes_fault schema [] ws) (behind (body_fault schema ws) (legal_or_fault (target_of schema ws endpoint)))
+
+-- the first fault of an input, if there is one
+abbrev pub fault : Schema → List Write → List ℕ → Option Fault
+fault schema ws endpoint = result_err (legal_target schema ws endpoint)
 
 -- the line in which a program tells a refusal: its variant and its text
 abbrev pub fault_line : Fault → List ℕ

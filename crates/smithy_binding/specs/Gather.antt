@@ -51,7 +51,7 @@ abbrev pub add_or_fault : Schema → Gathered → Resolved → Result Gathered F
 add_or_fault schema s r = ok_unless (fault_at (is_seen s r.position) r) (added schema s r)
 
 abbrev pub gather_resolved : Schema → Gathered → Write → Option Resolved → Result Gathered Fault
-gather_resolved schema s w None = Err (no_member w)
+gather_resolved schema s w None = Err (no_member w.label)
 gather_resolved schema s w (Some r) = add_or_fault schema s r
 
 unfoldable pub gather_one : Schema → Gathered → Write → Result Gathered Fault

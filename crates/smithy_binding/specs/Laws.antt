@@ -7,7 +7,8 @@ use Rattle.smithy_serde.specs.Values.{Write}
 use Rattle.smithy_binding.specs.Checked.{checked_input, IsCheckedInput}
 use Rattle.smithy_binding.specs.CheckedOutput.{checked_output, IsCheckedOutput}
 use Rattle.smithy_binding.specs.Faults.{fault}
-use Rattle.smithy_binding.specs.Placing.{Protocol, Omit, place}
+use Rattle.smithy_binding.specs.Answer.{place}
+use Rattle.smithy_binding.specs.Placing.{Protocol, Omit}
 
 -- the test of an input schema and its facts say the same
 abbrev pub CheckedInputIff : Type 0

@@ -1,3 +1,4 @@
+pub mod Answer
 pub mod Bindings
 pub mod Bodies
 pub mod Checked

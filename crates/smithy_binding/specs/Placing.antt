@@ -1,15 +1,13 @@
 -- The request of an input (Smithy, HTTP protocol bindings).
-use Rattle.std.specs.Prelude.{ℕ, Bool, not, ◌&&◌, ◌||◌, ◌==◌, codes, List, [], ◌∷◌, ◌++◌, length, map, Result, Option, option_map, is_none, decimal, if◌then◌else◌}
+use Rattle.std.specs.Prelude.{ℕ, Bool, not, ◌&&◌, ◌||◌, ◌==◌, codes, List, [], ◌∷◌, ◌++◌, length, map, Result, is_none, decimal, if◌then◌else◌}
 use Rattle.std.specs.List.{join_with_byte}
 use Rattle.std.specs.Option.{option_map_or}
-use Rattle.std.specs.Result.{result_ok}
 use Rattle.smithy_types.specs.Texts.{found, has_byte}
 use Rattle.smithy_types.specs.Results.{then_give}
 use Rattle.smithy_types.specs.Documents.{Document}
 use Rattle.smithy_schema.specs.Nodes.{Schema}
 use Rattle.smithy_schema.specs.Templates.{pieces}
 use Rattle.smithy_serde.specs.Values.{Write}
-use Rattle.smithy_http.specs.Requests.{Request}
 use Rattle.smithy_strings.specs.Escapes.{escape}
 use Rattle.smithy_binding.specs.Filling.{fill}
 use Rattle.smithy_binding.specs.Bindings.{headers, pairs, labels}
@@ -67,16 +65,3 @@ abbrev pub all_headers : Protocol → Body → Omit → List (List ℕ × List �
 all_headers protocol b omit pairs =
     with_default (adds_content_length b omit) (codes "content-length") (decimal (length b.bytes))
     (with_default (adds_content_type b omit) (codes "content-type") protocol.content_type pairs)
-
--- The request of an input, if each hole of its template has a text.
-unfoldable pub place : Protocol → Schema → List Write → List ℕ → Omit → Option Request
-place protocol schema ws endpoint omit =
-    let b = body protocol.text_of schema ws in
-    option_map
-    (λ target. record {
-      method = method_of schema;
-      target = target;
-      headers = all_headers protocol b omit (headers schema ws);
-      body = b.bytes;
-    })
-    (result_ok (target_of schema ws endpoint))

@@ -7,7 +7,8 @@ ghost use Rattle.smithy_schema.specs.ShownBindings.{binding_shown};
 ghost use Rattle.smithy_serde.specs.StoredValues.{value_in, label_at};
 ghost use Rattle.smithy_strings.specs.Wire.{wire};
 ghost use Rattle.smithy_binding.specs.Bindings.{place_at, member_text, element_text as element};
-ghost use Rattle.smithy_binding.specs.Refusing.{TellsFault, no_year as no_year_fault};
+ghost use Rattle.smithy_binding.specs.Faults.{no_year as no_year_fault};
+ghost use Rattle.smithy_binding.specs.Refusing.{TellsFault};
 
 use crate::refusal::no_year;
 use smithy_ids::TimestampFormat;

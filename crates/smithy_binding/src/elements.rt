@@ -9,7 +9,8 @@ ghost use Rattle.smithy_strings.specs.Lists.{listed};
 ghost use Rattle.smithy_strings.specs.declared.wire.Place.TheVariants as at;
 ghost use Rattle.smithy_binding.specs.Bindings.{element_text as element, kind_or_none, pairs_with};
 ghost use Rattle.smithy_binding.specs.Faults.{element_fault};
-ghost use Rattle.smithy_binding.specs.Refusing.{TellsFault, no_year as no_year_fault};
+ghost use Rattle.smithy_binding.specs.Faults.{no_year as no_year_fault};
+ghost use Rattle.smithy_binding.specs.Refusing.{TellsFault};
 ghost use Rattle.smithy_binding.specs.TargetParts.{queries};
 
 use crate::bound_text::element_text;

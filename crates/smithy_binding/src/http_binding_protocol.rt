@@ -82,16 +82,11 @@ impl<C: Drop> HttpBindingProtocol<C> {
 }
 
 impl<C: Codec> HttpBindingProtocol<C> {
-    ghost use Rattle.std.specs.Prelude.{◌≡◌, IsTrue, IfOk, IfErr, None, Some};
+    ghost use Rattle.std.specs.Prelude.{◌≡◌, IsTrue};
     ghost use Rattle.smithy_schema.specs.References.{schema_of};
     ghost use Rattle.smithy_serde.specs.Finishing.{IsReady};
-    ghost use Rattle.smithy_serde.specs.Values.{list_of};
     ghost use Rattle.smithy_binding.specs.Checked.{checked_input};
-    ghost use Rattle.smithy_binding.specs.DefaultHeaders.{omit_of};
-    ghost use Rattle.smithy_binding.specs.Faults.{fault};
-    ghost use Rattle.smithy_binding.specs.Placing.{place};
-    ghost use Rattle.smithy_binding.specs.Protocols.{codec_of, content_type_of};
-    ghost use Rattle.smithy_binding.specs.Refusing.{TellsFault};
+    ghost use Rattle.smithy_binding.specs.Protocols.{codec_of, protocol_of, IsAnswer};
 
     /// The request of an input, by its schema (Smithy, HTTP protocol bindings). Without `@http` the method is `GET`, and
     /// the template is `endpoint`, or `/` where that is empty. Each bound member's first write stands where its trait
@@ -118,9 +113,7 @@ impl<C: Codec> HttpBindingProtocol<C> {
     ) -> Result<Request, SerdeError>
         requires checked { IsTrue (checked_input (schema_of schema)) }
         requires lawful { C.lawful (codec_of self.now) }
-        ensures ok { IfOk result (λ _. fault (schema_of schema.entry) (list_of (writes input.now)) endpoint.now ≡ None) }
-        ensures placed { IfOk result (λ r. place (record { content_type = content_type_of self.now; text_of = C.text (codec_of self.now) }) (schema_of schema.entry) (list_of (writes input.now)) endpoint.now (omit_of omit) ≡ Some r) }
-        ensures err { IfErr result (λ e. TellsFault e (λ f. fault (schema_of schema.entry) (list_of (writes input.now)) endpoint.now ≡ Some f)) }
+        ensures { IsAnswer (protocol_of C.text self.now) schema.entry (writes input.now) endpoint.now omit result }
     {
         let body = self.codec.create_serializer(alloc)?;
         self.serialize_request_with_body(alloc, body, input, schema, endpoint, omit)
@@ -140,9 +133,7 @@ impl<C: Codec> HttpBindingProtocol<C> {
         requires checked { IsTrue (checked_input (schema_of schema)) }
         requires ready { IsReady (C.Serializer.seen body) }
         requires text { (C.Serializer.seen body).text ≡ C.text (codec_of self.now) }
-        ensures ok { IfOk result (λ _. fault (schema_of schema.entry) (list_of (writes input.now)) endpoint.now ≡ None) }
-        ensures placed { IfOk result (λ r. place (record { content_type = content_type_of self.now; text_of = C.text (codec_of self.now) }) (schema_of schema.entry) (list_of (writes input.now)) endpoint.now (omit_of omit) ≡ Some r) }
-        ensures err { IfErr result (λ e. TellsFault e (λ f. fault (schema_of schema.entry) (list_of (writes input.now)) endpoint.now ≡ Some f)) }
+        ensures { IsAnswer (protocol_of C.text self.now) schema.entry (writes input.now) endpoint.now omit result }
     {
         let content_type = self.content_type;
         if let Some((table, writes)) = input.stored_writes() {

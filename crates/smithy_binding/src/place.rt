@@ -4,12 +4,11 @@ ghost use Rattle.smithy_types.specs.Grammars.{is_token, is_header_value};
 ghost use Rattle.smithy_schema.specs.References.{schema_of};
 ghost use Rattle.smithy_serde.specs.StoredValues.{writes_in, AreDefined};
 ghost use Rattle.smithy_serde.specs.Finishing.{IsReady};
-ghost use Rattle.smithy_serde.specs.Values.{list_of};
 ghost use Rattle.smithy_binding.specs.Checked.{checked_input};
-ghost use Rattle.smithy_binding.specs.Faults.{fault, legal_fault};
-ghost use Rattle.smithy_binding.specs.Placing.{Protocol, Omit, place, method_of as method, template_of as template};
-ghost use Rattle.smithy_binding.specs.DefaultHeaders.{omit_of};
-ghost use Rattle.smithy_binding.specs.Refusing.{TellsFault};
+ghost use Rattle.smithy_binding.specs.Answer.{legal_request};
+ghost use Rattle.smithy_binding.specs.Placing.{method_of as method, template_of as template};
+ghost use Rattle.smithy_binding.specs.Protocols.{protocol_with, IsAnswer};
+ghost use Rattle.smithy_binding.specs.Refusing.{Answers};
 
 use crate::body::request_body;
 use crate::body_form::body_form;
@@ -54,9 +53,7 @@ fn request_with(
     body: Blob,
 ) -> Result<Request, SerdeError>
     requires { IsTrue (is_token method.now) }
-    ensures request { IfOk result (λ r. r ≡ record { method = method.now; target = string_bytes target; headers = headers; body = body }) }
-    ensures ok { IfOk result (λ _. legal_fault (string_bytes target) ≡ None) }
-    ensures err { IfErr result (λ e. TellsFault e (λ f. legal_fault (string_bytes target) ≡ Some f)) }
+    ensures { Answers result (legal_request method.now (string_bytes target) headers body) }
 {
     if target.len() > MAX_TARGET_LEN {
         return Err(too_long(alloc));
@@ -84,9 +81,7 @@ pub fn place_writes<S: FinishSerializer + Drop>(
     requires defined { AreDefined table.now writes.now }
     requires content_type { IsTrue (is_header_value content_type.now) }
     requires ready { IsReady (S.seen serializer) }
-    ensures ok { IfOk result (λ _. fault (schema_of schema.entry) (list_of (writes_in table.now writes.now)) endpoint.now ≡ None) }
-    ensures placed { IfOk result (λ r. place (record { content_type = content_type.now; text_of = (S.seen serializer).text }) (schema_of schema.entry) (list_of (writes_in table.now writes.now)) endpoint.now (omit_of omit) ≡ Some r) }
-    ensures err { IfErr result (λ e. TellsFault e (λ f. fault (schema_of schema.entry) (list_of (writes_in table.now writes.now)) endpoint.now ≡ Some f)) }
+    ensures { IsAnswer (protocol_with content_type.now (S.seen serializer).text) schema.entry (writes_in table.now writes.now) endpoint.now omit result }
 {
     let mut parts = RequestParts::new(alloc, schema)?;
     gather_writes(alloc, schema, table, writes, &mut parts)?;

@@ -5,7 +5,8 @@ ghost use Rattle.smithy_schema.specs.References.{schema_of};
 ghost use Rattle.smithy_serde.specs.StoredValues.{value_in};
 ghost use Rattle.smithy_serde.specs.Values.{label_of};
 ghost use Rattle.smithy_binding.specs.Faults.{wrong_kind as wrong_kind_fault, wrong_item_kind as wrong_item_fault, wrong_header as wrong_header_fault, header_words as words_of, header_or_prefix as given_name};
-ghost use Rattle.smithy_binding.specs.Refusing.{TellsFault, missing_hole as missing_fault, unknown_label, too_long as too_long_fault, not_legal as not_legal_fault, no_year as no_year_fault, unmatched_key as unmatched_fault};
+ghost use Rattle.smithy_binding.specs.Faults.{missing_hole as missing_fault, too_long as too_long_fault, not_legal as not_legal_fault, no_year as no_year_fault, unmatched_key as unmatched_fault, no_member};
+ghost use Rattle.smithy_binding.specs.Refusing.{TellsFault};
 
 use crate::binding::name_of;
 use smithy_ids::ShapeType;
@@ -16,7 +17,7 @@ use std::alloc::Global;
 
 /// No member is the one that this node names.
 pub fn unknown_member(alloc: Global, written: SchemaRef<'_>) -> SerdeError
-    ensures { TellsFault result (λ f. f ≡ unknown_label (label_of (schema_of written.entry))) }
+    ensures { TellsFault result (λ f. f ≡ no_member (label_of (schema_of written.entry))) }
 {
     match written.member_name() {
         Some(name) => SerdeError::unknown_member(alloc, name),

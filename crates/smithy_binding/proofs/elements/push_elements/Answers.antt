@@ -4,7 +4,8 @@ use Rattle.smithy_serde.specs.StoredValues.{writes_in, value_in, label_at}
 use Rattle.smithy_serde.specs.Values.{Write, list_of}
 use Rattle.smithy_strings.specs.declared.wire.Place.TheVariants as at
 use Rattle.smithy_binding.specs.Bindings.{element_text, pairs_with}
-use Rattle.smithy_binding.specs.Refusing.{TellsFault, no_year}
+use Rattle.smithy_binding.specs.Faults.{no_year}
+use Rattle.smithy_binding.specs.Refusing.{TellsFault}
 use Rattle.smithy_binding.specs.TargetParts.{queries}
 use Rattle.smithy_binding.proofs.ElementSteps.{AreTexts-none, AreTexts-more, AreTexts-stop, AreTexts-end, queries-push}
 use Rattle.smithy_binding.proofs.Refusals.{IfErr-then}

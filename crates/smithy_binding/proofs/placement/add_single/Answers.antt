@@ -4,7 +4,8 @@ use Rattle.smithy_schema.specs.References.{schema_of}
 use Rattle.smithy_serde.specs.StoredValues.{value_in}
 use Rattle.smithy_binding.specs.Bindings.{place_of, member_text}
 use Rattle.smithy_binding.specs.Placed.{first_fault}
-use Rattle.smithy_binding.specs.Refusing.{TellsFault, no_year}
+use Rattle.smithy_binding.specs.Faults.{no_year}
+use Rattle.smithy_binding.specs.Refusing.{TellsFault}
 use Rattle.smithy_binding.proofs.FirstWrites.{text-placed, first_fault-value, single-no_year}
 use Rattle.smithy_binding.proofs.Refusals.{IfErr-then, IfErr-all}
 use Rattle.smithy_binding.proofs.placement.add_single.Goals as goal

@@ -4,7 +4,8 @@ use Rattle.smithy_binding.specs.CutTemplate.{hole_shown}
 use Rattle.smithy_binding.specs.Faults.{Fault, hole_fault}
 use Rattle.smithy_binding.specs.Filling.{text_in}
 use Rattle.smithy_binding.specs.LabelTexts.{text_under}
-use Rattle.smithy_binding.specs.Refusing.{TellsFault, missing_hole}
+use Rattle.smithy_binding.specs.Faults.{missing_hole}
+use Rattle.smithy_binding.specs.Refusing.{TellsFault}
 use Rattle.smithy_binding.proofs.Fills.{fill-stop}
 use Rattle.smithy_binding.proofs.Refusals.{IfErr-then}
 use Rattle.smithy_binding.proofs.target.fill_by.Goals as goal
