@@ -34,5 +34,5 @@ pub returns-in_err-write_struct-clause-refusal : goal.returns-in_err-write_struc
 returns-in_err-write_struct-clause-refusal g c =
     let value = structure ((goal.SerializableStruct-dyn g c.args.value.now).writes c.args.value.now.1) in
     let refused = refused_alone (label_of (schema_of c.args.schema)) value c.in_err-write_struct.field-0.0
-        (writes_rule _ _ _ _ (one_tells _ _ _ _ _ c.in_err-write_struct.ensures) document_by_rule c.new-serializer.ensures.unrefused empty_state c.new-serializer.ensures.told) in
+    (writes_rule _ _ _ _ (one_tells _ _ _ _ _ c.in_err-write_struct.ensures) document_by_rule c.new-serializer.ensures.unrefused empty_state c.new-serializer.ensures.told) in
     search rules
