@@ -1,71 +1,85 @@
 -- The elements of a list, an element at a time.
-use Rattle.std.proofs.Common.{◌≡◌, refl, ap, sym, ◌∙◌, ℕ, ◌+◌, ◌≤◌, true, false, List, [], ◌∷◌, ◌++◌, append_assoc, length, drop, slice_get, Option, Some, None, option_map, option_and_then}
-use Rattle.std.proofs.Math.ListN.{drop_of_length-le}
-use Rattle.std.proofs.lemmas.List.{append-nil, map-append}
+use Rattle.std.proofs.Common.{◌≡◌, refl, ap, sym, ◌∙◌, ℕ, ◌+◌, Bool, true, false, ◌==◌, List, [], ◌∷◌, ◌++◌, append_assoc, length, arith, Option, Some, None, option_map, option_and_then}
+use Rattle.std.proofs.lemmas.Bool.{eqb-true}
+use Rattle.std.proofs.lemmas.List.{append-nil, map-append, length-append}
 use Rattle.smithy_types.specs.Results.{each}
 use Rattle.smithy_ids.specs.declared.shape_type.ShapeType.{ShapeType}
-use Rattle.smithy_schema.specs.Nodes.{Schema}
+use Rattle.smithy_schema.specs.Nodes.{Schema, Table}
 use Rattle.smithy_serde.specs.Fits.{fits}
-use Rattle.smithy_serde.specs.Values.{Writes, no_writes, write, Write, list_of, writes_of}
+use Rattle.smithy_serde.specs.StoredValues.{label_at, value_in, listed}
+use Rattle.smithy_serde.specs.Values.{Write, list_of}
+use Rattle.smithy_serde.specs.declared.value.OneWrite.{OneWrite}
 use Rattle.smithy_binding.specs.Bindings.{pairs_with}
-use Rattle.smithy_binding.specs.Faults.{Fault, wrong_item_kind, element_fault}
+use Rattle.smithy_binding.specs.Faults.{wrong_item_kind, element_fault}
 use Rattle.smithy_binding.specs.Placing.{pair_text}
 use Rattle.smithy_binding.specs.TargetParts.{queries}
-use Rattle.smithy_binding.proofs.WriteSteps.{drop-some}
 
-pub same_writes : (ws : Writes) → writes_of (list_of ws) ≡ ws
-same_writes no_writes = refl
-same_writes (write l v ws) = ap (write l v) (same_writes ws)
+-- an element further
+module _ (t : Table) (m : Schema) (kind : ShapeType) (x : OneWrite) (rest more : List OneWrite) (steps : rest ≡ x ∷ more) where
+  pub fault-more : fits kind (value_in t x.value) ≡ true → element_fault m kind (listed t rest) ≡ element_fault m kind (listed t more)
+  fault-more fit = rw (steps, fit) refl
 
--- the first fault from an element on
-abbrev pub fault_from : Schema → ShapeType → List Write → ℕ → Option Fault
-fault_from m kind ws i = element_fault m kind (writes_of (drop i ws))
+  pub fault-stop : fits kind (value_in t x.value) ≡ false → element_fault m kind (listed t rest) ≡ Some (wrong_item_kind m kind (value_in t x.value))
+  fault-stop wrong = rw (steps, wrong) refl
 
-pub fault-more : (m : Schema) (kind : ShapeType) (ws : List Write) (i : ℕ) (w : Write) → slice_get ws i ≡ Some w → fits kind w.value ≡ true → fault_from m kind ws i ≡ fault_from m kind ws (i + 1)
-fault-more m kind ws i w at fit = rw (drop-some ws i w at, fit) refl
+pub fault-end : (t : Table) (m : Schema) (kind : ShapeType) (rest : List OneWrite) → rest ≡ [] → element_fault m kind (listed t rest) ≡ None
+fault-end t m kind rest none = rw none refl
 
-pub fault-stop : (m : Schema) (kind : ShapeType) (ws : List Write) (i : ℕ) (w : Write) → slice_get ws i ≡ Some w → fits kind w.value ≡ false → fault_from m kind ws i ≡ Some (wrong_item_kind m kind w.value)
-fault-stop m kind ws i w at wrong = rw (drop-some ws i w at, wrong) refl
+-- the writes of what is left of a list
+abbrev pub left : Table → List OneWrite → List Write
+left t rest = list_of (listed t rest)
 
-pub fault-end : (m : Schema) (kind : ShapeType) (ws : List Write) (i : ℕ) → length ws ≤ i → fault_from m kind ws i ≡ None
-fault-end m kind ws i l = rw (drop_of_length-le ws l) refl
+-- the texts of all elements are these, and those of the elements that are left
+abbrev pub AreTexts : (Write → Option (List ℕ)) → List Write → List Write → List (List ℕ) → Type 0
+AreTexts f ws rest ts = each f ws ≡ option_map (λ us. ts ++ us) (each f rest)
 
--- the texts of all elements are these, and those of the elements from one on
-abbrev pub AreTexts : (Write → Option (List ℕ)) → List Write → ℕ → List (List ℕ) → Type 0
-AreTexts f ws i ts = each f ws ≡ option_map (λ rest. ts ++ rest) (each f (drop i ws))
-
-pub AreTexts-none : (f : Write → Option (List ℕ)) (ws : List Write) → AreTexts f ws 0 []
-AreTexts-none f ws = go (each f ws)
+pub AreTexts-none : (f : Write → Option (List ℕ)) (ws rest : List Write) → ws ≡ rest → AreTexts f ws rest []
+AreTexts-none f ws rest e = ap (each f) e ∙ go (each f rest)
   where
-    go : (o : Option (List (List ℕ))) → o ≡ option_map (λ rest. [] ++ rest) o
+    go : (o : Option (List (List ℕ))) → o ≡ option_map (λ us. [] ++ us) o
     go None = refl
     go (Some ts) = refl
 
-pub AreTexts-more : (f : Write → Option (List ℕ)) (ws : List Write) (i : ℕ) (ts : List (List ℕ)) (w : Write) (t : List ℕ) → slice_get ws i ≡ Some w → f w ≡ Some t → AreTexts f ws i ts
-    → AreTexts f ws (i + 1) (ts ++ t ∷ [])
-AreTexts-more f ws i ts w t at e all =
-    all ∙ ap (λ xs. option_map (λ rest. ts ++ rest) (each f xs)) (drop-some ws i w at)
-    ∙ ap (λ o. option_map (λ rest. ts ++ rest) (option_and_then (λ y. option_map (λ ys. y ∷ ys) (each f (drop (i + 1) ws))) o)) e
-    ∙ go (each f (drop (i + 1) ws))
-  where
-    go : (o : Option (List (List ℕ))) → option_map (λ rest. ts ++ rest) (option_map (λ ys. t ∷ ys) o) ≡ option_map (λ rest. (ts ++ t ∷ []) ++ rest) o
-    go None = refl
-    go (Some rest) = ap (λ xs. Some xs) (sym (append_assoc ts (t ∷ []) rest))
+-- one more
+module _ (f : Write → Option (List ℕ)) (t : Table) (ws : List Write) (ts : List (List ℕ)) (x : OneWrite) (rest more : List OneWrite) (steps : rest ≡ x ∷ more) (all : AreTexts f ws (left t rest) ts) where
+  abbrev here : Write
+  here = record { label = label_at t x.node.0; value = value_in t x.value }
 
-pub AreTexts-stop : (f : Write → Option (List ℕ)) (ws : List Write) (i : ℕ) (ts : List (List ℕ)) (w : Write) → slice_get ws i ≡ Some w → f w ≡ None → AreTexts f ws i ts → each f ws ≡ None
-AreTexts-stop f ws i ts w at e all =
-    all ∙ ap (λ xs. option_map (λ rest. ts ++ rest) (each f xs)) (drop-some ws i w at)
-    ∙ ap (λ o. option_map (λ rest. ts ++ rest) (option_and_then (λ y. option_map (λ ys. y ∷ ys) (each f (drop (i + 1) ws))) o)) e
+  abbrev with_here : Option (List ℕ) → Option (List (List ℕ))
+  with_here o = option_map (λ us. ts ++ us) (option_and_then (λ y. option_map (λ ys. y ∷ ys) (each f (left t more))) o)
 
-pub AreTexts-end : (f : Write → Option (List ℕ)) (ws : List Write) (i : ℕ) (ts : List (List ℕ)) → length ws ≤ i → AreTexts f ws i ts → each f ws ≡ Some ts
-AreTexts-end f ws i ts l all = all ∙ ap (λ xs. option_map (λ rest. ts ++ rest) (each f xs)) (drop_of_length-le ws l) ∙ ap (λ xs. Some xs) (append-nil ts)
+  so_far : each f ws ≡ with_here (f here)
+  so_far = all ∙ ap (λ xs. option_map (λ us. ts ++ us) (each f (left t xs))) steps
+
+  pub AreTexts-more : (text : List ℕ) → f here ≡ Some text → AreTexts f ws (left t more) (ts ++ text ∷ [])
+  AreTexts-more text e = so_far ∙ ap with_here e ∙ go (each f (left t more))
+    where
+      go : (o : Option (List (List ℕ))) → option_map (λ us. ts ++ us) (option_map (λ ys. text ∷ ys) o) ≡ option_map (λ us. (ts ++ text ∷ []) ++ us) o
+      go None = refl
+      go (Some us) = ap (λ xs. Some xs) (sym (append_assoc ts (text ∷ []) us))
+
+  pub AreTexts-stop : f here ≡ None → each f ws ≡ None
+  AreTexts-stop e = so_far ∙ ap with_here e
+
+pub AreTexts-end : (f : Write → Option (List ℕ)) (t : Table) (ws : List Write) (ts : List (List ℕ)) (rest : List OneWrite) → rest ≡ [] → AreTexts f ws (left t rest) ts → each f ws ≡ Some ts
+AreTexts-end f t ws ts rest none all = all ∙ ap (λ xs. option_map (λ us. ts ++ us) (each f (left t xs))) none ∙ ap (λ xs. Some xs) (append-nil ts)
 
 -- what is written of the texts so far
-pub record HasWritten (f : Write → Option (List ℕ)) (ws : List Write) (i : ℕ) (made : List (List ℕ) → List ℕ) (out : List ℕ) : Type 0 where
+pub record HasWritten (f : Write → Option (List ℕ)) (ws rest : List Write) (made : List (List ℕ) → List ℕ) (out : List ℕ) : Type 0 where
   pub texts : List (List ℕ)
-  pub are : AreTexts f ws i texts
-  pub count : length texts ≡ i
+  pub are : AreTexts f ws rest texts
   pub written : out ≡ made texts
+
+-- the first text is written no more
+pub some_texts : (ts : List (List ℕ)) (t : List ℕ) → false ≡ (length (ts ++ t ∷ []) == 0)
+some_texts ts t = go (length (ts ++ t ∷ []) == 0) refl
+  where
+    go : (b : Bool) → (length (ts ++ t ∷ []) == 0) ≡ b → false ≡ b
+    go false e = refl
+    go true e =
+        let count : length (ts ++ t ∷ []) ≡ length ts + 1 = length-append ts (t ∷ []) in
+        let none : length (ts ++ t ∷ []) ≡ 0 = eqb-true (length (ts ++ t ∷ [])) 0 e in
+        absurd (omega (arith, count, none))
 
 queries-append : (ps qs : List (List ℕ × List ℕ)) → queries (ps ++ qs) ≡ queries ps ++ queries qs
 queries-append [] qs = refl

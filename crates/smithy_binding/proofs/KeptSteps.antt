@@ -7,8 +7,9 @@ use Rattle.std.proofs.lemmas.Bool.{eqb-true}
 use Rattle.std.proofs.lemmas.List.{append-nil, map-append}
 use Rattle.smithy_schema.specs.Nodes.{Schema, Table, Binding, to_body, to_payload, binding_of, is_bound, is_outside_body, member_at}
 use Rattle.smithy_serde.specs.Fits.{fits_member}
-use Rattle.smithy_serde.specs.StoredValues.{IsDefined}
-use Rattle.smithy_serde.specs.Values.{Value, Write, label_of}
+use Rattle.smithy_serde.specs.StoredValues.{label_at, HasNode, value_in, IsDefined, listed, AreListedDefined}
+use Rattle.smithy_serde.specs.Values.{Value, Write, list_of, label_of}
+use Rattle.smithy_serde.specs.declared.value.OneWrite.{OneWrite}
 use Rattle.smithy_serde.specs.Writes.{Resolved, resolve, resolved, all_resolved, firsts_from, has_seen}
 use Rattle.smithy_http.specs.Headers.{put_all}
 use Rattle.smithy_binding.specs.Bindings.{inserted_at, pairs_at, labelled_at, query_names}
@@ -54,12 +55,17 @@ kept-cons schema parts w ws = go (resolved schema w)
     go (Some r) = refl
 
 -- a write further
-pub kept-step : (schema : Schema) (ws : List Write) (i : ℕ) (w : Write) (old new : BodyParts) → slice_get ws i ≡ Some w → new ≡ keep_all old (all_resolved schema (w ∷ []))
-    → keep_all new (all_resolved schema (drop (i + 1) ws)) ≡ keep_all old (all_resolved schema (drop i ws))
-kept-step schema ws i w old new at e = rw (e, drop-some ws i w at) (sym (kept-cons schema old w (drop (i + 1) ws)))
+pub kept-step : (t : Table) (schema : Schema) (x : OneWrite) (rest more : List OneWrite) (old new : BodyParts) → rest ≡ x ∷ more
+    → new ≡ keep_all old (all_resolved schema (record { label = label_at t x.node.0; value = value_in t x.value } ∷ []))
+    → keep_all new (all_resolved schema (list_of (listed t more))) ≡ keep_all old (all_resolved schema (list_of (listed t rest)))
+kept-step t schema x rest more old new steps e = rw (e, steps) (sym (kept-cons schema old (record { label = label_at t x.node.0; value = value_in t x.value }) (list_of (listed t more))))
 
-pub kept-end : (schema : Schema) (ws : List Write) (i : ℕ) (parts : BodyParts) → length ws ≤ i → keep_all parts (all_resolved schema (drop i ws)) ≡ parts
-kept-end schema ws i parts l = rw (drop_of_length-le ws l) refl
+pub kept-end : (t : Table) (schema : Schema) (rest : List OneWrite) (parts : BodyParts) → rest ≡ [] → keep_all parts (all_resolved schema (list_of (listed t rest))) ≡ parts
+kept-end t schema rest parts none = rw none refl
+
+-- the node and the value of the first write that is left
+pub first-defined : (t : Table) (x : OneWrite) (rest more : List OneWrite) → rest ≡ x ∷ more → AreListedDefined t rest → HasNode t x.node.0 × IsDefined t x.value × AreListedDefined t more
+first-defined t x rest more steps all = subst (AreListedDefined t) steps all
 
 -- what is kept of all writes, by the members' bindings
 

@@ -10,10 +10,12 @@ use Rattle.smithy_types.specs.Texts.{is_one_of, same_text}
 use Rattle.smithy_ids.specs.declared.shape_type.ShapeType.{ShapeType}
 use Rattle.smithy_ids.specs.declared.shape_type.ShapeType.TheVariants as kind
 use Rattle.smithy_ids.specs.Kinds.{same_kind}
-use Rattle.smithy_schema.specs.Nodes.{Schema, at_place, member_at, key_of, value_of, to_prefix, to_query_map}
+use Rattle.smithy_schema.specs.Nodes.{Schema, Table, at_place, member_at, key_of, value_of, to_prefix, to_query_map}
 use Rattle.smithy_serde.specs.Fits.{fits}
+use Rattle.smithy_serde.specs.StoredValues.{value_in, listed}
 use Rattle.smithy_serde.specs.Values.{Value, scalar, text, Writes, no_writes, write, Write, list_of, writes_of, text_of_key}
 use Rattle.smithy_serde.specs.Values as value
+use Rattle.smithy_serde.specs.declared.value.OneWrite.{OneWrite}
 use Rattle.smithy_strings.specs.declared.wire.Place.{Place}
 use Rattle.smithy_strings.specs.declared.wire.Place.TheVariants as at
 use Rattle.smithy_strings.specs.Wire.{wire}
@@ -27,20 +29,16 @@ use Rattle.smithy_binding.proofs.DistinctNames.{same_text-sym}
 use Rattle.smithy_binding.proofs.MemberSteps.{members_from}
 use Rattle.smithy_binding.proofs.WriteSteps.{drop-some}
 
--- the first fault from a key or a value on
-abbrev pub entry_fault_from : Schema → ShapeType → ShapeType → List Write → ℕ → Option Fault
-entry_fault_from m this next ws i = entry_fault m this next (writes_of (drop i ws))
+-- a key or a value further
+module _ (t : Table) (m : Schema) (this next : ShapeType) (x : OneWrite) (rest more : List OneWrite) (steps : rest ≡ x ∷ more) where
+  pub entry-more : fits this (value_in t x.value) ≡ true → entry_fault m this next (listed t rest) ≡ entry_fault m next this (listed t more)
+  entry-more fit = rw (steps, fit) refl
 
-pub entry-more : (m : Schema) (this next : ShapeType) (ws : List Write) (i : ℕ) (w : Write) → slice_get ws i ≡ Some w → fits this w.value ≡ true
-    → entry_fault_from m this next ws i ≡ entry_fault_from m next this ws (i + 1)
-entry-more m this next ws i w at fit = rw (drop-some ws i w at, fit) refl
+  pub entry-stop : fits this (value_in t x.value) ≡ false → entry_fault m this next (listed t rest) ≡ Some (wrong_item_kind m this (value_in t x.value))
+  entry-stop wrong = rw (steps, wrong) refl
 
-pub entry-stop : (m : Schema) (this next : ShapeType) (ws : List Write) (i : ℕ) (w : Write) → slice_get ws i ≡ Some w → fits this w.value ≡ false
-    → entry_fault_from m this next ws i ≡ Some (wrong_item_kind m this w.value)
-entry-stop m this next ws i w at wrong = rw (drop-some ws i w at, wrong) refl
-
-pub entry-end : (m : Schema) (this next : ShapeType) (ws : List Write) (i : ℕ) → length ws ≤ i → entry_fault_from m this next ws i ≡ None
-entry-end m this next ws i l = rw (drop_of_length-le ws l) refl
+pub entry-end : (t : Table) (m : Schema) (this next : ShapeType) (rest : List OneWrite) → rest ≡ [] → entry_fault m this next (listed t rest) ≡ None
+entry-end t m this next rest none = rw none refl
 
 -- keys and values in turn end with a value where there are as many of them
 pub ends-even : (ws : Writes) → (length (list_of ws) % 2 == 0) ≡ ends_with_value ws

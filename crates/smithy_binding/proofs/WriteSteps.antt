@@ -3,8 +3,10 @@ use Rattle.std.proofs.Common.{◌≡◌, refl, ap, ◌∙◌, subst, ℕ, zero, 
 use Rattle.std.specs.List.{list_all, cons_option}
 use Rattle.std.proofs.Math.ListN.{drop_of_length-le}
 use Rattle.std.proofs.lemmas.Bool.{and_parts}
-use Rattle.smithy_schema.specs.Nodes.{Schema, at_place, member_at, members_of, binding_of}
-use Rattle.smithy_serde.specs.Values.{Write}
+use Rattle.smithy_schema.specs.Nodes.{Schema, Table, at_place, member_at, members_of, binding_of}
+use Rattle.smithy_serde.specs.StoredValues.{label_at, value_in, listed}
+use Rattle.smithy_serde.specs.Values.{Write, list_of}
+use Rattle.smithy_serde.specs.declared.value.OneWrite.{OneWrite}
 use Rattle.smithy_serde.specs.Writes.{Resolved, resolve}
 use Rattle.smithy_serde.specs.Fits.{fits_member}
 use Rattle.smithy_binding.specs.Faults.{Fault, no_member, wrong_kind, bound_fault, is_placed_at}
@@ -22,19 +24,21 @@ drop-none [] (suc i) e = refl
 drop-none (y ∷ ys) zero e = absurd (cc e)
 drop-none (y ∷ ys) (suc i) e = drop-none ys i e
 
-pub gather-more : (schema : Schema) (s t : Gathered) (ws : List Write) (i : ℕ) (w : Write) → slice_get ws i ≡ Some w → gather_one schema s w ≡ Ok t
-    → gather schema s (drop i ws) ≡ gather schema t (drop (i + 1) ws)
-unfolding gather
-gather-more schema s t ws i w at e = rw (drop-some ws i w at, e) refl
+-- a write further
+module _ (t : Table) (schema : Schema) (s : Gathered) (x : OneWrite) (rest more : List OneWrite) (steps : rest ≡ x ∷ more) where
+  pub gather-more : (next : Gathered) → gather_one schema s (record { label = label_at t x.node.0; value = value_in t x.value }) ≡ Ok next
+      → gather schema s (list_of (listed t rest)) ≡ gather schema next (list_of (listed t more))
+  unfolding gather
+  gather-more next e = rw (steps, e) refl
 
-pub gather-stop : (schema : Schema) (s : Gathered) (f : Fault) (ws : List Write) (i : ℕ) (w : Write) → slice_get ws i ≡ Some w → gather_one schema s w ≡ Err f
-    → gather schema s (drop i ws) ≡ Err f
-unfolding gather
-gather-stop schema s f ws i w at e = rw (drop-some ws i w at, e) refl
+  pub gather-stop : (f : Fault) → gather_one schema s (record { label = label_at t x.node.0; value = value_in t x.value }) ≡ Err f
+      → gather schema s (list_of (listed t rest)) ≡ Err f
+  unfolding gather
+  gather-stop f e = rw (steps, e) refl
 
-pub gather-end : (schema : Schema) (s : Gathered) (ws : List Write) (i : ℕ) → length ws ≤ i → gather schema s (drop i ws) ≡ Ok s
+pub gather-end : (t : Table) (schema : Schema) (s : Gathered) (rest : List OneWrite) → rest ≡ [] → gather schema s (list_of (listed t rest)) ≡ Ok s
 unfolding gather
-gather-end schema s ws i l = rw (drop_of_length-le ws l) refl
+gather-end t schema s rest none = rw none refl
 
 pub gather_one-at : (schema : Schema) (s : Gathered) (w : Write) (i : ℕ) (m : Schema) → resolve schema w.label ≡ Some i → member_at schema i ≡ Some m
     → gather_one schema s w ≡ add_or_fault schema s (record { position = i; member = m; value = w.value })

@@ -14,7 +14,7 @@ use crate::refusal::no_year;
 use smithy_ids::TimestampFormat;
 use smithy_schema::{Binding, SchemaIndex, SchemaRef, Schemas};
 use smithy_serde::{SerdeError, ShapeValue};
-use smithy_strings::{Place, format_in, scalar_text};
+use smithy_strings::{Place, format_in, text_or_none};
 use std::alloc::Global;
 use std::borrow::CowStr;
 
@@ -43,10 +43,7 @@ fn has_media_type(schema: SchemaRef<'_>) -> bool
 fn format_at(table: &Schemas, node: SchemaIndex) -> Option<TimestampFormat>
     ensures { result ≡ (label_at table.now node.0).time_format }
 {
-    match table.get(node) {
-        Some(schema) => format_in(schema),
-        None => None,
-    }
+    format_in(table.get(node)?)
 }
 
 // The text of a scalar. Of the values that a binding takes, only a time may have none.
@@ -60,10 +57,9 @@ fn text_or_no_year<'w>(
     ensures ok { IfOk result (λ s. (t : Table) → wire format has_media_type place (value_in t value.now) ≡ Some (cow_str_bytes s)) }
     ensures err { IfErr result (λ e. (t : Table) → TellsFault e (λ f. (f ≡ no_year_fault) × (wire format has_media_type place (value_in t value.now) ≡ None))) }
 {
-    match scalar_text(alloc, format, has_media_type, place, value) {
-        Ok(text) => Ok(text),
-        Err(SerdeError::OutOfMemory) => Err(SerdeError::OutOfMemory),
-        Err(_) => Err(no_year(alloc)),
+    match text_or_none(alloc, format, has_media_type, place, value)? {
+        Some(text) => Ok(text),
+        None => Err(no_year(alloc)),
     }
 }
 

@@ -44,10 +44,7 @@ pub fn test_elements(
     ensures ok { OnOk result (element_fault (schema_of member.entry) kind (writes_in table.now elements.now) ≡ None) }
     ensures err { IfErr result (λ e. TellsFault e (λ f. element_fault (schema_of member.entry) kind (writes_in table.now elements.now) ≡ Some f)) }
 {
-    for place in 0..elements.len() {
-        let Some((_node, value)) = elements.write(place) else {
-            unreachable!()
-        };
+    for (_, value) in elements.iter() {
         if !value.fits(kind) {
             return Err(wrong_item(alloc, member, kind, value));
         }
@@ -67,12 +64,11 @@ pub fn listed_text(
     ensures err { IfErr result (λ e. TellsFault e (λ f. (f ≡ no_year_fault) × (each (element at.Header) (list_of (writes_in table.now elements.now)) ≡ None))) }
 {
     let mut list = String::new(alloc);
-    for place in 0..elements.len() {
-        let Some((node, value)) = elements.write(place) else {
-            unreachable!()
-        };
+    let mut is_first = true;
+    for (node, value) in elements.iter() {
         let text = element_text(alloc, table, Place::Header, node, value)?;
-        push_listed(&mut list, place == 0, kind, text.as_str())?;
+        push_listed(&mut list, is_first, kind, text.as_str())?;
+        is_first = false;
     }
     Ok(Text::from_string(list))
 }
@@ -89,10 +85,7 @@ pub fn push_elements(
     ensures ok { OnOk result (option_map (λ texts. string_bytes query.old ++ queries (pairs_with name.now texts)) (each (element at.Query) (list_of (writes_in table.now elements.now))) ≡ Some (string_bytes query.new)) }
     ensures err { IfErr result (λ e. TellsFault e (λ f. (f ≡ no_year_fault) × (each (element at.Query) (list_of (writes_in table.now elements.now)) ≡ None))) }
 {
-    for place in 0..elements.len() {
-        let Some((node, value)) = elements.write(place) else {
-            unreachable!()
-        };
+    for (node, value) in elements.iter() {
         let text = element_text(alloc, table, Place::Query, node, value)?;
         push_pair(query, name, text.as_str())?;
     }

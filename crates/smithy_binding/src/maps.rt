@@ -50,10 +50,7 @@ pub fn test_entries(
 {
     let mut kind = kind_of(member.key());
     let mut next = kind_of(member.value());
-    for place in 0..entries.len() {
-        let Some((_node, value)) = entries.write(place) else {
-            unreachable!()
-        };
+    for (_, value) in entries.iter() {
         if !value.fits(kind) {
             return Err(wrong_item(alloc, member, kind, value));
         }
@@ -156,20 +153,14 @@ pub fn put_entries(
 fn query_name<'t>(member: SchemaRef<'t>) -> Option<&'t str>
     ensures { option_map (λ n. n.now) result ≡ (schema_of member.entry).node.traits.http_query }
 {
-    match member.http_query() {
-        Some(query) => Some(query.value()),
-        None => None,
-    }
+    Some(member.http_query()?.value())
 }
 
 // The query name of the member at a position.
 fn query_name_at<'t>(schema: SchemaRef<'t>, position: usize) -> Option<&'t str>
     ensures { option_map (λ n. n.now) result ≡ option_and_then (λ m. m.node.traits.http_query) (member_at (schema_of schema.entry) position) }
 {
-    match schema.member_schema_by_index(position) {
-        Some(member) => query_name(member),
-        None => None,
-    }
+    query_name(schema.member_schema_by_index(position)?)
 }
 
 // The names of the schema's query members, written or not.

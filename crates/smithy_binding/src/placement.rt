@@ -295,10 +295,7 @@ pub fn gather_writes<'t, 'w>(
     ensures body { OnOk result (kept_in table.now parts.new.body ≡ body_parts (schema_of schema.entry) (list_of (writes_in table.now writes.now))) }
     ensures body_defined { OnOk result (IsKeptDefined table.now parts.new.body) }
 {
-    for place in 0..writes.len() {
-        let Some((node, value)) = writes.write(place) else {
-            unreachable!()
-        };
+    for (node, value) in writes.iter() {
         add_write(alloc, schema, table, parts, node, value)?;
     }
     Ok(())

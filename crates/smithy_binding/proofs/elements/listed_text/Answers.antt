@@ -1,48 +1,65 @@
-use Rattle.std.proofs.Common.{rules, ◌≡◌, refl, ap, sym, ◌∙◌, ◌+◌, ◌++◌, ◌∷◌, ◌==◌, [], length, length-append, Some, None, option_map, IfErr, arith}
+use Rattle.std.proofs.Common.{rules, ◌≡◌, refl, ap, sym, ◌∙◌, ◌++◌, ◌∷◌, [], Some, None, option_map, IfErr}
+use Rattle.smithy_serde.specs.StoredValues as stored
 use Rattle.smithy_serde.specs.StoredValues.{writes_in, value_in, label_at}
-use Rattle.smithy_serde.specs.Values.{Write, list_of}
+use Rattle.smithy_serde.specs.Values.{Write, Writes, list_of}
 use Rattle.smithy_strings.specs.declared.wire.Place.TheVariants as at
 use Rattle.smithy_strings.specs.Lists.{listed}
 use Rattle.smithy_binding.specs.Bindings.{element_text}
 use Rattle.smithy_binding.specs.Faults.{no_year}
 use Rattle.smithy_binding.specs.Refusing.{TellsFault}
-use Rattle.smithy_binding.proofs.ElementSteps.{AreTexts-none, AreTexts-more, AreTexts-stop, AreTexts-end}
+use Rattle.smithy_binding.proofs.ElementSteps.{AreTexts-none, AreTexts-more, AreTexts-stop, AreTexts-end, some_texts, left}
 use Rattle.smithy_binding.proofs.Refusals.{IfErr-then}
 use Rattle.smithy_binding.proofs.elements.listed_text.Goals as goal
 
-pub loop-place-init : goal.loop-place-init
+pub loop-node-init : goal.loop-node-init
 unfolding listed
-loop-place-init c = record { texts = []; are = AreTexts-none (element_text at.Header) (list_of (writes_in c.args.table.now c.args.elements.now)); count = refl; written = search rules }
+loop-node-init c =
+    let t = c.args.table.now in
+    let taken = c.iter-node-items.ensures.writes t ∙ sym (ap (stored.listed t) c.into_iter-node-iterator.ensures.into_iter_gives) in
+    (record { texts = []; are = AreTexts-none (element_text at.Header) _ (left t c.into_iter-node-iterator.result) (ap list_of taken); written = search rules }, refl)
 
-pub loop-place-preserved : goal.loop-place-preserved
-loop-place-preserved c =
+pub loop-node-preserved : goal.loop-node-preserved
+loop-node-preserved c =
     let t = c.args.table.now in
     let ws = list_of (writes_in t c.args.elements.now) in
-    let w : Write = record { label = label_at t c.in-Some.node.0; value = value_in t c.in-Some.value.now } in
-    let so_far = c.loop-place.invariant in
+    let so_far = c.loop-node.invariant.0 in
     let text = c.as_str.result.now in
-    let found : element_text at.Header w ≡ Some text = c.in_ok-text.ensures.ok ∙ ap Some (sym c.as_str.ensures.value) in
-    record {
-      texts = so_far.texts ++ text ∷ [];
-      are = AreTexts-more (element_text at.Header) ws c.loop-place.place so_far.texts w text (sym (c.in-Some.ensures.write t)) found so_far.are;
-      count = length-append so_far.texts (text ∷ []) ∙ ap (λ n. n + 1) so_far.count;
-      written = c.in_ok-push_listed.ensures.ok so_far.texts (ap (λ n. n == 0) (sym so_far.count)) so_far.written;
-    }
+    let found = c.in_ok-text.ensures.ok ∙ ap Some (sym c.as_str.ensures.value) in (
+      record {
+        texts = so_far.texts ++ text ∷ [];
+        are = AreTexts-more (element_text at.Header) t ws so_far.texts _ _ _ c.in-Some.ensures.steps so_far.are text found;
+        written = c.in_ok-push_listed.ensures.ok so_far.texts c.loop-node.invariant.1 so_far.written;
+      },
+      some_texts so_far.texts text,
+    )
+
+pub loop-node-preserved-in_ok-push_listed : goal.loop-node-preserved-in_ok-push_listed
+loop-node-preserved-in_ok-push_listed c =
+    let t = c.args.table.now in
+    let ws = list_of (writes_in t c.args.elements.now) in
+    let so_far = c.loop-node.invariant.0 in
+    let text = c.as_str.result.now in
+    let found = c.in_ok-text.ensures.ok ∙ ap Some (sym c.as_str.ensures.value) in (
+      record {
+        texts = so_far.texts ++ text ∷ [];
+        are = AreTexts-more (element_text at.Header) t ws so_far.texts _ _ _ c.in-Some.ensures.steps so_far.are text found;
+        written = c.in_ok-push_listed.ensures.ok so_far.texts c.loop-node.invariant.1 so_far.written;
+      },
+      some_texts so_far.texts text,
+    )
 
 pub returns-in_err-text-clause-err : goal.returns-in_err-text-clause-err
 returns-in_err-text-clause-err c =
     let t = c.args.table.now in
     let ws = list_of (writes_in t c.args.elements.now) in
     let w : Write = record { label = label_at t c.in-Some.node.0; value = value_in t c.in-Some.value.now } in
-    let so_far = c.loop-place.invariant in
+    let so_far = c.loop-node.invariant.0 in
     let told : IfErr c.from_residual.result (λ e. TellsFault e (λ f. (f ≡ no_year) × (element_text at.Header w ≡ None))) = search rules in
-    IfErr-then c.from_residual.result _ _
-    (λ f e. (e.0, AreTexts-stop (element_text at.Header) ws c.loop-place.place so_far.texts w (sym (c.in-Some.ensures.write t)) e.1 so_far.are)) told
+    IfErr-then c.from_residual.result _ _ (λ f e. (e.0, AreTexts-stop (element_text at.Header) t ws so_far.texts _ _ _ c.in-Some.ensures.steps so_far.are e.1)) told
 
 pub returns-clause-ok : goal.returns-clause-ok
 returns-clause-ok c =
-    let ws = list_of (writes_in c.args.table.now c.args.elements.now) in
-    let all : c.len-place-end.result ≡ length ws = c.len-place-end.ensures c.args.table.now in
-    let so_far = c.loop-place.invariant in
-    ap (option_map (listed c.args.kind)) (AreTexts-end (element_text at.Header) ws c.loop-place.place so_far.texts (omega (arith, all, c.loop-place-test.false)) so_far.are)
+    let t = c.args.table.now in
+    let so_far = c.loop-node.invariant.0 in
+    ap (option_map (listed c.args.kind)) (AreTexts-end (element_text at.Header) t (list_of (writes_in t c.args.elements.now)) so_far.texts _ c.in-None.ensures.steps.0 so_far.are)
     ∙ ap Some (sym so_far.written ∙ sym c.from_string.ensures)

@@ -1,57 +1,61 @@
-use Rattle.std.proofs.Common.{rules, ◌≡◌, refl, sym, ◌∙◌, Some, Err, IfErr, length, slice_get, arith}
+use Rattle.std.proofs.Common.{rules, ◌≡◌, refl, ap, sym, ◌∙◌, subst, List, Err, IfErr}
 use Rattle.smithy_schema.specs.References.{schema_of}
-use Rattle.smithy_serde.specs.StoredValues.{label_at, value_in, writes_in}
-use Rattle.smithy_serde.specs.Values.{Write, list_of}
-use Rattle.smithy_binding.specs.Gather.{gather_one}
+use Rattle.smithy_serde.specs.StoredValues.{label_at, value_in, writes_in, listed, AreListedDefined}
+use Rattle.smithy_serde.specs.Values.{Write, Writes, list_of}
+use Rattle.smithy_serde.specs.Writes.{all_resolved}
+use Rattle.smithy_serde.specs.declared.value.OneWrite.{OneWrite}
+use Rattle.smithy_binding.specs.Gather.{gather, gather_one, nothing_yet}
 use Rattle.smithy_binding.specs.Refusing.{TellsFault}
 use Rattle.smithy_binding.specs.Seen.{gathered_of}
-use Rattle.smithy_binding.specs.KeptWrites.{kept_in}
+use Rattle.smithy_binding.specs.KeptWrites.{no_parts, keep_all, kept_in}
 use Rattle.smithy_binding.proofs.Refusals.{IfErr-then}
-use Rattle.smithy_binding.proofs.KeptSteps.{kept-step, kept-end, kept-all, kept-empty, defined-empty}
+use Rattle.smithy_binding.proofs.KeptSteps.{kept-step, kept-end, kept-all, kept-empty, defined-empty, first-defined}
 use Rattle.smithy_binding.proofs.WriteSteps.{gather-more, gather-stop, gather-end}
 use Rattle.smithy_binding.proofs.placement.gather_writes.Goals as goal
+
+pub loop-node-init : goal.loop-node-init
+loop-node-init c =
+    let t = c.args.table.now in
+    let schema = schema_of c.args.schema in
+    let taken = c.into_iter-node-iterator.ensures.into_iter_gives in
+    let all = ap (listed t) taken ∙ sym (c.iter-node-items.ensures.writes t) in
+    record {
+      walk = ap (λ s. gather schema s (list_of (listed t c.into_iter-node-iterator.result))) c.requires.empty ∙ ap (λ (us : Writes). gather schema (nothing_yet schema) (list_of us)) all;
+      body = ap (λ parts. keep_all parts (all_resolved schema (list_of (listed t c.into_iter-node-iterator.result)))) (kept-empty t c.args.parts.now.body c.requires.empty_body)
+          ∙ ap (λ (us : Writes). keep_all no_parts (all_resolved schema (list_of us))) all;
+      defined = defined-empty t c.args.parts.now.body c.requires.empty_body;
+      nodes = subst (AreListedDefined t) (sym taken) (c.iter-node-items.ensures.defined t c.requires.defined);
+    }
+
+pub add_write-requires-clause-defined : goal.add_write-requires-clause-defined
+add_write-requires-clause-defined c = (first-defined c.args.table.now _ _ _ c.in-Some.ensures.steps c.loop-node.invariant.nodes).0
 
 pub returns-in_err-add_write-clause-err : goal.returns-in_err-add_write-clause-err
 returns-in_err-add_write-clause-err c =
     let schema = schema_of c.args.schema in
-    let ws = list_of (writes_in c.args.table.now c.args.writes.now) in
-    let w : Write = record { label = label_at c.args.table.now c.in-Some.node.0; value = value_in c.args.table.now c.in-Some.value.now } in
-    let at : slice_get ws c.loop-place.place ≡ Some w = sym (c.in-Some.ensures.write c.args.table.now) in
-    let told : IfErr c.from_residual.result (λ e. TellsFault e (λ f. gather_one schema (gathered_of c.loop-place.parts) w ≡ Err f)) = search rules in
-    IfErr-then c.from_residual.result _ _ (λ f e. sym c.loop-place.invariant.walk ∙ gather-stop schema (gathered_of c.loop-place.parts) f ws c.loop-place.place w at e) told
+    let t = c.args.table.now in
+    let s = gathered_of c.loop-node.parts in
+    let w : Write = record { label = label_at t c.in-Some.node.0; value = value_in t c.in-Some.value.now } in
+    let told : IfErr c.from_residual.result (λ e. TellsFault e (λ f. gather_one schema s w ≡ Err f)) = search rules in
+    IfErr-then c.from_residual.result _ _ (λ f e. sym c.loop-node.invariant.walk ∙ gather-stop t schema s _ _ _ c.in-Some.ensures.steps f e) told
 
-pub loop-place-init : goal.loop-place-init
-loop-place-init c =
-    record {
-      walk = rw c.requires.empty refl;
-      body = rw (kept-empty c.args.table.now c.args.parts.now.body c.requires.empty_body) refl;
-      defined = defined-empty c.args.table.now c.args.parts.now.body c.requires.empty_body;
-    }
-
-pub loop-place-preserved : goal.loop-place-preserved
-loop-place-preserved c =
+pub loop-node-preserved : goal.loop-node-preserved
+loop-node-preserved c =
     let schema = schema_of c.args.schema in
     let t = c.args.table.now in
-    let ws = list_of (writes_in t c.args.writes.now) in
-    let w : Write = record { label = label_at t c.in-Some.node.0; value = value_in t c.in-Some.value.now } in
-    let at : slice_get ws c.loop-place.place ≡ Some w = sym (c.in-Some.ensures.write c.args.table.now) in
+    let first = first-defined t _ _ _ c.in-Some.ensures.steps c.loop-node.invariant.nodes in
     record {
-      walk = sym (gather-more schema (gathered_of c.loop-place.parts) (gathered_of c.add_write.new.parts) ws c.loop-place.place w at c.in_ok-add_write.ensures.ok) ∙ c.loop-place.invariant.walk;
-      body = kept-step schema ws c.loop-place.place w (kept_in t c.loop-place.parts.body) (kept_in t c.add_write.new.parts.body) at c.in_ok-add_write.ensures.body
-          ∙ c.loop-place.invariant.body;
-      defined = c.in_ok-add_write.ensures.defined c.loop-place.invariant.defined (c.in-Some.ensures.defined t c.requires.defined);
+      walk = sym (gather-more t schema (gathered_of c.loop-node.parts) _ _ _ c.in-Some.ensures.steps (gathered_of c.add_write.new.parts) c.in_ok-add_write.ensures.ok) ∙ c.loop-node.invariant.walk;
+      body = kept-step t schema _ _ _ (kept_in t c.loop-node.parts.body) (kept_in t c.add_write.new.parts.body) c.in-Some.ensures.steps c.in_ok-add_write.ensures.body ∙ c.loop-node.invariant.body;
+      defined = c.in_ok-add_write.ensures.defined c.loop-node.invariant.defined first.1;
+      nodes = first.2;
     }
 
 pub returns-clause-ok : goal.returns-clause-ok
-returns-clause-ok c =
-    let ws = list_of (writes_in c.args.table.now c.args.writes.now) in
-    let all : c.len-place-end.result ≡ length ws = c.len-place-end.ensures c.args.table.now in
-    sym c.loop-place.invariant.walk ∙ gather-end (schema_of c.args.schema) (gathered_of c.loop-place.parts) ws c.loop-place.place (omega (arith, all, c.loop-place-test.false))
+returns-clause-ok c = sym c.loop-node.invariant.walk ∙ gather-end c.args.table.now (schema_of c.args.schema) (gathered_of c.loop-node.parts) _ c.in-None.ensures.steps.0
 
 pub returns-clause-body : goal.returns-clause-body
 returns-clause-body c =
     let schema = schema_of c.args.schema in
-    let ws = list_of (writes_in c.args.table.now c.args.writes.now) in
-    let all : c.len-place-end.result ≡ length ws = c.len-place-end.ensures c.args.table.now in
-    sym (kept-end schema ws c.loop-place.place (kept_in c.args.table.now c.loop-place.parts.body) (omega (arith, all, c.loop-place-test.false)))
-    ∙ c.loop-place.invariant.body ∙ kept-all schema ws
+    let t = c.args.table.now in
+    sym (kept-end t schema _ (kept_in t c.loop-node.parts.body) c.in-None.ensures.steps.0) ∙ c.loop-node.invariant.body ∙ kept-all schema (list_of (writes_in t c.args.writes.now))

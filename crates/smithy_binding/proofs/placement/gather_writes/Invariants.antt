@@ -1,6 +1,6 @@
-use Rattle.std.proofs.Common.{◌≡◌, drop}
+use Rattle.std.proofs.Common.{◌≡◌}
 use Rattle.smithy_schema.specs.References.{schema_of}
-use Rattle.smithy_serde.specs.StoredValues.{writes_in}
+use Rattle.smithy_serde.specs.StoredValues.{listed, writes_in, AreListedDefined}
 use Rattle.smithy_serde.specs.Values.{list_of}
 use Rattle.smithy_serde.specs.Writes.{all_resolved}
 use Rattle.smithy_binding.specs.Gather.{gather, nothing_yet}
@@ -8,12 +8,14 @@ use Rattle.smithy_binding.specs.KeptWrites.{no_parts, keep_all, kept_in, IsKeptD
 use Rattle.smithy_binding.specs.Seen.{gathered_of}
 use Rattle.smithy_binding.proofs.placement.gather_writes.Given as goal
 
-abbrev pub invariant-loop-place : goal.invariant-loop-place
-invariant-loop-place l =
+abbrev pub invariant-loop-node : goal.invariant-loop-node
+invariant-loop-node l =
     let schema = schema_of l.schema in
     let ws = list_of (writes_in l.table l.writes) in
+    let rest = list_of (listed l.table l.node-iterator) in
     record {
-      walk : gather schema (gathered_of l.parts) (drop l.place ws) ≡ gather schema (nothing_yet schema) ws;
-      body : keep_all (kept_in l.table l.parts.body) (all_resolved schema (drop l.place ws)) ≡ keep_all no_parts (all_resolved schema ws);
+      walk : gather schema (gathered_of l.parts) rest ≡ gather schema (nothing_yet schema) ws;
+      body : keep_all (kept_in l.table l.parts.body) (all_resolved schema rest) ≡ keep_all no_parts (all_resolved schema ws);
       defined : IsKeptDefined l.table l.parts.body;
+      nodes : AreListedDefined l.table l.node-iterator;
     }
