@@ -37,3 +37,7 @@ protocol_of text p = protocol_with (content_type_of p) (text (codec_of p))
 -- an outcome of code is the answer to an input
 abbrev pub IsAnswer : Protocol → SchemaRef → Writes → List ℕ → OmitFlags → Result Request SerdeError → Type 0
 IsAnswer protocol schema ws endpoint omit result = Answers result (answer protocol (schema_of schema) (list_of ws) endpoint (omit_of omit))
+
+-- the same by a protocol of the code, where a codec has these texts
+abbrev pub AnswersBy : {C : Type 0} → (C → Document → List ℕ) → HttpBindingProtocol C → SchemaRef → Writes → List ℕ → OmitFlags → Result Request SerdeError → Type 0
+AnswersBy text p schema ws endpoint omit result = IsAnswer (protocol_of text p) schema ws endpoint omit result

@@ -86,7 +86,7 @@ impl<C: Codec> HttpBindingProtocol<C> {
     ghost use Rattle.smithy_schema.specs.References.{schema_of};
     ghost use Rattle.smithy_serde.specs.Finishing.{IsReady};
     ghost use Rattle.smithy_binding.specs.Checked.{checked_input};
-    ghost use Rattle.smithy_binding.specs.Protocols.{codec_of, protocol_of, IsAnswer};
+    ghost use Rattle.smithy_binding.specs.Protocols.{codec_of, AnswersBy};
 
     /// The request of an input, by its schema (Smithy, HTTP protocol bindings). Without `@http` the method is `GET`, and
     /// the template is `endpoint`, or `/` where that is empty. Each bound member's first write stands where its trait
@@ -113,7 +113,7 @@ impl<C: Codec> HttpBindingProtocol<C> {
     ) -> Result<Request, SerdeError>
         requires checked { IsTrue (checked_input (schema_of schema)) }
         requires lawful { C.lawful (codec_of self.now) }
-        ensures { IsAnswer (protocol_of C.text self.now) schema.entry (writes input.now) endpoint.now omit result }
+        ensures { AnswersBy C.text self.now schema.entry (writes input.now) endpoint.now omit result }
     {
         let body = self.codec.create_serializer(alloc)?;
         self.serialize_request_with_body(alloc, body, input, schema, endpoint, omit)
@@ -133,7 +133,7 @@ impl<C: Codec> HttpBindingProtocol<C> {
         requires checked { IsTrue (checked_input (schema_of schema)) }
         requires ready { IsReady (C.Serializer.seen body) }
         requires text { (C.Serializer.seen body).text ≡ C.text (codec_of self.now) }
-        ensures { IsAnswer (protocol_of C.text self.now) schema.entry (writes input.now) endpoint.now omit result }
+        ensures { AnswersBy C.text self.now schema.entry (writes input.now) endpoint.now omit result }
     {
         let content_type = self.content_type;
         if let Some((table, writes)) = input.stored_writes() {
