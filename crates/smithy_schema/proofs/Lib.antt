@@ -5,3 +5,4 @@ pub mod PreludeLemmas
 pub mod Rows
 pub mod SoundLemmas
 pub mod TableLemmas
+pub mod TraitMapLemmas

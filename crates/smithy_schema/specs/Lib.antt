@@ -2,11 +2,13 @@ pub mod MarksOf
 pub mod Nodes
 pub mod Defining
 pub mod Described
+pub mod DescribedTraits
 pub mod Details
 pub mod Formats
 pub mod Kept
 pub mod MemberNames
 pub mod Outlines
+pub mod OwnedTraits
 pub mod Places
 pub mod PreludeNodes
 pub mod PreludePlaces
@@ -15,3 +17,4 @@ pub mod Routing
 pub mod ShownBindings
 pub mod Stored
 pub mod Templates
+pub mod TraitMaps

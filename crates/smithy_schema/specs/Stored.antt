@@ -53,7 +53,7 @@ traits_stored t = record {
   host_label = t.marks.host_label;
   event_header = t.marks.event_header;
   event_payload = t.marks.event_payload;
-  others = None;
+  others = t.others;
 }
 
 abbrev pub details_full : FullDetails → Details

@@ -6,6 +6,7 @@ mod defining;
 mod error;
 mod member_names;
 mod outline;
+mod owned_trait;
 mod parts;
 pub mod prelude;
 mod request_binding;
@@ -15,8 +16,11 @@ mod schemas;
 mod shape_id_buf;
 mod stored;
 mod trait_getters;
+mod trait_map;
+mod traits;
 
 pub use error::SchemaError;
+pub use owned_trait::{AnnotationTrait, DocumentTrait, StringTrait, Trait};
 pub use parts::SchemaIndex;
 pub use prelude::Prelude;
 pub use request_binding::Binding;
@@ -24,6 +28,8 @@ pub use schema::Schema;
 pub use schema_ref::SchemaRef;
 pub use schemas::Schemas;
 pub use shape_id_buf::ShapeIdBuf;
+pub use trait_map::TraitMap;
+pub use traits::Traits;
 
 #[cfg(test)]
 mod tests;

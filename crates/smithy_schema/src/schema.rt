@@ -1,5 +1,7 @@
 // The description of a node, from which a table makes one.
-use crate::parts::{Marks, NO_MARKS, NO_PLACES, Places, SchemaIndex};
+use crate::parts::{NO_PLACES, Places, SchemaIndex};
+use crate::trait_map::TraitMap;
+use crate::traits::Traits;
 use smithy_ids::{HttpTrait, PayloadHint, ShapeId, ShapeType, TimestampFormat, XmlNamespaceTrait};
 use std::marker::Model;
 
@@ -12,8 +14,9 @@ pub(crate) enum Membership<'a> {
 }
 
 /// A description of a node: identifier, kind, what it cites, and traits. It borrows its texts and takes no memory.
+/// A map of further traits is its own.
 /// Members and other cited nodes are given by their places in the table.
-#[derive(Debug, Drop)]
+#[derive(Drop)]
 pub struct Schema<'a> {
     pub(crate) id: ShapeId<'a>,
     pub(crate) shape_type: ShapeType,
@@ -21,16 +24,8 @@ pub struct Schema<'a> {
     pub(crate) original_name: Option<&'a str>,
     pub(crate) places: Places,
     pub(crate) members: &'a [SchemaIndex],
-    pub(crate) marks: Marks,
-    pub(crate) http: Option<HttpTrait<'a>>,
-    pub(crate) json_name: Option<&'a str>,
-    pub(crate) xml_name: Option<&'a str>,
-    pub(crate) xml_namespace: Option<XmlNamespaceTrait<'a>>,
-    pub(crate) http_header: Option<&'a str>,
-    pub(crate) http_prefix_headers: Option<&'a str>,
-    pub(crate) http_query: Option<&'a str>,
-    pub(crate) media_type: Option<&'a str>,
-    pub(crate) timestamp_format: Option<TimestampFormat>,
+    pub(crate) traits: Traits<'a>,
+    pub(crate) others: Option<TraitMap>,
     pub(crate) no_body_members: bool,
     pub(crate) hint: PayloadHint,
 }
@@ -52,7 +47,8 @@ impl<'a> Model for Schema<'a> {
 impl<'a> Schema<'a> {
     ghost use Rattle.std.specs.Prelude.{◌≡◌, [], true, Some, None, option_map};
     ghost use Rattle.smithy_ids.specs.ShapeIdParts.{parts_of};
-    ghost use Rattle.smithy_schema.specs.Nodes.{Node, Traits, Namespace, bare_node};
+    ghost use Rattle.smithy_schema.specs.Nodes.{Node, Namespace, bare_node};
+    ghost use Rattle.smithy_schema.specs.DescribedTraits.{traits_described, with_plain};
     ghost use Rattle.smithy_schema.specs.Places.{places_of};
 
     /// A node of this kind that cites nothing.
@@ -66,16 +62,8 @@ impl<'a> Schema<'a> {
             original_name: None,
             places: NO_PLACES,
             members: &[],
-            marks: NO_MARKS,
-            http: None,
-            json_name: None,
-            xml_name: None,
-            xml_namespace: None,
-            http_header: None,
-            http_prefix_headers: None,
-            http_query: None,
-            media_type: None,
-            timestamp_format: None,
+            traits: Traits::NONE,
+            others: None,
             no_body_members: false,
             hint: PayloadHint::Unknown,
         }
@@ -189,11 +177,30 @@ impl<'a> Schema<'a> {
         self
     }
 
+    /// The same with these traits in the place of all that have a field of their own. Further traits stay.
+    pub fn with_plain_traits(mut self, traits: Traits<'a>) -> Self
+        ensures { result ≡ with_plain (traits_described traits.entry) self.entry }
+    {
+        self.traits = traits;
+        self
+    }
+
+    /// The same with further traits, by their names, in the place of those that it had.
+    pub fn with_traits(mut self, traits: TraitMap) -> Self
+        ensures { result ≡ record self.entry { traits = record self.entry.traits { others = Some traits } } }
+    {
+        self.others = Some(traits);
+        self
+    }
+
     /// The same with a format of timestamps (Smithy, timestampFormat trait).
     pub fn with_timestamp_format(mut self, format: TimestampFormat) -> Self
         ensures { result ≡ record self.entry { traits = record self.entry.traits { timestamp_format = Some format } } }
     {
-        self.timestamp_format = Some(format);
+        self.traits = Traits {
+            timestamp_format: Some(format),
+            ..self.traits
+        };
         self
     }
 
@@ -209,7 +216,10 @@ impl<'a> Schema<'a> {
     pub fn with_http(mut self, http: HttpTrait<'a>) -> Self
         ensures { result ≡ record self.entry { traits = record self.entry.traits { http = Some http.entry } } }
     {
-        self.http = Some(http);
+        self.traits = Traits {
+            http: Some(http),
+            ..self.traits
+        };
         self
     }
 
@@ -217,7 +227,10 @@ impl<'a> Schema<'a> {
     pub fn with_xml_namespace(mut self, uri: &'a str, prefix: Option<&'a str>) -> Self
         ensures { result ≡ record self.entry { traits = record self.entry.traits { xml_namespace = Some (record { uri = uri.now; prefix = option_map (λ p. p.now) prefix.entry }) } } }
     {
-        self.xml_namespace = Some(XmlNamespaceTrait::new(uri, prefix));
+        self.traits = Traits {
+            xml_namespace: Some(XmlNamespaceTrait::new(uri, prefix)),
+            ..self.traits
+        };
         self
     }
 
@@ -233,7 +246,10 @@ impl<'a> Schema<'a> {
     pub fn with_json_name(mut self, value: &'a str) -> Self
         ensures { result ≡ record self.entry { traits = record self.entry.traits { json_name = Some value.now } } }
     {
-        self.json_name = Some(value);
+        self.traits = Traits {
+            json_name: Some(value),
+            ..self.traits
+        };
         self
     }
 
@@ -241,7 +257,10 @@ impl<'a> Schema<'a> {
     pub fn with_xml_name(mut self, value: &'a str) -> Self
         ensures { result ≡ record self.entry { traits = record self.entry.traits { xml_name = Some value.now } } }
     {
-        self.xml_name = Some(value);
+        self.traits = Traits {
+            xml_name: Some(value),
+            ..self.traits
+        };
         self
     }
 
@@ -249,7 +268,10 @@ impl<'a> Schema<'a> {
     pub fn with_http_header(mut self, value: &'a str) -> Self
         ensures { result ≡ record self.entry { traits = record self.entry.traits { http_header = Some value.now } } }
     {
-        self.http_header = Some(value);
+        self.traits = Traits {
+            http_header: Some(value),
+            ..self.traits
+        };
         self
     }
 
@@ -257,7 +279,10 @@ impl<'a> Schema<'a> {
     pub fn with_http_prefix_headers(mut self, value: &'a str) -> Self
         ensures { result ≡ record self.entry { traits = record self.entry.traits { http_prefix_headers = Some value.now } } }
     {
-        self.http_prefix_headers = Some(value);
+        self.traits = Traits {
+            http_prefix_headers: Some(value),
+            ..self.traits
+        };
         self
     }
 
@@ -265,7 +290,10 @@ impl<'a> Schema<'a> {
     pub fn with_http_query(mut self, value: &'a str) -> Self
         ensures { result ≡ record self.entry { traits = record self.entry.traits { http_query = Some value.now } } }
     {
-        self.http_query = Some(value);
+        self.traits = Traits {
+            http_query: Some(value),
+            ..self.traits
+        };
         self
     }
 
@@ -273,7 +301,10 @@ impl<'a> Schema<'a> {
     pub fn with_media_type(mut self, value: &'a str) -> Self
         ensures { result ≡ record self.entry { traits = record self.entry.traits { media_type = Some value.now } } }
     {
-        self.media_type = Some(value);
+        self.traits = Traits {
+            media_type: Some(value),
+            ..self.traits
+        };
         self
     }
 
@@ -281,7 +312,7 @@ impl<'a> Schema<'a> {
     pub fn with_sensitive(mut self) -> Self
         ensures { result ≡ record self.entry { traits = record self.entry.traits { sensitive = true } } }
     {
-        self.marks.sensitive = true;
+        self.traits.sensitive = true;
         self
     }
 
@@ -289,7 +320,7 @@ impl<'a> Schema<'a> {
     pub fn with_xml_attribute(mut self) -> Self
         ensures { result ≡ record self.entry { traits = record self.entry.traits { xml_attribute = true } } }
     {
-        self.marks.xml_attribute = true;
+        self.traits.xml_attribute = true;
         self
     }
 
@@ -297,7 +328,7 @@ impl<'a> Schema<'a> {
     pub fn with_xml_flattened(mut self) -> Self
         ensures { result ≡ record self.entry { traits = record self.entry.traits { xml_flattened = true } } }
     {
-        self.marks.xml_flattened = true;
+        self.traits.xml_flattened = true;
         self
     }
 
@@ -305,7 +336,7 @@ impl<'a> Schema<'a> {
     pub fn with_xml_unwrapped_output(mut self) -> Self
         ensures { result ≡ record self.entry { traits = record self.entry.traits { xml_unwrapped_output = true } } }
     {
-        self.marks.xml_unwrapped_output = true;
+        self.traits.xml_unwrapped_output = true;
         self
     }
 
@@ -313,7 +344,7 @@ impl<'a> Schema<'a> {
     pub fn with_http_label(mut self) -> Self
         ensures { result ≡ record self.entry { traits = record self.entry.traits { http_label = true } } }
     {
-        self.marks.http_label = true;
+        self.traits.http_label = true;
         self
     }
 
@@ -321,7 +352,7 @@ impl<'a> Schema<'a> {
     pub fn with_http_payload(mut self) -> Self
         ensures { result ≡ record self.entry { traits = record self.entry.traits { http_payload = true } } }
     {
-        self.marks.http_payload = true;
+        self.traits.http_payload = true;
         self
     }
 
@@ -329,7 +360,7 @@ impl<'a> Schema<'a> {
     pub fn with_http_query_params(mut self) -> Self
         ensures { result ≡ record self.entry { traits = record self.entry.traits { http_query_params = true } } }
     {
-        self.marks.http_query_params = true;
+        self.traits.http_query_params = true;
         self
     }
 
@@ -337,7 +368,7 @@ impl<'a> Schema<'a> {
     pub fn with_http_response_code(mut self) -> Self
         ensures { result ≡ record self.entry { traits = record self.entry.traits { http_response_code = true } } }
     {
-        self.marks.http_response_code = true;
+        self.traits.http_response_code = true;
         self
     }
 
@@ -345,7 +376,7 @@ impl<'a> Schema<'a> {
     pub fn with_streaming(mut self) -> Self
         ensures { result ≡ record self.entry { traits = record self.entry.traits { streaming = true } } }
     {
-        self.marks.streaming = true;
+        self.traits.streaming = true;
         self
     }
 
@@ -353,7 +384,7 @@ impl<'a> Schema<'a> {
     pub fn with_event_header(mut self) -> Self
         ensures { result ≡ record self.entry { traits = record self.entry.traits { event_header = true } } }
     {
-        self.marks.event_header = true;
+        self.traits.event_header = true;
         self
     }
 
@@ -361,7 +392,7 @@ impl<'a> Schema<'a> {
     pub fn with_event_payload(mut self) -> Self
         ensures { result ≡ record self.entry { traits = record self.entry.traits { event_payload = true } } }
     {
-        self.marks.event_payload = true;
+        self.traits.event_payload = true;
         self
     }
 
@@ -369,7 +400,7 @@ impl<'a> Schema<'a> {
     pub fn with_host_label(mut self) -> Self
         ensures { result ≡ record self.entry { traits = record self.entry.traits { host_label = true } } }
     {
-        self.marks.host_label = true;
+        self.traits.host_label = true;
         self
     }
 }

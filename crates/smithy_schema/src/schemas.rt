@@ -82,10 +82,10 @@ impl Schemas {
         Ok(SchemaIndex(place))
     }
 
-    /// Gives a declared place its node, a copy of the description. In this order it refuses: `Unknown` where the place was
-    /// never declared, `Defined` where it has a node, `Unknown` where a cited place was never declared, and for each member
-    /// in order `NotMember` where it has no member index, `Order` where its index isn't its position; then want of memory.
-    /// After a refusal the table is unchanged.
+    /// Gives a declared place its node, a copy of the description's texts with its map of traits. In this order it refuses:
+    /// `Unknown` where the place was never declared, `Defined` where it has a node, `Unknown` where a cited place was never
+    /// declared, and for each member in order `NotMember` where it has no member index, `Order` where its index isn't its
+    /// position; then want of memory. After a refusal the table is unchanged.
     pub fn define(&mut self, index: SchemaIndex, schema: Schema<'_>) -> Result<(), SchemaError>
         ensures fault { MatchOption (define_fault self.old index.0 schema.entry) (IsOkUnless result SchemaError.OutOfMemory) (λ fault. result ≡ Err fault) }
         ensures ok { OnOk result (self.new ≡ slice_set self.old index.0 (Some schema.entry)) }
@@ -94,7 +94,7 @@ impl Schemas {
         match self.define_fault(index, &schema) {
             Some(fault) => Err(fault),
             None => {
-                self.fill(index, &schema)?;
+                self.fill(index, schema)?;
                 Ok(())
             }
         }
@@ -113,7 +113,7 @@ impl Schemas {
         match self.insert_fault(&schema) {
             Some(fault) => Err(fault),
             None => {
-                self.push(&schema)?;
+                self.push(schema)?;
                 Ok(SchemaIndex(place))
             }
         }
@@ -142,9 +142,9 @@ impl Schemas {
     }
 
     // Adds a node that has no fault.
-    fn push(&mut self, schema: &Schema<'_>) -> Result<(), OutOfMemory>
-        requires { define_fault (declared_more self.old) (length self.old) schema.now ≡ None }
-        ensures ok { OnOk result (self.new ≡ self.old ++ Some schema.now ∷ []) }
+    fn push(&mut self, schema: Schema<'_>) -> Result<(), OutOfMemory>
+        requires { define_fault (declared_more self.old) (length self.old) schema ≡ None }
+        ensures ok { OnOk result (self.new ≡ self.old ++ Some schema.entry ∷ []) }
         ensures err { OnErr result (self.new ≡ self.old) }
     {
         let node = copied_node(self.alloc, self.nodes.as_slice(), schema)?;
@@ -153,9 +153,9 @@ impl Schemas {
     }
 
     // Fills a hole by a node that has no fault.
-    fn fill(&mut self, index: SchemaIndex, schema: &Schema<'_>) -> Result<(), OutOfMemory>
-        requires { define_fault self.old index.0 schema.now ≡ None }
-        ensures ok { OnOk result (self.new ≡ slice_set self.old index.0 (Some schema.now)) }
+    fn fill(&mut self, index: SchemaIndex, schema: Schema<'_>) -> Result<(), OutOfMemory>
+        requires { define_fault self.old index.0 schema ≡ None }
+        ensures ok { OnOk result (self.new ≡ slice_set self.old index.0 (Some schema.entry)) }
         ensures err { OnErr result (self.new ≡ self.old) }
     {
         let node = copied_node(self.alloc, self.nodes.as_slice(), schema)?;

@@ -56,6 +56,21 @@ impl ShapeIdBuf {
         Ok(ShapeIdBuf { name })
     }
 
+    // A copy of an identifier.
+    pub(crate) fn copied(alloc: Global, id: ShapeId<'_>) -> Result<ShapeIdBuf, OutOfMemory>
+        ensures { IfOk result (λ b. b ≡ (parts_of id.entry).full_name) }
+    {
+        let name = Text::from_str(alloc, id.as_str())?;
+        Ok(ShapeIdBuf { name })
+    }
+
+    // The full name.
+    pub(crate) fn as_str(&self) -> &str
+        ensures { result.now ≡ self.now }
+    {
+        self.name.as_str()
+    }
+
     /// The identifier, borrowed: the parts of the full name. It takes no memory.
     pub fn as_id(&self) -> ShapeId<'_>
         ensures { parts_in self.now ≡ Some (parts_of result) }

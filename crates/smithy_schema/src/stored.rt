@@ -6,10 +6,14 @@ ghost use Rattle.smithy_schema.specs.MemberNames.{HasPositions};
 ghost use Rattle.smithy_schema.specs.Kept.{HasNames};
 ghost use Rattle.smithy_schema.specs.Defining.{is_whole};
 ghost use Rattle.smithy_schema.specs.Described.{name_in, index_in};
+ghost use Rattle.smithy_schema.specs.DescribedTraits.{traits_described};
+ghost use Rattle.smithy_schema.specs.MarksOf.{marks_of};
 
 use crate::member_names::{Positions, first_positions};
 use crate::parts::{Marks, Places, SchemaIndex};
 use crate::schema::{Membership, Schema};
+use crate::trait_map::TraitMap;
+use crate::traits::Traits;
 use smithy_ids::{HttpTrait, PayloadHint, ShapeType, TimestampFormat, XmlNamespaceTrait};
 use smithy_types::{OutOfMemory, Text};
 use std::alloc::Global;
@@ -36,7 +40,7 @@ pub(crate) struct StoredNamespace {
     pub(crate) prefix: Option<Text>,
 }
 
-#[derive(Debug, Drop)]
+#[derive(Drop)]
 pub(crate) struct StoredTraits {
     pub(crate) marks: Marks,
     pub(crate) http: Option<StoredHttp>,
@@ -48,10 +52,11 @@ pub(crate) struct StoredTraits {
     pub(crate) http_query: Option<Text>,
     pub(crate) media_type: Option<Text>,
     pub(crate) timestamp_format: Option<TimestampFormat>,
+    pub(crate) others: Option<TraitMap>,
 }
 
 // What a node has beside its names, its kind and its index.
-#[derive(Debug, Drop)]
+#[derive(Drop)]
 pub(crate) struct FullDetails {
     pub(crate) original_name: Option<Text>,
     pub(crate) places: Places,
@@ -63,7 +68,7 @@ pub(crate) struct FullDetails {
 }
 
 // The same, where an outline, which has a time format at most, takes no memory of its own.
-#[derive(Debug, Drop)]
+#[derive(Drop)]
 pub(crate) enum StoredDetails {
     Outline(Option<TimestampFormat>),
     Full(Box<FullDetails>),
@@ -78,7 +83,7 @@ pub(crate) struct Head {
 }
 
 // A node. Its outlines share its head.
-#[derive(Debug, Drop)]
+#[derive(Drop)]
 pub(crate) struct StoredNode {
     pub(crate) head: Arc<Head>,
     pub(crate) details: StoredDetails,
@@ -146,32 +151,58 @@ fn copied_membership(alloc: Global, membership: Membership<'_>) -> Result<Stored
     }
 }
 
-fn copied_traits(alloc: Global, schema: &Schema<'_>) -> Result<StoredTraits, OutOfMemory>
-    ensures { IfOk result (λ t. traits_stored t ≡ schema.now.traits) }
+// The traits that hold nothing.
+fn marks_in(traits: &Traits<'_>) -> Marks
+    ensures { result ≡ marks_of (traits_described traits.now) }
+{
+    Marks {
+        sensitive: traits.sensitive,
+        xml_attribute: traits.xml_attribute,
+        xml_flattened: traits.xml_flattened,
+        xml_unwrapped_output: traits.xml_unwrapped_output,
+        http_label: traits.http_label,
+        http_payload: traits.http_payload,
+        http_query_params: traits.http_query_params,
+        http_response_code: traits.http_response_code,
+        streaming: traits.streaming,
+        event_header: traits.event_header,
+        event_payload: traits.event_payload,
+        host_label: traits.host_label,
+    }
+}
+
+fn copied_traits(
+    alloc: Global,
+    traits: &Traits<'_>,
+    others: Option<TraitMap>,
+) -> Result<StoredTraits, OutOfMemory>
+    ensures { IfOk result (λ t. traits_stored t ≡ record (traits_described traits.now) { others = others }) }
 {
     Ok(StoredTraits {
-        marks: schema.marks,
-        http: copied_http(alloc, &schema.http)?,
-        json_name: copied(alloc, schema.json_name)?,
-        xml_name: copied(alloc, schema.xml_name)?,
-        xml_namespace: copied_namespace(alloc, &schema.xml_namespace)?,
-        http_header: copied(alloc, schema.http_header)?,
-        http_prefix_headers: copied(alloc, schema.http_prefix_headers)?,
-        http_query: copied(alloc, schema.http_query)?,
-        media_type: copied(alloc, schema.media_type)?,
-        timestamp_format: schema.timestamp_format,
+        marks: marks_in(traits),
+        http: copied_http(alloc, &traits.http)?,
+        json_name: copied(alloc, traits.json_name)?,
+        xml_name: copied(alloc, traits.xml_name)?,
+        xml_namespace: copied_namespace(alloc, &traits.xml_namespace)?,
+        http_header: copied(alloc, traits.http_header)?,
+        http_prefix_headers: copied(alloc, traits.http_prefix_headers)?,
+        http_query: copied(alloc, traits.http_query)?,
+        media_type: copied(alloc, traits.media_type)?,
+        timestamp_format: traits.timestamp_format,
+        others,
     })
 }
 
 fn copied_details(
     alloc: Global,
     nodes: &[Option<StoredNode>],
-    schema: &Schema<'_>,
+    schema: Schema<'_>,
 ) -> Result<FullDetails, OutOfMemory>
-    ensures details { IfOk result (λ d. details_full d ≡ details_of schema.now) }
-    ensures names { IfOk result (λ d. HasPositions (table_stored nodes.now) schema.now.members d.positions) }
+    ensures details { IfOk result (λ d. details_full d ≡ details_of schema.entry) }
+    ensures names { IfOk result (λ d. HasPositions (table_stored nodes.now) schema.entry.members d.positions) }
 {
-    let traits = copied_traits(alloc, schema)?;
+    let others = schema.others;
+    let traits = copied_traits(alloc, &schema.traits, others)?;
     let positions = first_positions(alloc, nodes, schema.members)?;
     Ok(FullDetails {
         original_name: copied(alloc, schema.original_name)?,
@@ -184,23 +215,23 @@ fn copied_details(
     })
 }
 
-/// The node of this description, whose members stand among these nodes. It takes time linear in the texts and members,
-/// up to the logarithm of the map of their names.
+/// The node of this description, whose members stand among these nodes: a copy of its texts, with its map of traits.
+/// It takes time linear in the texts and members, up to the logarithm of the map of their names.
 pub(crate) fn copied_node(
     alloc: Global,
     nodes: &[Option<StoredNode>],
-    schema: &Schema<'_>,
+    schema: Schema<'_>,
 ) -> Result<StoredNode, OutOfMemory>
-    ensures node { IfOk result (λ n. node_stored n ≡ schema.now) }
+    ensures node { IfOk result (λ n. node_stored n ≡ schema.entry) }
     ensures whole { IfOk result (λ n. is_whole (node_stored n) ≡ true) }
     ensures names { IfOk result (λ n. HasNames (table_stored nodes.now) n.details) }
 {
-    let details = copied_details(alloc, nodes, schema)?;
     let head = Head {
         full_name: Text::from_str(alloc, schema.id.as_str())?,
         shape_type: schema.shape_type,
         membership: copied_membership(alloc, schema.membership)?,
     };
+    let details = copied_details(alloc, nodes, schema)?;
     Ok(StoredNode {
         head: Arc::new(alloc, head)?,
         details: StoredDetails::Full(Box::new(alloc, details)?),

@@ -1,6 +1,10 @@
 // What tables refuse, and the names of the prelude.
-use crate::{Binding, Schema, SchemaError, SchemaIndex, SchemaRef, Schemas, ShapeIdBuf, prelude};
+use crate::{
+    AnnotationTrait, Binding, DocumentTrait, Schema, SchemaError, SchemaIndex, SchemaRef, Schemas,
+    ShapeIdBuf, StringTrait, Trait, TraitMap, Traits, prelude,
+};
 use smithy_ids::{HttpTrait, PayloadHint, ShapeId, ShapeType, TimestampFormat};
+use smithy_types::Document;
 use std::process::Abort;
 
 fn shape() -> ShapeId<'static> {
@@ -361,6 +365,78 @@ fn a_node_keeps_its_further_marks(rt: HostRuntime) {
     assert!(rt; node.event_header().is_some() & node.event_payload().is_some());
     assert!(rt; node.xml_flattened() & node.xml_unwrapped_output());
     assert!(rt; !(node.xml_attribute() | node.streaming() | node.has_http_response_binding()));
+}
+
+fn put(rt: &impl Abort, traits: &mut TraitMap, value: Trait) {
+    assert!(rt; traits.insert(value).is_ok());
+}
+
+// What a trait holds, in words.
+fn held(value: &Trait) -> &str {
+    match value {
+        Trait::Annotation(_) => "nothing",
+        Trait::String(text) => text.value(),
+        Trait::Document(document) => match document.value() {
+            Document::Bool(true) => "true",
+            _ => "another document",
+        },
+    }
+}
+
+#[test]
+fn further_traits_stand_under_their_names(rt: HostRuntime) {
+    let alloc = rt.alloc();
+    let deprecated = ShapeId::from_parts("ex#deprecated", "ex", "deprecated");
+    let internal = ShapeId::from_parts("ex#internal", "ex", "internal");
+    let mut traits = TraitMap::new(alloc);
+    assert!(rt; traits.is_empty());
+    let annotation = AnnotationTrait::new(alloc, deprecated).expect(&rt, "no memory");
+    put(&rt, &mut traits, Trait::Annotation(annotation));
+    for text in ["first", "second"] {
+        let owner = StringTrait::new(alloc, shape(), text).expect(&rt, "no memory");
+        put(&rt, &mut traits, Trait::String(owner));
+    }
+    let document = DocumentTrait::new(alloc, internal, Document::Bool(true)).expect(
+        &rt,
+        "no memory",
+    );
+    put(&rt, &mut traits, Trait::Document(document));
+    assert_eq!(rt; traits.len(), 3);
+    assert!(rt; !traits.is_empty() & traits.contains(internal) & traits.contains_fqn("ex#Owner"));
+    assert!(rt; traits.get_fqn("ex#other").is_none());
+
+    let mut table = Schemas::new(alloc);
+    let place = inserted(&rt, &mut table, member(0).with_traits(traits));
+    let node = node_at(&rt, &table, place);
+    let kept = node.traits().expect(&rt, "no traits");
+    for (id, value) in [
+        (deprecated, "nothing"),
+        (shape(), "second"),
+        (internal, "true"),
+    ] {
+        let found = kept.get(id).expect(&rt, "no trait");
+        assert_eq!(rt; found.trait_id(), id);
+        assert_eq!(rt; held(found), value);
+    }
+}
+
+#[test]
+fn plain_traits_are_set_at_once(rt: HostRuntime) {
+    let mut table = Schemas::new(rt.alloc());
+    let traits = Traits {
+        http_header: Some("H"),
+        streaming: true,
+        ..Traits::NONE
+    };
+    let further = TraitMap::new(rt.alloc());
+    let schema = member(0)
+        .with_sensitive()
+        .with_traits(further)
+        .with_plain_traits(traits);
+    let place = inserted(&rt, &mut table, schema);
+    let node = node_at(&rt, &table, place);
+    assert_eq!(rt; node.http_header().expect(&rt, "none").value(), "H");
+    assert!(rt; node.streaming() & node.sensitive().is_none() & node.traits().is_some());
 }
 
 // The name or prefix of a binding, or a word for one that has none.

@@ -1,5 +1,5 @@
 // The traits of a node. A getter gives the trait by value, None where the node doesn't have it, and takes no memory.
-ghost use Rattle.std.specs.Prelude.{◌≡◌, MatchOption};
+ghost use Rattle.std.specs.Prelude.{◌≡◌, MatchOption, option_map};
 ghost use Rattle.std.specs.Option.{is_some};
 ghost use Rattle.smithy_schema.specs.Details.{outlined};
 ghost use Rattle.smithy_schema.specs.Nodes.{is_response_bound};
@@ -10,6 +10,7 @@ ghost use Rattle.smithy_schema.specs.MarksOf.{marks_of};
 use crate::parts::{Marks, NO_MARKS};
 use crate::schema_ref::{SchemaRef, as_str};
 use crate::stored::{StoredDetails, StoredTraits};
+use crate::trait_map::TraitMap;
 use smithy_ids::{
     EventHeaderTrait, EventPayloadTrait, HostLabelTrait, HttpHeaderTrait, HttpLabelTrait,
     HttpPayloadTrait, HttpPrefixHeadersTrait, HttpQueryParamsTrait, HttpQueryTrait,
@@ -24,6 +25,16 @@ impl<'t> SchemaRef<'t> {
     {
         match self.details() {
             Some(details) => Some(&details.traits),
+            None => None,
+        }
+    }
+
+    /// The further traits, by their names: None where no map of them was given.
+    pub fn traits(&self) -> Option<&'t TraitMap>
+        ensures { option_map (λ m. m.now) result ≡ (schema_of self.now).node.traits.others }
+    {
+        match &self.traits_kept()?.others {
+            Some(traits) => Some(traits),
             None => None,
         }
     }

@@ -1,0 +1,39 @@
+-- The traits that a description has.
+use Rattle.std.specs.Prelude.{ℕ, List, Option, None, option_map}
+use Rattle.std.specs.Borrow.{Bor}
+use Rattle.smithy_schema.specs.declared.traits.Traits as declared
+use Rattle.smithy_schema.specs.Nodes.{Traits, Node}
+
+abbrev pub text_of : Option (Bor (List ℕ)) → Option (List ℕ)
+text_of text = option_map (λ t. t.now) text
+
+-- the traits with a field of their own, and no further ones
+abbrev pub traits_described : declared.Traits → Traits
+traits_described t = record {
+  http = t.http;
+  http_header = text_of t.http_header;
+  http_prefix_headers = text_of t.http_prefix_headers;
+  http_query = text_of t.http_query;
+  http_query_params = t.http_query_params;
+  http_label = t.http_label;
+  http_payload = t.http_payload;
+  http_response_code = t.http_response_code;
+  media_type = text_of t.media_type;
+  timestamp_format = t.timestamp_format;
+  streaming = t.streaming;
+  json_name = text_of t.json_name;
+  xml_name = text_of t.xml_name;
+  xml_namespace = t.xml_namespace;
+  xml_attribute = t.xml_attribute;
+  xml_flattened = t.xml_flattened;
+  xml_unwrapped_output = t.xml_unwrapped_output;
+  sensitive = t.sensitive;
+  host_label = t.host_label;
+  event_header = t.event_header;
+  event_payload = t.event_payload;
+  others = None;
+}
+
+-- the node with these traits in the place of all that have a field of their own
+abbrev pub with_plain : Traits → Node → Node
+with_plain traits n = record n { traits = record traits { others = n.traits.others } }
