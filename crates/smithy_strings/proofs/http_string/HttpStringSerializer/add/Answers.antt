@@ -20,13 +20,13 @@ returns-in-Whole c = λ x is. record {
   tried = λ l. record { wrong = rw (c.in-Whole.is, no_refusal x _ is) c.only_one.ensures; standing = refl; states = λ s h. h };
 }
 
-pub returns-in_ok-push_codec_listed-in-Inside : goal.returns-in_ok-push_codec_listed-in-Inside
-returns-in_ok-push_codec_listed-in-Inside c = λ x is. record {
+pub returns-in_ok-push_listed-in-Inside : goal.returns-in_ok-push_listed-in-Inside
+returns-in_ok-push_listed-in-Inside c = λ x is. record {
   kept = refl;
   tried = λ l. record {
     right = rw (c.in-Inside.is, no_refusal x _ is) refl;
     lists = sym (ap open_count_of c.in-Inside.is);
-    states = λ s stands. element_added c.args.self.now.standing c.in-Inside.is_empty (string_bytes c.args.self.now.text) (string_bytes c.push_codec_listed.new.list) c.args.text.now l (scalar x) s c.in-Inside.is
-        c.in_ok-push_codec_listed-in-Inside.ensures.ok is stands;
+    states = λ s stands. element_added c.args.self.now.standing c.in-Inside.is_empty (string_bytes c.args.self.now.text) (string_bytes c.push_listed.new.list) c.args.text.now l (scalar x) s c.in-Inside.is
+        c.in_ok-push_listed-in-Inside.ensures.ok is stands;
   };
 }
