@@ -25,3 +25,21 @@ fn writes_are_kept_in_order(rt: HostRuntime) {
         assert_eq!(rt; value.fits(ShapeType::Union), word == "structure");
     }
 }
+
+#[test]
+fn writes_are_put_in_index_order(rt: HostRuntime) {
+    let alloc = rt.alloc();
+    let mut table = Schemas::new(alloc);
+    let mut list = WriteList::new(alloc);
+    for (index, value) in [(2, 0), (0, 1), (2, 2), (1, 3), (0, 4)] {
+        let id = ShapeId::from_parts_with_member("ex#Pet$name", "ex", "Pet", "name");
+        let member = Schema::new_member(id, ShapeType::Long, "name", index);
+        let node = table.insert(member).expect(&rt, "no place");
+        list.push(node, ShapeValue::Long(value))
+            .expect(&rt, "no memory");
+    }
+    let sorted = list.in_index_order(&table).expect(&rt, "no memory");
+    for ((_, value), wanted) in sorted.iter().zip([1, 4, 3, 0, 2]) {
+        assert!(rt; matches!(value, ShapeValue::Long(given) if *given == wanted));
+    }
+}

@@ -1,0 +1,587 @@
+-- What is read by a node, by the plan of its kind.
+use Rattle.std.proofs.Common.{◌≡◌, ℕ, Bool, true, false, List, [], ◌∷◌, Option, Some, None, Result, Ok, Err, inl, inr, refl, ap, sym, subst, ◌∙◌}
+use Rattle.std.specs.Prelude.{IfSome, IfOk, IsSome, option_map, option_and_then, unwrap_or, slice_get, flat_map, ◌++◌, not, ◌&&◌}
+use Rattle.std.specs.Option.{option_map_or}
+use Rattle.smithy_types.specs.Documents as doc
+use Rattle.smithy_types.specs.Documents.{Document, list_of_members}
+use Rattle.smithy_types.specs.Results.{then_try, then_give}
+use Rattle.smithy_ids.specs.Kinds.{same_kind}
+use Rattle.smithy_ids.specs.declared.shape_type.ShapeType.{ShapeType}
+use Rattle.smithy_ids.specs.declared.shape_type.ShapeType.TheVariants as kind
+use Rattle.smithy_schema.specs.Nodes.{Table, Schema, at_place, node_at, shape, cited, element_of, key_of, value_of, member_at, member_named, position_of_name}
+use Rattle.smithy_schema.specs.declared.parts.SchemaIndex.{SchemaIndex}
+use Rattle.smithy_serde.specs.Values as value
+use Rattle.smithy_serde.specs.Values.{Scalar, Value, Write, Writes, no_writes, write, writes_of, list_of, label_of}
+use Rattle.smithy_serde.specs.Told.{appended, one_write}
+use Rattle.smithy_serde.specs.IndexOrder.{in_order, in_index_order}
+use Rattle.smithy_serde.specs.StoredValues.{label_at, HasNode, value_in, writes_in, IsDefined, AreDefined}
+use Rattle.smithy_serde.specs.StructValues.{members_of}
+use Rattle.smithy_serde.specs.declared.value.ShapeValue.TheVariants as stored
+use Rattle.smithy_serde.specs.declared.value.WriteList.{WriteList}
+use Rattle.smithy_serde.specs.declared.value.ShapeValue.{ShapeValue}
+use Rattle.smithy_serde.specs.declared.error.SerdeError.{SerdeError}
+use Rattle.smithy_serde.specs.declared.error.SerdeError.TheVariants.{OutOfMemory}
+use Rattle.smithy_serde.specs.declared.struct_value.StructValue.{StructValue}
+use Rattle.smithy_serde.specs.declared.scalar.Group.TheVariants as group
+use Rattle.smithy_serde.specs.declared.read_scalar.ScalarKind.{ScalarKind}
+use Rattle.smithy_serde.specs.declared.read_scalar.ReadScalar.{ReadScalar}
+use Rattle.smithy_serde.specs.declared.builders.ListBuilder.{ListBuilder}
+use Rattle.smithy_serde.specs.declared.builders.MapBuilder.{MapBuilder}
+use Rattle.smithy_serde.specs.declared.builders.StructBuilder.{StructBuilder}
+use Rattle.smithy_serde.specs.declared.builders.ValueReader.{ValueReader}
+use Rattle.smithy_serde.specs.declared.read_plan.Plan.TheVariants as plan
+use Rattle.smithy_serde.specs.ValueBuilding.{add_write, add_entry, list_nodes, map_nodes, struct_table, TakesElement, TakesEntry, TakesMember, IsPlan, ReadsValue}
+use Rattle.smithy_serde.specs.Collecting.{Collects, Built, all_added}
+use Rattle.smithy_serde.specs.Handing.{Same, Takes, IsAbove, HandsAll, HandsOut, AllHanded, settled_in, at_elements, at_entries, at_members}
+use Rattle.smithy_serde.specs.Held as held
+use Rattle.smithy_serde.specs.Held.{Held, Answer, is_null_held}
+use Rattle.smithy_serde.specs.HeldReads.{elements, entries, fields, known}
+use Rattle.smithy_serde.specs.Listings.{Slot, at_member, at_element, at_key, Listing, contents}
+use Rattle.smithy_serde.specs.ReadCalls.{AtHand, Reads, Gives, read_at, scalar_of_read}
+use Rattle.smithy_serde.specs.ReadsBy.{ReadsBy}
+use Rattle.smithy_serde.specs.ValueRead.{all_read, write_by, entry_by, IsPlaced, joined, value_by_kind, value_read, list_by, map_by, value_of_structure}
+use Rattle.smithy_serde.specs.ValueReading.{structure_of, gives_structure}
+use Rattle.smithy_serde.proofs.ReadCollect.{handed_built, handed_built_of}
+use Rattle.smithy_serde.proofs.ReadLevels.{value_once, Each}
+use Rattle.smithy_serde.proofs.WritesLemmas.{appended-no_writes, appended_assoc}
+
+-- want of memory may come anywhere
+pub gives_memory : {A V : Type 0} (f : A → V) (o : Option (Result V SerdeError)) (e : SerdeError) → e ≡ OutOfMemory → Gives f o (Err e)
+gives_memory f None e m = tt
+gives_memory f (Some (Ok v)) e m = m
+gives_memory f (Some (Err x)) e m = inr m
+
+-- the node at a place is one
+pub at_the_place : (P : Schema → Type 0) (t : Table) (place : ℕ) (m : Schema) → Some m ≡ at_place t place → P m → (n : Schema) → at_place t place ≡ Some n → P n
+at_the_place P t place m there p n is = let same : m ≡ n = (let both : Some m ≡ Some n = there ∙ is in cc) in subst P same p
+
+at_place_table : (t : Table) (place : ℕ) (n : Schema) → at_place t place ≡ Some n → n.table ≡ t
+at_place_table t place n is = placed (node_at t place) is
+  where
+    placed : (o : Option _) → option_map (λ m. record { table = t; node = m }) o ≡ Some n → n.table ≡ t
+    placed None bad = cc
+    placed (Some m) e = (let same : record { table = t; node = m } ≡ n = cc in sym (ap (λ (s : Schema). s.table) same))
+
+-- what is known where a node is read
+pub record AtNode (n : Schema) (held : Option Held) (k : ShapeType) (null reads : Bool) : Type 0 where
+  pub same : k ≡ n.node.kind
+  pub told : IfSome held (λ h. null ≡ is_null_held h)
+  pub is : reads ≡ (null && not (same_kind k kind.Document))
+
+planned : (n : Schema) (h : Held) (k : ShapeType) (null reads : Bool) → AtNode n (Some h) k null reads → reads ≡ false → value_read n h ≡ value_by_kind value_read k n h
+planned n h k null reads a other =
+    let test : (null && not (same_kind k kind.Document)) ≡ false = sym a.is ∙ other in
+    let here : (is_null_held h && not (same_kind n.node.kind kind.Document)) ≡ false = rw (a.told, a.same) at test in
+    value_once n h ∙ rw here (ap (λ q. value_by_kind value_read q n h) (sym a.same))
+
+pub gives_null : {A : Type 0} (f : A → Value) (n : Schema) (held : Option Held) (k : ShapeType) (null reads : Bool) (v : A) → AtNode n held k null reads → reads ≡ true → f v ≡ value.scalar value.null
+    → Gives f (option_map (value_read n) held) (Ok v)
+gives_null f n None k null reads v a so e = tt
+gives_null f n (Some h) k null reads v a so e =
+    let test : (null && not (same_kind k kind.Document)) ≡ true = sym a.is ∙ so in
+    let here : (is_null_held h && not (same_kind n.node.kind kind.Document)) ≡ true = rw (a.told, a.same) at test in
+    let read : value_read n h ≡ Ok (value.scalar value.null) = value_once n h ∙ rw here refl in
+    rw read e
+
+-- a scalar, as a value
+abbrev one_value : Result Scalar SerdeError → Result Value SerdeError
+one_value r = then_give r value.scalar
+
+scalar_is : (n : Schema) (held : Option Held) (k : ShapeType) (null reads : Bool) (s : ScalarKind) → AtNode n held k null reads → reads ≡ false → IsPlan k n (plan.Scalar s)
+    → option_map (value_read n) held ≡ option_map one_value (read_at s n held)
+scalar_is n None k null reads s a other p = refl
+scalar_is n (Some h) k null reads s a other p = ap Some (planned n h k null reads a other ∙ p h)
+
+value_given : {A B : Type 0} (f : A → Value) (g : B → Scalar) (o : Option (Result Scalar SerdeError)) (a : A) (b : B) → f a ≡ value.scalar (g b) → Gives g o (Ok b) → Gives f (option_map one_value o) (Ok a)
+value_given f g None a b e h = tt
+value_given f g (Some (Ok x)) a b e h = e ∙ ap value.scalar h
+value_given f g (Some (Err x)) a b e h = h
+
+refusal_given : {A B : Type 0} (f : A → Value) (g : B → Scalar) (o : Option (Result Scalar SerdeError)) (e : SerdeError) → Gives {A = B} g o (Err e) → Gives {A = A} f (option_map one_value o) (Err e)
+refusal_given f g None e h = tt
+refusal_given f g (Some (Ok x)) e h = h
+refusal_given f g (Some (Err x)) e h = h
+
+-- a container was read, and what was built of it
+pub record IsRead {B : Type 0} (add : Writes → B → Writes) (total : List B → Value) (read : Result Value SerdeError) (new : Writes) (answer : Answer) : Type 0 where
+  pub all : Result (List B) SerdeError
+  pub is : read ≡ then_give all total
+  pub built : Built add all no_writes new answer
+
+given_ok : {A B : Type 0} (f : A → Value) (add : Writes → B → Writes) (total : List B → Value) (r : Result (List B) SerdeError) (new : Writes) (v : A)
+    → Built add r no_writes new (Ok tt) → ((bs : List B) → new ≡ all_added add no_writes bs → f v ≡ total bs) → Gives f (Some (then_give r total)) (Ok v)
+given_ok f add total (Ok bs) new v (inl b) is = is bs b.1
+given_ok f add total (Ok bs) new v (inr bad) is = cc
+given_ok f add total (Err x) new v (inl bad) is = cc
+given_ok f add total (Err x) new v (inr bad) is = cc
+
+given_err : {A B : Type 0} (f : A → Value) (add : Writes → B → Writes) (total : List B → Value) (r : Result (List B) SerdeError) (new : Writes) (e : SerdeError)
+    → Built add r no_writes new (Err e) → Gives f (Some (then_give r total)) (Err e)
+given_err f add total (Ok bs) new e (inl b) = let bad : Err e ≡ Ok tt = b.0 in cc
+given_err f add total (Ok bs) new e (inr m) = cc
+given_err f add total (Err x) new e (inl same) = inl cc
+given_err f add total (Err x) new e (inr m) = inr cc
+
+pub read_ok : {A B : Type 0} (f : A → Value) (add : Writes → B → Writes) (total : List B → Value) (n : Schema) (held : Option Held) (new : Writes) (v : A)
+    → IfSome held (λ h. IsRead add total (value_read n h) new (Ok tt)) → ((bs : List B) → new ≡ all_added add no_writes bs → f v ≡ total bs) → Gives f (option_map (value_read n) held) (Ok v)
+read_ok f add total n None new v r is = tt
+read_ok f add total n (Some h) new v r is = rw r.is (given_ok f add total r.all new v r.built is)
+
+pub read_err : {A B : Type 0} (f : A → Value) (add : Writes → B → Writes) (total : List B → Value) (n : Schema) (held : Option Held) (new : Writes) (e : SerdeError)
+    → IfSome held (λ h. IsRead add total (value_read n h) new (Err e)) → Gives f (option_map (value_read n) held) (Err e)
+read_err f add total n None new e r = tt
+read_err f add total n (Some h) new e r = rw r.is (given_err f add total r.all new e r.built)
+
+-- what was handed out, where the value at hand is told
+handed_of : {S : Type 0} (takes : S → Slot → Held → S → Answer → Type 0) (g : _) (n : Schema) (h : Held) (listing : Option Listing) (s t : S) (answer : Answer) → listing ≡ Some (contents g n h)
+    → AllHanded takes g listing s t answer → HandsOut takes (settled_in g (contents g n h)) (contents g n h).ends (contents g n h).items s t answer
+handed_of takes g n h listing s t answer told handed =
+    subst (λ o. IfSome o (λ (xs : Listing). HandsOut takes (settled_in g xs) xs.ends xs.items s t answer)) told handed
+
+abbrev pub list_total : List Write → Value
+list_total ws = value.list (writes_of ws)
+
+abbrev pub map_total : List (Write × Write) → Value
+map_total es = value.map (writes_of (joined es))
+
+abbrev pub structure_total : List Write → Value
+structure_total ws = value.structure (writes_of (in_order ws))
+
+pub list_read : (held : Option Held) (n : Schema) (k : ShapeType) (null reads : Bool) (e : SchemaIndex) (s t : ListBuilder) (old new : AtHand) (answer : Answer) → old.held ≡ held → AtNode n held k null reads → reads ≡ false
+    → IsPlan k n (plan.List e) → s.table.now ≡ n.table → s.element.0 ≡ e.0 → writes_in s.table.now s.writes ≡ no_writes → HandsAll (at_elements TakesElement) (Same list_nodes) group.List n s t old new answer
+    → IfSome held (λ h. IsRead add_write list_total (value_read n h) (writes_in t.table.now t.writes) answer)
+list_read None n k null reads e s t old new answer is a other p table place none all = tt
+list_read (Some h) n k null reads e s t old new answer is a other p table place none all = record {
+  all = then_try (elements n h) (all_read (λ x. then_give (value_read p.0 x) (write_by p.0)));
+  is = planned n h k null reads a other ∙ p.2 h;
+  built = subst (λ ws. Built add_write (then_try (elements n h) (all_read (λ x. then_give (value_read p.0 x) (write_by p.0)))) ws (writes_in t.table.now t.writes) answer) none
+      (handed_built (at_elements TakesElement) (λ (b : ListBuilder). (b.table.now ≡ n.table) × (b.element.0 ≡ e.0)) (λ (b : ListBuilder). writes_in b.table.now b.writes) add_write (λ x. (at_element, x)) (λ x. then_give (value_read p.0 x) (write_by p.0))
+      (λ b x c y same took. ((ap (λ p. p.0) took.same ∙ same.0, ap (λ p. p.1) took.same ∙ same.1), took.adds p.0 (rw (same.0, same.1) p.1)))
+      group.List (elements n h) s t answer (table, place) (handed_of (at_elements TakesElement) group.List n h (old.listing group.List n) s t answer (old.told group.List n h is) all.handed));
+}
+
+pub map_read : (held : Option Held) (n : Schema) (k : ShapeType) (null reads : Bool) (key e : SchemaIndex) (s t : MapBuilder) (old new : AtHand) (answer : Answer) → old.held ≡ held → AtNode n held k null reads → reads ≡ false
+    → IsPlan k n (plan.Map key e) → s.table.now ≡ n.table → s.key.0 ≡ key.0 → s.value.0 ≡ e.0 → writes_in s.table.now s.writes ≡ no_writes → HandsAll (at_entries TakesEntry) (Same map_nodes) group.Map n s t old new answer
+    → IfSome held (λ h. IsRead add_entry map_total (value_read n h) (writes_in t.table.now t.writes) answer)
+map_read None n k null reads key e s t old new answer is a other p table place place_2 none all = tt
+map_read (Some h) n k null reads key e s t old new answer is a other p table place place_2 none all = record {
+  all = then_try (entries n h) (all_read (λ x. then_give (value_read p.1 x.1) (entry_by p.0 p.1 x.0)));
+  is = planned n h k null reads a other ∙ p.4 h;
+  built = subst (λ ws. Built add_entry (then_try (entries n h) (all_read (λ x. then_give (value_read p.1 x.1) (entry_by p.0 p.1 x.0)))) ws (writes_in t.table.now t.writes) answer) none
+      (handed_built (at_entries TakesEntry) (λ (b : MapBuilder). (b.table.now ≡ n.table) × (b.key.0 ≡ key.0) × (b.value.0 ≡ e.0)) (λ (b : MapBuilder). writes_in b.table.now b.writes) add_entry (λ (x : List ℕ × Held). (at_key x.0, x.1)) (λ x. then_give (value_read p.1 x.1) (entry_by p.0 p.1 x.0))
+      (λ b x c y same took. ((ap (λ p. p.0) took.same ∙ same.0, ap (λ p. p.1) took.same ∙ same.1, ap (λ p. p.2) took.same ∙ same.2), took.adds p.0 p.1 (rw (same.0, same.1) p.2) (rw (same.0, same.2) p.3)))
+      group.Map (entries n h) s t answer (table, place, place_2) (handed_of (at_entries TakesEntry) group.Map n h (old.listing group.Map n) s t answer (old.told group.Map n h is) all.handed));
+}
+
+-- the shape of a node stands in its table
+cited_table : (n : Schema) (place : Option ℕ) (m : Schema) → cited n place ≡ Some m → m.table ≡ n.table
+cited_table n None m bad = cc
+cited_table n (Some i) m is = at_place_table n.table i m is
+
+shape_table : (n : Schema) → (shape n).table ≡ n.table
+shape_table n = found (cited n n.node.target) refl
+  where
+    found : (o : Option Schema) → cited n n.node.target ≡ o → (unwrap_or o n).table ≡ n.table
+    found None e = refl
+    found (Some m) e = cited_table n n.node.target m e
+
+-- each member that is handed out stands at a place of the table
+placed_at : (n : Schema) (position : Option ℕ) (m : Schema) → cited n position ≡ Some m → IsPlaced n.table m
+placed_at n None m bad = cc
+placed_at n (Some i) m is = (i, is)
+
+member_placed : (n : Schema) (o : Option ℕ) (m : Schema) → option_and_then (member_at n) o ≡ Some m → IsPlaced n.table m
+member_placed n None m bad = cc
+member_placed n (Some i) m is = placed_at n (slice_get n.node.members i) m is
+
+one_placed : (n : Schema) (d : List ℕ × Document) (rest : List (Schema × Held)) → Each (λ (x : Schema × Held). IsPlaced n.table x.0) rest → (o : Option Schema) → member_named n d.0 ≡ o
+    → Each (λ (x : Schema × Held). IsPlaced n.table x.0) (option_map_or (λ m. (m, held.document d.1) ∷ []) o [] ++ rest)
+one_placed n d rest all None e = all
+one_placed n d rest all (Some m) e = (member_placed n (position_of_name n d.0) m e, all)
+
+all_placed : (n : Schema) (ds : List (List ℕ × Document)) → Each (λ (x : Schema × Held). IsPlaced n.table x.0) (flat_map (known n) ds)
+all_placed n [] = tt
+all_placed n (d ∷ ds) = one_placed n d (flat_map (known n) ds) (all_placed n ds) (member_named n d.0) refl
+
+fields_placed : (n : Schema) (h : Held) → IfOk (fields n h) (Each (λ (x : Schema × Held). IsPlaced n.table x.0))
+unfolding fields
+fields_placed n (held.header name values) = tt
+fields_placed n (held.element text) = tt
+fields_placed n (held.date seconds) = tt
+fields_placed n (held.prefixed entries) = tt
+fields_placed n (held.status n_2) = tt
+fields_placed n (held.raw bytes) = tt
+fields_placed n (held.document doc.null) = tt
+fields_placed n (held.document (doc.boolean b)) = tt
+fields_placed n (held.document (doc.number z)) = tt
+fields_placed n (held.document (doc.string s)) = tt
+fields_placed n (held.document (doc.array ds)) = tt
+fields_placed n (held.document (doc.object ms)) = all_placed n (list_of_members ms)
+fields_placed n (held.input text is_read) = tt
+fields_placed n (held.item text) = tt
+fields_placed n (held.refused e) = tt
+
+-- what is built of members that all stand in the table
+members_built : (n : Schema) (h : Held) (s t : StructBuilder) (answer : Answer) → s.table.now ≡ n.table
+    → HandsOut (at_members TakesMember) (settled_in group.Structure (contents group.Structure n h)) (contents group.Structure n h).ends (contents group.Structure n h).items s t answer
+    → Built add_write (then_try (fields n h) (all_read (λ x. then_give (value_read x.0 x.1) (write_by x.0)))) (writes_in s.table.now s.writes) (writes_in t.table.now t.writes) answer
+members_built n h s t answer table handed =
+    handed_built_of (at_members TakesMember) (λ (b : StructBuilder). b.table.now ≡ n.table) (λ (x : Schema × Held). IsPlaced n.table x.0) (λ (b : StructBuilder). writes_in b.table.now b.writes) add_write
+    (λ (x : Schema × Held). (at_member x.0, x.1)) (λ x. then_give (value_read x.0 x.1) (write_by x.0))
+    (λ b x c y placed same took. (took.same ∙ same, took.adds (subst (λ u. IsPlaced u x.0) (sym same) placed)))
+    group.Structure (fields n h) s t answer (fields_placed n h) table handed
+
+pub structure_read : (held : Option Held) (n : Schema) (k : ShapeType) (null reads : Bool) (s t : StructBuilder) (old new : AtHand) (answer : Answer) → old.held ≡ held → AtNode n held k null reads → reads ≡ false
+    → IsPlan k n plan.Structure → s.table.now ≡ n.table → writes_in s.table.now s.writes ≡ no_writes → HandsAll (at_members TakesMember) (Same struct_table) group.Structure (shape n) s t old new answer
+    → IfSome held (λ h. IsRead add_write structure_total (value_read n h) (writes_in t.table.now t.writes) answer)
+structure_read None n k null reads s t old new answer is a other p table none all = tt
+structure_read (Some h) n k null reads s t old new answer is a other p table none all = record {
+  all = then_try (fields (shape n) h) (all_read (λ x. then_give (value_read x.0 x.1) (write_by x.0)));
+  is = planned n h k null reads a other ∙ p h;
+  built = subst (λ ws. Built add_write (then_try (fields (shape n) h) (all_read (λ x. then_give (value_read x.0 x.1) (write_by x.0)))) ws (writes_in t.table.now t.writes) answer) none
+      (members_built (shape n) h s t answer (table ∙ sym (shape_table n)) (handed_of (at_members TakesMember) group.Structure (shape n) h (old.listing group.Structure (shape n)) s t answer (old.told group.Structure (shape n) h is) all.handed));
+}
+
+-- all writes that were added
+added_writes : (v : Writes) (ws : List Write) → all_added add_write v ws ≡ appended v (writes_of ws)
+added_writes v [] = sym (appended-no_writes v)
+added_writes v (w ∷ ws) = added_writes (add_write v w) ws ∙ appended_assoc v (one_write w.label w.value) (writes_of ws)
+
+added_entries : (v : Writes) (es : List (Write × Write)) → all_added add_entry v es ≡ appended v (writes_of (joined es))
+added_entries v [] = sym (appended-no_writes v)
+added_entries v (e ∷ es) =
+    added_entries (add_entry v e) es ∙ appended_assoc (add_write v e.0) (one_write e.1.label e.1.value) (writes_of (joined es))
+    ∙ appended_assoc v (one_write e.0.label e.0.value) (write e.1.label e.1.value (writes_of (joined es)))
+
+list_of_writes : (ws : List Write) → list_of (writes_of ws) ≡ ws
+list_of_writes [] = refl
+list_of_writes (w ∷ ws) = ap (λ l. w ∷ l) (list_of_writes ws)
+
+pub is_list : (new now : Writes) (v : Value) → v ≡ value.list now → now ≡ new → (bs : List Write) → new ≡ all_added add_write no_writes bs → v ≡ list_total bs
+is_list new now v is same bs e = is ∙ ap value.list (same ∙ e ∙ added_writes no_writes bs)
+
+pub is_map : (new now : Writes) (v : Value) → v ≡ value.map now → now ≡ new → (bs : List (Write × Write)) → new ≡ all_added add_entry no_writes bs → v ≡ map_total bs
+is_map new now v is same bs e = is ∙ ap value.map (same ∙ e ∙ added_entries no_writes bs)
+
+pub is_structure : (new now sorted : Writes) (v : Value) → v ≡ value.structure sorted → sorted ≡ in_index_order now → now ≡ new → (bs : List Write) → new ≡ all_added add_write no_writes bs → v ≡ structure_total bs
+is_structure new now sorted v is order same bs e =
+    is ∙ ap value.structure (order ∙ ap (λ ws. writes_of (in_order ws)) (ap list_of (same ∙ e ∙ added_writes no_writes bs) ∙ list_of_writes bs))
+
+-- one item is taken
+add_ok : (t : Table) (i : ℕ) (n : Schema) (r : Result Value SerdeError) (v : ShapeValue) (old new : Writes) → at_place t i ≡ Some n → Gives (value_in t) (Some r) (Ok v)
+    → new ≡ appended old (one_write (label_at t i) (value_in t v)) → Collects add_write (then_give r (write_by n)) old new (Ok tt)
+add_ok t i n (Ok x) v old new there g e =
+    let label : label_at t i ≡ label_of n = rw there refl in
+    inl (refl, e ∙ rw (label, g) refl)
+add_ok t i n (Err x) v old new there g e = absurd g
+
+add_err : {B V : Type 0} (add : V → B → V) (f : ShapeValue → Value) (w : Value → B) (r : Result Value SerdeError) (e : SerdeError) (old new : V) → Gives f (Some r) (Err e) → Collects add (then_give r w) old new (Err e)
+add_err add f w (Ok x) e old new g = inr (ap Err g)
+add_err add f w (Err x) e old new (inl g) = inl (ap Err g)
+add_err add f w (Err x) e old new (inr g) = inr (ap Err g)
+
+add_memory : {B V : Type 0} (add : V → B → V) (r : Result B SerdeError) (e : SerdeError) (old new : V) → e ≡ OutOfMemory → Collects add r old new (Err e)
+add_memory add (Ok x) e old new m = inr (ap Err m)
+add_memory add (Err x) e old new m = inr (ap Err m)
+
+pub element_ok : (held : Option Held) (s t : ListBuilder) (v : ShapeValue) → ((n : Schema) → at_place s.table.now s.element.0 ≡ Some n → Gives (value_in s.table.now) (option_map (value_read n) held) (Ok v))
+    → writes_in t.table.now t.writes ≡ appended (writes_in s.table.now s.writes) (one_write (label_at s.table.now s.element.0) (value_in s.table.now v)) → list_nodes t ≡ list_nodes s → IfSome held (λ h. TakesElement s h t (Ok tt))
+element_ok None s t v g e same = tt
+element_ok (Some h) s t v g e same = record { adds = λ n there. add_ok s.table.now s.element.0 n (value_read n h) v _ _ there (g n there) e; same = same }
+
+pub element_err : (held : Option Held) (s t : ListBuilder) (e : SerdeError) → ((n : Schema) → at_place s.table.now s.element.0 ≡ Some n → Gives (value_in s.table.now) (option_map (value_read n) held) (Err e))
+    → list_nodes t ≡ list_nodes s → IfSome held (λ h. TakesElement s h t (Err e))
+element_err None s t e g same = tt
+element_err (Some h) s t e g same = record { adds = λ n there. add_err add_write (value_in s.table.now) (write_by n) (value_read n h) e _ _ (g n there); same = same }
+
+pub element_memory : (held : Option Held) (s t : ListBuilder) (e : SerdeError) → e ≡ OutOfMemory → list_nodes t ≡ list_nodes s → IfSome held (λ h. TakesElement s h t (Err e))
+element_memory None s t e m same = tt
+element_memory (Some h) s t e m same = record { adds = λ n there. add_memory add_write (then_give (value_read n h) (write_by n)) e _ _ m; same = same }
+
+here_too : (t : Table) (i : ℕ) (m : Schema) → at_place m.table i ≡ Some m → IsPlaced t m → at_place t i ≡ Some m
+here_too t i m there p = subst (λ u. at_place u i ≡ Some m) (at_place_table t p.0 m p.1) there
+
+pub member_ok : (held : Option Held) (s t : StructBuilder) (m : Schema) (i : ℕ) (v : ShapeValue) → at_place m.table i ≡ Some m
+    → ((n : Schema) → at_place s.table.now i ≡ Some n → Gives (value_in s.table.now) (option_map (value_read n) held) (Ok v))
+    → writes_in t.table.now t.writes ≡ appended (writes_in s.table.now s.writes) (one_write (label_at s.table.now i) (value_in s.table.now v)) → t.table.now ≡ s.table.now → IfSome held (λ h. TakesMember s m h t (Ok tt))
+member_ok None s t m i v there g e same = tt
+member_ok (Some h) s t m i v there g e same = record {
+  adds = λ p. let here = here_too s.table.now i m there p in add_ok s.table.now i m (value_read m h) v _ _ here (g m here) e;
+  same = same;
+}
+
+pub member_err : (held : Option Held) (s t : StructBuilder) (m : Schema) (i : ℕ) (e : SerdeError) → at_place m.table i ≡ Some m
+    → ((n : Schema) → at_place s.table.now i ≡ Some n → Gives (value_in s.table.now) (option_map (value_read n) held) (Err e)) → t.table.now ≡ s.table.now → IfSome held (λ h. TakesMember s m h t (Err e))
+member_err None s t m i e there g same = tt
+member_err (Some h) s t m i e there g same = record {
+  adds = λ p. add_err add_write (value_in s.table.now) (write_by m) (value_read m h) e _ _ (g m (here_too s.table.now i m there p));
+  same = same;
+}
+
+pub member_memory : (held : Option Held) (s t : StructBuilder) (m : Schema) (e : SerdeError) → e ≡ OutOfMemory → t.table.now ≡ s.table.now → IfSome held (λ h. TakesMember s m h t (Err e))
+member_memory None s t m e mem same = tt
+member_memory (Some h) s t m e mem same = record { adds = λ p. add_memory add_write (then_give (value_read m h) (write_by m)) e _ _ mem; same = same }
+
+entry_added : (t : Table) (k n : Schema) (i j : ℕ) (key : List ℕ) (r : Result Value SerdeError) (v : ShapeValue) (old new : Writes) → at_place t i ≡ Some k → at_place t j ≡ Some n → Gives (value_in t) (Some r) (Ok v)
+    → new ≡ appended (appended old (one_write (label_at t i) (value.scalar (value.text key)))) (one_write (label_at t j) (value_in t v))
+    → Collects add_entry (then_give r (entry_by k n key)) old new (Ok tt)
+entry_added t k n i j key (Ok x) v old new there there_2 g e =
+    let label : label_at t i ≡ label_of k = rw there refl in
+    let label_2 : label_at t j ≡ label_of n = rw there_2 refl in
+    inl (refl, e ∙ rw (label, label_2, g) refl)
+entry_added t k n i j key (Err x) v old new there there_2 g e = absurd g
+
+pub entry_ok : (held : Option Held) (s t : MapBuilder) (key : List ℕ) (v : ShapeValue) → ((n : Schema) → at_place s.table.now s.value.0 ≡ Some n → Gives (value_in s.table.now) (option_map (value_read n) held) (Ok v))
+    → writes_in t.table.now t.writes ≡ appended (appended (writes_in s.table.now s.writes) (one_write (label_at s.table.now s.key.0) (value.scalar (value.text key)))) (one_write (label_at s.table.now s.value.0) (value_in s.table.now v))
+    → map_nodes t ≡ map_nodes s → IfSome held (λ h. TakesEntry s key h t (Ok tt))
+entry_ok None s t key v g e same = tt
+entry_ok (Some h) s t key v g e same = record {
+  adds = λ k n there there_2. entry_added s.table.now k n s.key.0 s.value.0 key (value_read n h) v _ _ there there_2 (g n there_2) e;
+  same = same;
+}
+
+pub entry_err : (held : Option Held) (s t : MapBuilder) (key : List ℕ) (e : SerdeError) → ((n : Schema) → at_place s.table.now s.value.0 ≡ Some n → Gives (value_in s.table.now) (option_map (value_read n) held) (Err e))
+    → map_nodes t ≡ map_nodes s → IfSome held (λ h. TakesEntry s key h t (Err e))
+entry_err None s t key e g same = tt
+entry_err (Some h) s t key e g same = record {
+  adds = λ k n there there_2. add_err add_entry (value_in s.table.now) (entry_by k n key) (value_read n h) e _ _ (g n there_2);
+  same = same;
+}
+
+pub entry_memory : (held : Option Held) (s t : MapBuilder) (key : List ℕ) (e : SerdeError) → e ≡ OutOfMemory → map_nodes t ≡ map_nodes s → IfSome held (λ h. TakesEntry s key h t (Err e))
+entry_memory None s t key e m same = tt
+entry_memory (Some h) s t key e m same = record {
+  adds = λ k n there there_2. add_memory add_entry (then_give (value_read n h) (entry_by k n key)) e _ _ m;
+  same = same;
+}
+
+pub element_taken : (s t : ListBuilder) (v : ShapeValue) (old new : AtHand) → ReadsValue s.table.now s.element.0 old new (Ok v)
+    → writes_in t.table.now t.writes ≡ appended (writes_in s.table.now s.writes) (one_write (label_at s.table.now s.element.0) (value_in s.table.now v)) → list_nodes t ≡ list_nodes s → Takes (at_elements TakesElement) (Same list_nodes) at_element s t old new (Ok tt)
+element_taken s t v old new r e same = record { taken = element_ok old.held s t v r.gives e same; kept = same; leaves = r.leaves }
+
+pub element_refused : (s t : ListBuilder) (e : SerdeError) (old new : AtHand) → ReadsValue s.table.now s.element.0 old new (Err e) → list_nodes t ≡ list_nodes s → Takes (at_elements TakesElement) (Same list_nodes) at_element s t old new (Err e)
+element_refused s t e old new r same = record { taken = element_err old.held s t e r.gives same; kept = same; leaves = r.leaves }
+
+pub element_full : (s t : ListBuilder) (e : SerdeError) (old new : AtHand) → new.opened ≡ old.opened → e ≡ OutOfMemory → list_nodes t ≡ list_nodes s → Takes (at_elements TakesElement) (Same list_nodes) at_element s t old new (Err e)
+element_full s t e old new kept m same = record { taken = element_memory old.held s t e m same; kept = same; leaves = ([], kept) }
+
+pub entry_taken : (s t : MapBuilder) (key : List ℕ) (v : ShapeValue) (old new : AtHand) → ReadsValue s.table.now s.value.0 old new (Ok v)
+    → writes_in t.table.now t.writes ≡ appended (appended (writes_in s.table.now s.writes) (one_write (label_at s.table.now s.key.0) (value.scalar (value.text key)))) (one_write (label_at s.table.now s.value.0) (value_in s.table.now v)) → map_nodes t ≡ map_nodes s → Takes (at_entries TakesEntry) (Same map_nodes) (at_key key) s t old new (Ok tt)
+entry_taken s t key v old new r e same = record { taken = entry_ok old.held s t key v r.gives e same; kept = same; leaves = r.leaves }
+
+pub entry_refused : (s t : MapBuilder) (key : List ℕ) (e : SerdeError) (old new : AtHand) → ReadsValue s.table.now s.value.0 old new (Err e) → map_nodes t ≡ map_nodes s → Takes (at_entries TakesEntry) (Same map_nodes) (at_key key) s t old new (Err e)
+entry_refused s t key e old new r same = record { taken = entry_err old.held s t key e r.gives same; kept = same; leaves = r.leaves }
+
+pub entry_full : (s t : MapBuilder) (key : List ℕ) (e : SerdeError) (old new : AtHand) → new.opened ≡ old.opened → e ≡ OutOfMemory → map_nodes t ≡ map_nodes s → Takes (at_entries TakesEntry) (Same map_nodes) (at_key key) s t old new (Err e)
+entry_full s t key e old new kept m same = record { taken = entry_memory old.held s t key e m same; kept = same; leaves = ([], kept) }
+
+pub member_taken : (s t : StructBuilder) (m : Schema) (i : ℕ) (v : ShapeValue) (old new : AtHand) → at_place m.table i ≡ Some m → ReadsValue s.table.now i old new (Ok v)
+    → writes_in t.table.now t.writes ≡ appended (writes_in s.table.now s.writes) (one_write (label_at s.table.now i) (value_in s.table.now v)) → t.table.now ≡ s.table.now → Takes (at_members TakesMember) (Same struct_table) (at_member m) s t old new (Ok tt)
+member_taken s t m i v old new there r e same = record { taken = member_ok old.held s t m i v there r.gives e same; kept = same; leaves = r.leaves }
+
+pub member_refused : (s t : StructBuilder) (m : Schema) (i : ℕ) (e : SerdeError) (old new : AtHand) → at_place m.table i ≡ Some m → ReadsValue s.table.now i old new (Err e) → t.table.now ≡ s.table.now → Takes (at_members TakesMember) (Same struct_table) (at_member m) s t old new (Err e)
+member_refused s t m i e old new there r same = record { taken = member_err old.held s t m i e there r.gives same; kept = same; leaves = r.leaves }
+
+pub member_full : (s t : StructBuilder) (m : Schema) (e : SerdeError) (old new : AtHand) → new.opened ≡ old.opened → e ≡ OutOfMemory → t.table.now ≡ s.table.now → Takes (at_members TakesMember) (Same struct_table) (at_member m) s t old new (Err e)
+member_full s t m e old new kept mem same = record { taken = member_memory old.held s t m e mem same; kept = same; leaves = ([], kept) }
+
+-- a member of another table
+unknown_taken : (held : Option Held) (s : StructBuilder) (m : Schema) (e : SerdeError) → (IsPlaced s.table.now m → ⊥) → IfSome held (λ h. TakesMember s m h s (Err e))
+unknown_taken None s m e another = tt
+unknown_taken (Some h) s m e another = record { adds = λ p. absurd (another p); same = refl }
+
+pub member_unknown : (s : StructBuilder) (m : Schema) (e : SerdeError) (old : AtHand) → (IsPlaced s.table.now m → ⊥) → Takes (at_members TakesMember) (Same struct_table) (at_member m) s s old old (Err e)
+member_unknown s m e old another = record { taken = unknown_taken old.held s m e another; kept = refl; leaves = ([], refl) }
+
+-- the exits of `read_value`
+null_is : (t : Table) → value_in t stored.Null ≡ value.scalar value.null
+unfolding value_in
+null_is t = refl
+
+list_is : (t : Table) (ws : WriteList) → value_in t (stored.List ws) ≡ value.list (writes_in t ws)
+unfolding value_in
+list_is t ws = refl
+
+map_is : (t : Table) (ws : WriteList) → value_in t (stored.Map ws) ≡ value.map (writes_in t ws)
+unfolding value_in
+map_is t ws = refl
+
+structure_is : (t : Table) (ws : WriteList) → value_in t (stored.Struct ws) ≡ value.structure (writes_in t ws)
+unfolding value_in
+structure_is t ws = refl
+
+null_defined : (t : Table) → IsDefined t stored.Null
+unfolding IsDefined
+null_defined t = tt
+
+list_defined : (t : Table) (ws : WriteList) → AreDefined t ws → IsDefined t (stored.List ws)
+unfolding IsDefined
+list_defined t ws d = d
+
+map_defined : (t : Table) (ws : WriteList) → AreDefined t ws → IsDefined t (stored.Map ws)
+unfolding IsDefined
+map_defined t ws d = d
+
+structure_defined : (t : Table) (ws : WriteList) → AreDefined t ws → IsDefined t (stored.Struct ws)
+unfolding IsDefined
+structure_defined t ws d = d
+
+pub value_null : (t : Table) (place : ℕ) (n : Schema) (k : ShapeType) (null reads : Bool) (old : AtHand) → Some n ≡ at_place t place → AtNode n old.held k null reads → reads ≡ true → ReadsValue t place old old (Ok stored.Null)
+value_null t place n k null reads old there a so = record {
+  gives = at_the_place (λ m. Gives (value_in t) (option_map (value_read m) old.held) (Ok stored.Null)) t place n there (gives_null (value_in t) n old.held k null reads stored.Null a so (null_is t));
+  defined = null_defined t;
+  leaves = refl;
+}
+
+pub value_memory : (t : Table) (place : ℕ) (old new : AtHand) (e : SerdeError) → e ≡ OutOfMemory → IsAbove old new → ReadsValue t place old new (Err e)
+value_memory t place old new e m above = record { gives = λ n is. gives_memory (value_in t) (option_map (value_read n) old.held) e m; defined = tt; leaves = above }
+
+pub value_scalar : (t : Table) (place : ℕ) (n : Schema) (k : ShapeType) (null reads : Bool) (s : ScalarKind) (r : ReadScalar) (v : ShapeValue) (old new : AtHand) → Some n ≡ at_place t place → AtNode n old.held k null reads → reads ≡ false → IsPlan k n (plan.Scalar s)
+    → Reads scalar_of_read s n old new (Ok r) → value_in t v ≡ value.scalar (scalar_of_read r) → IsDefined t v → ReadsValue t place old new (Ok v)
+value_scalar t place n k null reads s r v old new there a other p reads_it is defined = record {
+  gives = at_the_place (λ m. Gives (value_in t) (option_map (value_read m) old.held) (Ok v)) t place n there
+      (subst (λ o. Gives (value_in t) o (Ok v)) (sym (scalar_is n old.held k null reads s a other p)) (value_given (value_in t) scalar_of_read (read_at s n old.held) v r is reads_it.gives));
+  defined = defined;
+  leaves = reads_it.opened;
+}
+
+pub value_scalar_err : (t : Table) (place : ℕ) (n : Schema) (k : ShapeType) (null reads : Bool) (s : ScalarKind) (e : SerdeError) (old new : AtHand) → Some n ≡ at_place t place → AtNode n old.held k null reads → reads ≡ false → IsPlan k n (plan.Scalar s)
+    → Reads {A = ReadScalar} scalar_of_read s n old new (Err e) → ReadsValue t place old new (Err e)
+value_scalar_err t place n k null reads s e old new there a other p reads_it = record {
+  gives = at_the_place (λ m. Gives (value_in t) (option_map (value_read m) old.held) (Err e)) t place n there
+      (subst (λ o. Gives (value_in t) o (Err e)) (sym (scalar_is n old.held k null reads s a other p)) (refusal_given (value_in t) scalar_of_read (read_at s n old.held) e reads_it.gives));
+  defined = tt;
+  leaves = ([], reads_it.opened);
+}
+
+pub value_list : (t : Table) (place : ℕ) (n : Schema) (k : ShapeType) (null reads : Bool) (e : SchemaIndex) (b c : ListBuilder) (old new : AtHand) → Some n ≡ at_place t place → AtNode n old.held k null reads → reads ≡ false → IsPlan k n (plan.List e)
+    → HandsAll (at_elements TakesElement) (Same list_nodes) group.List n b c old new (Ok tt) → b.table.now ≡ t → b.element.0 ≡ e.0 → writes_in b.table.now b.writes ≡ no_writes → AreDefined t c.writes → ReadsValue t place old new (Ok (stored.List c.writes))
+value_list t place n k null reads e b c old new there a other p all table place_is none defined = record {
+  gives = at_the_place (λ m. Gives (value_in t) (option_map (value_read m) old.held) (Ok (stored.List c.writes))) t place n there
+      (read_ok (value_in t) add_write list_total n old.held (writes_in c.table.now c.writes) (stored.List c.writes)
+      (list_read old.held n k null reads e b c old new (Ok tt) refl a other p (table ∙ sym (at_place_table t place n (sym there))) place_is none all)
+      (is_list _ (writes_in t c.writes) _ (list_is t c.writes) (ap (λ u. writes_in u c.writes) (sym (ap (λ p. p.0) all.kept ∙ table)))));
+  defined = list_defined t c.writes defined;
+  leaves = all.leaves.opened;
+}
+
+pub value_list_err : (t : Table) (place : ℕ) (n : Schema) (k : ShapeType) (null reads : Bool) (i : SchemaIndex) (b c : ListBuilder) (e : SerdeError) (old new : AtHand) → Some n ≡ at_place t place → AtNode n old.held k null reads → reads ≡ false → IsPlan k n (plan.List i)
+    → HandsAll (at_elements TakesElement) (Same list_nodes) group.List n b c old new (Err e) → b.table.now ≡ t → b.element.0 ≡ i.0 → writes_in b.table.now b.writes ≡ no_writes → ReadsValue t place old new (Err e)
+value_list_err t place n k null reads i b c e old new there a other p all table place_is none = record {
+  gives = at_the_place (λ m. Gives (value_in t) (option_map (value_read m) old.held) (Err e)) t place n there
+      (read_err (value_in t) add_write list_total n old.held (writes_in c.table.now c.writes) e
+      (list_read old.held n k null reads i b c old new (Err e) refl a other p (table ∙ sym (at_place_table t place n (sym there))) place_is none all));
+  defined = tt;
+  leaves = all.leaves;
+}
+
+pub value_map : (t : Table) (place : ℕ) (n : Schema) (k : ShapeType) (null reads : Bool) (key i : SchemaIndex) (b c : MapBuilder) (old new : AtHand) → Some n ≡ at_place t place → AtNode n old.held k null reads → reads ≡ false → IsPlan k n (plan.Map key i)
+    → HandsAll (at_entries TakesEntry) (Same map_nodes) group.Map n b c old new (Ok tt) → b.table.now ≡ t → b.key.0 ≡ key.0 → b.value.0 ≡ i.0 → writes_in b.table.now b.writes ≡ no_writes → AreDefined t c.writes → ReadsValue t place old new (Ok (stored.Map c.writes))
+value_map t place n k null reads key i b c old new there a other p all table key_is value_is none defined = record {
+  gives = at_the_place (λ m. Gives (value_in t) (option_map (value_read m) old.held) (Ok (stored.Map c.writes))) t place n there
+      (read_ok (value_in t) add_entry map_total n old.held (writes_in c.table.now c.writes) (stored.Map c.writes)
+      (map_read old.held n k null reads key i b c old new (Ok tt) refl a other p (table ∙ sym (at_place_table t place n (sym there))) key_is value_is none all)
+      (is_map _ (writes_in t c.writes) _ (map_is t c.writes) (ap (λ u. writes_in u c.writes) (sym (ap (λ p. p.0) all.kept ∙ table)))));
+  defined = map_defined t c.writes defined;
+  leaves = all.leaves.opened;
+}
+
+pub value_map_err : (t : Table) (place : ℕ) (n : Schema) (k : ShapeType) (null reads : Bool) (key i : SchemaIndex) (b c : MapBuilder) (e : SerdeError) (old new : AtHand) → Some n ≡ at_place t place → AtNode n old.held k null reads → reads ≡ false → IsPlan k n (plan.Map key i)
+    → HandsAll (at_entries TakesEntry) (Same map_nodes) group.Map n b c old new (Err e) → b.table.now ≡ t → b.key.0 ≡ key.0 → b.value.0 ≡ i.0 → writes_in b.table.now b.writes ≡ no_writes → ReadsValue t place old new (Err e)
+value_map_err t place n k null reads key i b c e old new there a other p all table key_is value_is none = record {
+  gives = at_the_place (λ m. Gives (value_in t) (option_map (value_read m) old.held) (Err e)) t place n there
+      (read_err (value_in t) add_entry map_total n old.held (writes_in c.table.now c.writes) e
+      (map_read old.held n k null reads key i b c old new (Err e) refl a other p (table ∙ sym (at_place_table t place n (sym there))) key_is value_is none all));
+  defined = tt;
+  leaves = all.leaves;
+}
+
+pub value_structure : (t : Table) (place : ℕ) (n : Schema) (k : ShapeType) (null reads : Bool) (b c : StructBuilder) (sorted : WriteList) (old new : AtHand) → Some n ≡ at_place t place → AtNode n old.held k null reads → reads ≡ false → IsPlan k n plan.Structure
+    → HandsAll (at_members TakesMember) (Same struct_table) group.Structure (shape n) b c old new (Ok tt) → b.table.now ≡ t → writes_in b.table.now b.writes ≡ no_writes → writes_in t sorted ≡ in_index_order (writes_in t c.writes) → AreDefined t sorted → ReadsValue t place old new (Ok (stored.Struct sorted))
+value_structure t place n k null reads b c sorted old new there a other p all table none order defined = record {
+  gives = at_the_place (λ m. Gives (value_in t) (option_map (value_read m) old.held) (Ok (stored.Struct sorted))) t place n there
+      (read_ok (value_in t) add_write structure_total n old.held (writes_in c.table.now c.writes) (stored.Struct sorted)
+      (structure_read old.held n k null reads b c old new (Ok tt) refl a other p (table ∙ sym (at_place_table t place n (sym there))) none all)
+      (is_structure _ (writes_in t c.writes) (writes_in t sorted) _ (structure_is t sorted) order (ap (λ u. writes_in u c.writes) (sym (all.kept ∙ table)))));
+  defined = structure_defined t sorted defined;
+  leaves = all.leaves.opened;
+}
+
+pub value_structure_err : (t : Table) (place : ℕ) (n : Schema) (k : ShapeType) (null reads : Bool) (b c : StructBuilder) (e : SerdeError) (old new : AtHand) → Some n ≡ at_place t place → AtNode n old.held k null reads → reads ≡ false → IsPlan k n plan.Structure
+    → HandsAll (at_members TakesMember) (Same struct_table) group.Structure (shape n) b c old new (Err e) → b.table.now ≡ t → writes_in b.table.now b.writes ≡ no_writes → ReadsValue t place old new (Err e)
+value_structure_err t place n k null reads b c e old new there a other p all table none = record {
+  gives = at_the_place (λ m. Gives (value_in t) (option_map (value_read m) old.held) (Err e)) t place n there
+      (read_err (value_in t) add_write structure_total n old.held (writes_in c.table.now c.writes) e
+      (structure_read old.held n k null reads b c old new (Err e) refl a other p (table ∙ sym (at_place_table t place n (sym there))) none all));
+  defined = tt;
+  leaves = all.leaves;
+}
+
+-- the plans that cite nodes
+pub list_planned : (n m : Schema) (i : SchemaIndex) → Some m ≡ element_of n → at_place m.table i.0 ≡ Some m → IsPlan kind.List n (plan.List i)
+list_planned n m i e there = (m, subst (λ u. at_place u i.0 ≡ Some m) (cited_table n n.node.element m (sym e)) there, λ h. ap (λ o. list_by value_read n o h) (sym e))
+
+pub map_planned : (n key m : Schema) (i j : SchemaIndex) → Some key ≡ key_of n → Some m ≡ value_of n → at_place key.table i.0 ≡ Some key → at_place m.table j.0 ≡ Some m → IsPlan kind.Map n (plan.Map i j)
+map_planned n key m i j e e_2 there there_2 = (
+  key,
+  m,
+  subst (λ u. at_place u i.0 ≡ Some key) (cited_table n n.node.key key (sym e)) there,
+  subst (λ u. at_place u j.0 ≡ Some m) (cited_table n n.node.value m (sym e_2)) there_2,
+  λ h. ap (λ o. map_by value_read n o (value_of n) h) (sym e) ∙ ap (λ o. map_by value_read n (Some key) o h) (sym e_2),
+)
+
+pub has_node_at : (t : Table) (place : ℕ) (n m : Schema) (i : ℕ) → Some n ≡ at_place t place → at_place n.table i ≡ Some m → HasNode t i
+has_node_at t place n m i there is =
+    let here : at_place t i ≡ Some m = subst (λ u. at_place u i ≡ Some m) (at_place_table t place n (sym there)) is in
+    subst (λ (o : Option Schema). IsSome o) (sym here) refl
+
+-- a structure read at the top, where the null is refused
+structure_opened : (held : Option Held) (n : Schema) (s t : StructBuilder) (old new : AtHand) (answer : Answer) → old.held ≡ held → s.table.now ≡ n.table → writes_in s.table.now s.writes ≡ no_writes
+    → HandsAll (at_members TakesMember) (Same struct_table) group.Structure (shape n) s t old new answer → IfSome held (λ h. IsRead add_write structure_total (value_of_structure value_read (shape n) h) (writes_in t.table.now t.writes) answer)
+structure_opened None n s t old new answer is table none all = tt
+structure_opened (Some h) n s t old new answer is table none all = record {
+  all = then_try (fields (shape n) h) (all_read (λ x. then_give (value_read x.0 x.1) (write_by x.0)));
+  is = refl;
+  built = subst (λ ws. Built add_write (then_try (fields (shape n) h) (all_read (λ x. then_give (value_read x.0 x.1) (write_by x.0)))) ws (writes_in t.table.now t.writes) answer) none
+      (members_built (shape n) h s t answer (table ∙ sym (shape_table n)) (handed_of (at_members TakesMember) group.Structure (shape n) h (old.listing group.Structure (shape n)) s t answer (old.told group.Structure (shape n) h is) all.handed));
+}
+
+opened_ok : (held : Option Held) (n : Schema) (now sorted new : Writes) (v : StructValue) → IfSome held (λ h. IsRead add_write structure_total (value_of_structure value_read (shape n) h) new (Ok tt))
+    → members_of v ≡ sorted → sorted ≡ in_index_order now → now ≡ new → IfSome held (λ h. Gives structure_of (Some (value_of_structure value_read (shape n) h)) (Ok v))
+opened_ok None n now sorted new v r is order same = tt
+opened_ok (Some h) n now sorted new v r is order same =
+    rw r.is (given_ok structure_of add_write structure_total r.all new v r.built (is_structure new now sorted (structure_of v) (ap value.structure is) order same))
+
+opened_err : (held : Option Held) (n : Schema) (new : Writes) (e : SerdeError) → IfSome held (λ h. IsRead add_write structure_total (value_of_structure value_read (shape n) h) new (Err e))
+    → IfSome held (λ h. Gives structure_of (Some (value_of_structure value_read (shape n) h)) (Err e))
+opened_err None n new e r = tt
+opened_err (Some h) n new e r = rw r.is (given_err structure_of add_write structure_total r.all new e r.built)
+
+by_node : (held : Option Held) (r : ValueReader) (n : Schema) (answer : Result StructValue SerdeError) → Some n ≡ at_place r.table.now r.schema.0
+    → IfSome held (λ h. Gives structure_of (Some (value_of_structure value_read (shape n) h)) answer) → IfSome held (λ h. gives_structure r h answer)
+by_node None r n answer there g = tt
+by_node (Some h) r n answer there g = at_the_place (λ m. Gives structure_of (Some (value_of_structure value_read (shape m) h)) answer) r.table.now r.schema.0 n there g
+
+pub reader_err : (r : ValueReader) (n : Schema) (s t : StructBuilder) (e : SerdeError) (old new : AtHand) → Some n ≡ at_place r.table.now r.schema.0 → HandsAll (at_members TakesMember) (Same struct_table) group.Structure (shape n) s t old new (Err e)
+    → s.table.now ≡ r.table.now → writes_in s.table.now s.writes ≡ no_writes → ReadsBy (gives_structure r) old new (Err e)
+reader_err r n s t e old new there all table none = record {
+  gives = by_node old.held r n (Err e) there (opened_err old.held n (writes_in t.table.now t.writes) e (structure_opened old.held n s t old new (Err e) refl (table ∙ sym (at_place_table r.table.now r.schema.0 n (sym there))) none all));
+  leaves = all.leaves;
+}
+
+pub reader_ok : (r : ValueReader) (n : Schema) (s t : StructBuilder) (sorted : WriteList) (v : StructValue) (old new : AtHand) → Some n ≡ at_place r.table.now r.schema.0 → HandsAll (at_members TakesMember) (Same struct_table) group.Structure (shape n) s t old new (Ok tt)
+    → s.table.now ≡ r.table.now → writes_in s.table.now s.writes ≡ no_writes → writes_in r.table.now sorted ≡ in_index_order (writes_in r.table.now t.writes)
+    → members_of v ≡ writes_in r.table.now sorted → ReadsBy (gives_structure r) old new (Ok v)
+reader_ok r n s t sorted v old new there all table none order is = record {
+  gives = by_node old.held r n (Ok v) there (opened_ok old.held n (writes_in r.table.now t.writes) (writes_in r.table.now sorted) (writes_in t.table.now t.writes) v
+      (structure_opened old.held n s t old new (Ok tt) refl (table ∙ sym (at_place_table r.table.now r.schema.0 n (sym there))) none all)
+      is order (ap (λ u. writes_in u t.writes) (sym (all.kept ∙ table))));
+  leaves = all.leaves.opened;
+}
+
+reader_dropped : (held : Option Held) (r : ValueReader) (e : SerdeError) → e ≡ OutOfMemory → IfSome held (λ h. gives_structure r h (Err e))
+reader_dropped None r e m = tt
+reader_dropped (Some h) r e m = λ n there. gives_memory structure_of (Some (value_of_structure value_read (shape n) h)) e m
+
+pub reader_memory : (r : ValueReader) (e : SerdeError) (old new : AtHand) → e ≡ OutOfMemory → new.opened ≡ old.opened → ReadsBy (gives_structure r) old new (Err e)
+reader_memory r e old new m kept = record { gives = reader_dropped old.held r e m; leaves = ([], kept) }

@@ -1,0 +1,35 @@
+use Rattle.std.proofs.Common.{rules, refl}
+use Rattle.smithy_serde.specs.Values.{blob}
+use Rattle.smithy_serde.specs.declared.read_scalar.ScalarKind.TheVariants as of
+use Rattle.smithy_serde.proofs.ReadLists.{each_not_opened, each_begins, each_halted, each_ends, each_added, each_refused, each_dropped}
+use Rattle.smithy_serde.proofs.deserializer.ShapeDeserializer.read_blob_list.Goals as goal
+
+pub returns-in_err-open_list : goal.returns-in_err-open_list
+returns-in_err-open_list g c = let whole = each_not_opened blob of.Blob _ _ _ _ c.in_err-open_list.ensures in search rules
+
+pub loop-items-init : goal.loop-items-init
+loop-items-init g c = rw c.new-items.ensures (each_begins blob of.Blob _ _ _ c.in_ok-open_list.ensures)
+
+pub returns-in_err-next_element : goal.returns-in_err-next_element
+returns-in_err-next_element g c = let whole = each_halted blob of.Blob _ _ _ _ _ _ c.loop-items.invariant c.in_err-next_element.ensures in search rules
+
+pub returns-in_err-item : goal.returns-in_err-item
+returns-in_err-item g c =
+    let item = rw c.if-branch.true at c.in_ok-next_element.ensures in
+    let read = rw c.prelude-element.ensures.node at c.in_err-item.ensures in
+    let whole = each_refused blob of.Blob _ _ _ _ _ _ _ c.loop-items.invariant item read in search rules
+
+pub returns-in_err-push : goal.returns-in_err-push
+returns-in_err-push g c =
+    let item = rw c.if-branch.true at c.in_ok-next_element.ensures in
+    let read = rw c.prelude-element.ensures.node at c.in_ok-item.ensures in
+    let whole = each_dropped blob of.Blob _ _ _ _ _ _ _ _ c.loop-items.invariant item read refl in search rules
+
+pub loop-items-preserved : goal.loop-items-preserved
+loop-items-preserved g c =
+    let item = rw c.if-branch.true at c.in_ok-next_element.ensures in
+    let read = rw c.prelude-element.ensures.node at c.in_ok-item.ensures in
+    each_added blob of.Blob _ _ c.loop-items.items c.push.new.self c.in_ok-item.item _ _ _ _ c.loop-items.invariant item read c.in_ok-push.ensures.ok refl
+
+pub returns : goal.returns
+returns g c = each_ends blob of.Blob _ _ _ _ _ c.loop-items.invariant (rw c.if-branch.false at c.in_ok-next_element.ensures)
