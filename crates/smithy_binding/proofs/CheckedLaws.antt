@@ -1,16 +1,27 @@
 -- What the test of an input schema says.
-use Rattle.std.proofs.Common.{◌≡◌, ◌↔◌, sym, ◌∙◌, true, ◌&&◌, ◌||◌, is_some, IsTrue}
+use Rattle.std.proofs.Common.{◌≡◌, ◌↔◌, sym, ◌∙◌, true, ◌&&◌, is_some, IsTrue}
 use Rattle.std.specs.List.{list_all}
 use Rattle.std.proofs.lemmas.Bool.{and_parts}
 use Rattle.std.proofs.lemmas.List.Sums.{AllPass-from_list_all, list_all-from_AllPass}
 use Rattle.smithy_schema.specs.Nodes.{Schema, cites_nodes, members_of}
-use Rattle.smithy_binding.specs.Checked.{has_distinct_names, is_bound_once, is_writable, has_bound_kind, has_plain_elements, is_text_map, has_map_kind, is_sound_member, members_with, has_at_most_one, has_sound_payload, has_sound_maps, has_sound_names, has_true_flags, has_sound_http, has_defined_members, has_named_members, checked_input, IsCheckedInput}
+use Rattle.smithy_binding.specs.Checked.{has_distinct_names, is_bound_once, is_writable, has_bound_kind, has_plain_elements, is_text_map, is_query_map, has_prefix_kind, has_query_map_kind, has_map_kind, is_sound_member, members_with, has_at_most_one, has_sound_payload, has_sound_maps, has_sound_names, has_true_flags, has_sound_http, has_defined_members, has_named_members, checked_input, IsCheckedInput}
 use Rattle.smithy_binding.proofs.JointTests.{both, all-both, all-parts, all-filter}
 use Rattle.smithy_binding.proofs.Tests.{structure_from_test, structure_test, AreDistinct-from_test, are_distinct-from_facts}
 
 -- the maps in the headers and the query, among the members
-map_kinds : (schema : Schema) → list_all is_text_map (members_with (λ t. is_some t.http_prefix_headers || t.http_query_params) schema) ≡ list_all has_map_kind (members_of schema)
-map_kinds schema = all-filter is_text_map (λ m. is_some m.node.traits.http_prefix_headers || m.node.traits.http_query_params) (members_of schema)
+
+pub prefix_kinds : (schema : Schema) → list_all is_text_map (members_with (λ t. is_some t.http_prefix_headers) schema) ≡ list_all has_prefix_kind (members_of schema)
+prefix_kinds schema = all-filter is_text_map (λ m. is_some m.node.traits.http_prefix_headers) (members_of schema)
+
+query_kinds : (schema : Schema) → list_all is_query_map (members_with (λ t. t.http_query_params) schema) ≡ list_all has_query_map_kind (members_of schema)
+query_kinds schema = all-filter is_query_map (λ m. m.node.traits.http_query_params) (members_of schema)
+
+-- each of them is of a kind of its binding
+pub map_kinds : (schema : Schema) → has_sound_maps schema ≡ true → list_all has_map_kind (members_of schema) ≡ true
+map_kinds schema e =
+    let a = and_parts _ (list_all is_query_map (members_with (λ t. t.http_query_params) schema)) e in
+    let b = and_parts _ (list_all is_text_map (members_with (λ t. is_some t.http_prefix_headers) schema)) a.0 in
+    all-both has_prefix_kind has_query_map_kind (members_of schema) (sym (prefix_kinds schema) ∙ b.1) (sym (query_kinds schema) ∙ a.1)
 
 pub IsCheckedInput-from_test : (schema : Schema) → checked_input schema ≡ true → IsCheckedInput schema
 unfolding checked_input
@@ -30,6 +41,7 @@ IsCheckedInput-from_test schema e =
     let p = all-parts (λ m. cites_nodes m && is_bound_once m && is_writable m) has_bound_kind ms o.0 in
     let q = all-parts (λ m. cites_nodes m && is_bound_once m) is_writable ms p.0 in
     let r = all-parts cites_nodes is_bound_once ms q.0 in
+    let s = all-parts has_prefix_kind has_query_map_kind ms n.1 in
     record {
       structure = structure_from_test schema.node.kind c.0;
       cited = both _ _ c.1 r.0;
@@ -39,7 +51,7 @@ IsCheckedInput-from_test schema e =
       kinds = AllPass-from_list_all has_bound_kind ms p.1;
       elements = AllPass-from_list_all has_plain_elements ms o.1;
       payload = j.1;
-      maps = both _ _ (both _ _ i.1 h.1) (map_kinds schema ∙ n.1);
+      maps = both _ _ (both _ _ (both _ _ i.1 h.1) (prefix_kinds schema ∙ s.0)) (query_kinds schema ∙ s.1);
       unlike_names = f.1;
       flags = g.1;
       http = d.1;
@@ -50,7 +62,8 @@ unfolding checked_input
 checked_input-from_facts schema facts =
     let ms = members_of schema in
     let cited = and_parts (has_defined_members schema) (list_all cites_nodes ms) facts.cited in
-    let maps = and_parts _ (list_all is_text_map (members_with (λ t. is_some t.http_prefix_headers || t.http_query_params) schema)) facts.maps in
+    let maps =
+    and_parts _ (list_all is_text_map (members_with (λ t. is_some t.http_prefix_headers) schema)) (and_parts _ (list_all is_query_map (members_with (λ t. t.http_query_params) schema)) facts.maps).0 in
     let few = and_parts (has_at_most_one (λ t. is_some t.http_prefix_headers) schema) (has_at_most_one (λ t. t.http_query_params) schema) maps.0 in
     let members : list_all is_sound_member ms ≡ true =
     all-both (λ m. cites_nodes m && is_bound_once m && is_writable m && has_bound_kind m && has_plain_elements m) has_map_kind ms
@@ -61,7 +74,7 @@ checked_input-from_facts schema facts =
     (list_all-from_AllPass is_writable ms facts.writable))
     (list_all-from_AllPass has_bound_kind ms facts.kinds))
     (list_all-from_AllPass has_plain_elements ms facts.elements))
-    (sym (map_kinds schema) ∙ maps.1) in
+    (map_kinds schema facts.maps) in
     both _ _
     (both _ _ (both _ _ (structure_test schema.node.kind facts.structure) cited.0) (are_distinct-from_facts _ facts.names))
     (both _ _ (both _ _ (both _ _ (both _ _ (both _ _ (both _ _ members facts.payload) few.0) few.1) facts.flags) facts.unlike_names) facts.http)

@@ -6,15 +6,13 @@ use Rattle.std.proofs.lemmas.List.Sums.{AllPass-from_list_all, list_all-from_All
 use Rattle.smithy_ids.specs.declared.shape_type.ShapeType.TheVariants as kind
 use Rattle.smithy_ids.specs.Kinds.{same_kind}
 use Rattle.smithy_schema.specs.Nodes.{Schema, cites_nodes, members_of}
-use Rattle.smithy_binding.specs.Checked.{has_distinct_names, is_writable, has_header_kind, is_text_map, members_with, has_at_most_one, has_sound_headers, has_defined_members, has_named_members}
-use Rattle.smithy_binding.specs.CheckedOutput.{is_response_bound_once, has_plain_header_elements, has_prefix_kind, has_code_kind, is_sound_response_member, has_sound_response_payload, has_sound_prefix_map, has_sound_response_code, checked_output, IsCheckedOutput}
+use Rattle.smithy_binding.specs.Checked.{has_distinct_names, is_writable, has_header_kind, is_text_map, has_prefix_kind, members_with, has_at_most_one, has_sound_headers, has_defined_members, has_named_members}
+use Rattle.smithy_binding.specs.CheckedOutput.{is_response_bound_once, has_plain_header_elements, has_code_kind, is_sound_response_member, has_sound_response_payload, checked_output, IsCheckedOutput}
+use Rattle.smithy_binding.proofs.CheckedLaws.{prefix_kinds}
 use Rattle.smithy_binding.proofs.JointTests.{both, all-both, all-parts, all-filter}
 use Rattle.smithy_binding.proofs.Tests.{structure_from_test, structure_test, AreDistinct-from_test, are_distinct-from_facts}
 
--- the prefix maps and the response codes, among the members
-prefix_kinds : (schema : Schema) → list_all is_text_map (members_with (λ t. is_some t.http_prefix_headers) schema) ≡ list_all has_prefix_kind (members_of schema)
-prefix_kinds schema = all-filter is_text_map (λ m. is_some m.node.traits.http_prefix_headers) (members_of schema)
-
+-- the response codes, among the members
 code_kinds : (schema : Schema) → list_all (λ m. same_kind m.node.kind kind.Integer) (members_with (λ t. t.http_response_code) schema) ≡ list_all has_code_kind (members_of schema)
 code_kinds schema = all-filter (λ m. same_kind m.node.kind kind.Integer) (λ m. m.node.traits.http_response_code) (members_of schema)
 

@@ -81,7 +81,7 @@ some_texts ts t = go (length (ts ++ t ∷ []) == 0) refl
         let none : length (ts ++ t ∷ []) ≡ 0 = eqb-true (length (ts ++ t ∷ [])) 0 e in
         absurd (omega (arith, count, none))
 
-queries-append : (ps qs : List (List ℕ × List ℕ)) → queries (ps ++ qs) ≡ queries ps ++ queries qs
+pub queries-append : (ps qs : List (List ℕ × List ℕ)) → queries (ps ++ qs) ≡ queries ps ++ queries qs
 queries-append [] qs = refl
 queries-append (p ∷ ps) qs =
     ap (λ xs. (38 ∷ []) ++ (pair_text p ++ xs)) (queries-append ps qs) ∙ ap (λ xs. (38 ∷ []) ++ xs) (sym (append_assoc (pair_text p) (queries ps) (queries qs)))

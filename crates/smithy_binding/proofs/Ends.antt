@@ -2,7 +2,6 @@
 use Rattle.std.proofs.Common.{◌≡◌, refl, ap, sym, ◌∙◌, ℕ, List, [], ◌∷◌, ◌++◌, append_assoc, map, subst, Result, Ok, Err, Option, Some, None}
 use Rattle.std.specs.List.{join_with_byte}
 use Rattle.std.proofs.lemmas.List.{append-nil}
-use Rattle.smithy_types.specs.Documents.{Document}
 use Rattle.smithy_types.specs.Texts.{has_byte}
 use Rattle.smithy_types.specs.Results.{then_give}
 use Rattle.smithy_schema.specs.Nodes.{Schema}
@@ -11,7 +10,7 @@ use Rattle.smithy_serde.specs.Values.{Write}
 use Rattle.smithy_serde.specs.Writes.{all_resolved}
 use Rattle.smithy_binding.specs.Filling.{fill}
 use Rattle.smithy_binding.specs.Bindings.{pairs, labels}
-use Rattle.smithy_binding.specs.Bodies.{Body, body, BodyParts, body_parts, document_value, document_by, bytes_by, form_in}
+use Rattle.smithy_binding.specs.Bodies.{body, BodyParts, body_parts, document_value, document_by, bytes_by, form_in}
 use Rattle.smithy_binding.specs.Placing.{Protocol, Omit, target_of, template_of, method_of, with_query, pair_text, all_headers}
 use Rattle.smithy_binding.specs.Answer.{request_at, answer, legal_request}
 use Rattle.smithy_binding.specs.declared.body_form.BodyForm.{BodyForm}

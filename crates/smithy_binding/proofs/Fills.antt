@@ -1,13 +1,13 @@
 -- A template, cut and filled hole by hole.
-use Rattle.std.proofs.Common.{◌≡◌, ◌≢◌, refl, ap, sym, ◌∙◌, ℕ, ◌+◌, ◌<◌, Bool, true, false, List, [], ◌∷◌, ◌++◌, append_assoc, length, Result, Ok, Err, if◌then◌else◌, codes, arith, count_by, cond, not, suc, ◌||◌, ◌-◌, Option, Some, None, MatchOption, lit<, drop, take, length-drop, nat_eq}
+use Rattle.std.proofs.Common.{◌≡◌, ◌≢◌, refl, ap, sym, ◌∙◌, ℕ, ◌+◌, ◌<◌, Bool, true, false, List, [], ◌∷◌, ◌++◌, append_assoc, length, Result, Ok, Err, if◌then◌else◌, codes, arith, cond, not, suc, ◌||◌, ◌-◌, Option, Some, None, MatchOption, lit<, drop, take, length-drop, nat_eq}
 use Rattle.std.specs.Borrow.{Bor}
 use Rattle.std.specs.List.{slice_split, before_first, after_first, position_or_len, onto_first, ends_with}
 use Rattle.std.specs.Cmp.Lexicographic.{same_text as same_from_test}
 use Rattle.std.proofs.lemmas.List.{append-nil, take-append-drop, length-append}
 use Rattle.std.proofs.Math.Seq.{drop-append_seam, take-append_seam}
-use Rattle.std.proofs.lemmas.List.Splits.{length-slice_split, slice_split_first}
+use Rattle.std.proofs.lemmas.List.Splits.{slice_split_first}
 use Rattle.std.proofs.lemmas.Str.Pattern.{IsSplitOnceResult, split_once_first}
-use Rattle.smithy_types.specs.Texts.{found, has_byte}
+use Rattle.smithy_types.specs.Texts.{has_byte}
 use Rattle.smithy_types.specs.Results.{then_try, then_give}
 use Rattle.smithy_schema.specs.Templates.{Hole, Template, hole_of}
 use Rattle.smithy_binding.specs.CutTemplate.{behind_hole, literal_alone}

@@ -10,7 +10,7 @@ use Rattle.smithy_serde.specs.Fits.{fits, fits_member, is_null, kind_takes}
 use Rattle.smithy_serde.specs.Values.{Value, list, Writes}
 use Rattle.smithy_serde.specs.Values as value
 use Rattle.smithy_binding.specs.Bindings.{pairs_at, query_names}
-use Rattle.smithy_binding.specs.Checked.{is_header_kind, has_element, has_label_kind, has_query_kind, has_header_kind, has_bound_kind, is_plain_string, is_text_map, has_map_kind}
+use Rattle.smithy_binding.specs.Checked.{is_header_kind, has_element, has_label_kind, has_query_kind, has_header_kind, has_bound_kind, is_plain_string, is_plain_list, has_map_kind}
 use Rattle.smithy_binding.specs.Faults.{is_placed_at}
 use Rattle.smithy_binding.specs.Gather.{Gathered}
 use Rattle.smithy_binding.specs.Placed.{has_placed_kind, is_text_binding, is_list_binding, takes_map, placed_first, IsSingle}
@@ -44,12 +44,20 @@ query-kind m e = (and_parts (has_label_kind m) (has_query_kind m) (and_parts (ha
 header-kind : (m : Schema) → has_placed_kind m ≡ true → has_header_kind m ≡ true
 header-kind m e = (and_parts (has_label_kind m && has_query_kind m) (has_header_kind m) (and_parts (has_bound_kind m) (has_map_kind m) e).0).1
 
-map-kind : (m : Schema) → has_placed_kind m ≡ true → has_map_kind m ≡ true
-map-kind m e = (and_parts (has_bound_kind m) (has_map_kind m) e).1
-
 -- a map stands in the headers or the query
 abbrev has_map : Schema → Bool
 has_map m = is_some m.node.traits.http_prefix_headers || m.node.traits.http_query_params
+
+map-kind : (m : Schema) → has_placed_kind m ≡ true → has_map m ≡ true → m.node.kind ≡ kind.Map
+map-kind m e takes =
+    map_from_test m.node.kind (either (is_some m.node.traits.http_prefix_headers) m.node.traits.http_query_params (same_kind m.node.kind kind.Map) (is_plain_string (key_of m))
+    (is_plain_string (value_of m)) (is_plain_string (value_of m) || is_plain_list (value_of m)) (and_parts (has_bound_kind m) (has_map_kind m) e).1 takes)
+  where
+    either : (prefix query is_map keys texts lists : Bool) → ((not prefix || (is_map && keys && texts)) && (not query || (is_map && keys && lists))) ≡ true → (prefix || query) ≡ true → is_map ≡ true
+    either prefix query true keys texts lists e takes = refl
+    either true query false keys texts lists e takes = absurd (cc e)
+    either false true false keys texts lists e takes = absurd (cc e)
+    either false false false keys texts lists e takes = absurd (cc takes)
 
 list-at : (header prefix query : Option (List ℕ)) (query_map label payload : Bool) → is_placed_at (binding_at header prefix query query_map label payload) ≡ true → not label ≡ true
     → not (is_some prefix || query_map) ≡ true → is_list_binding (binding_at header prefix query query_map label payload) ≡ true
@@ -81,24 +89,18 @@ map-at None None None false true payload p no_header no_query l = absurd (cc l)
 map-at None None None false false true p no_header no_query l = absurd (cc p)
 map-at None None None false false false p no_header no_query l = absurd (cc p)
 
-maps-at : (header prefix query : Option (List ℕ)) (query_map label payload : Bool) → takes_map (binding_at header prefix query query_map label payload) ≡ true → (is_some prefix || query_map) ≡ true
-maps-at (Some h) prefix query query_map label payload e = absurd (cc e)
-maps-at None (Some prefix) query query_map label payload e = refl
-maps-at None None (Some q) query_map label payload e = absurd (cc e)
-maps-at None None None true label payload e = refl
-maps-at None None None false true payload e = absurd (cc e)
-maps-at None None None false false true e = absurd (cc e)
-maps-at None None None false false false e = absurd (cc e)
-
 -- a list fits a member in a header or the query
 pub list-fits : (m : Schema) (ws : Writes) → is_placed_at (binding_of m) ≡ true → has_placed_kind m ≡ true → fits_member m (list ws) ≡ true → is_list_binding (binding_of m) ≡ true
 list-fits m ws placed kinds fit =
     let t = m.node.traits in
     let is : m.node.kind ≡ kind.List = list_from_takes m.node.kind (sym (fits-some m (list ws) kind.List refl) ∙ fit) in
-    let no_text : is_text_map m ≡ false = ap (λ (k : ShapeType). same_kind k kind.Map && is_plain_string (key_of m) && is_plain_string (value_of m)) is in
     list-at t.http_header t.http_prefix_headers t.http_query t.http_query_params t.http_label t.http_payload placed
     (only-first (not t.http_label) (is_scalar m.node.kind) (ap is_scalar is) (label-kind m kinds))
-    (only-first (not (has_map m)) (is_text_map m) no_text (map-kind m kinds))
+    (go (has_map m) refl is)
+  where
+    go : (b : Bool) → has_map m ≡ b → m.node.kind ≡ kind.List → not b ≡ true
+    go false e is = refl
+    go true e is = let q : kind.List ≡ kind.Map = sym is ∙ map-kind m kinds e in absurd (cc q)
 
 -- a map fits one with a map's binding
 pub map-fits : (m : Schema) (ws : Writes) → is_placed_at (binding_of m) ≡ true → has_placed_kind m ≡ true → fits_member m (value.map ws) ≡ true → takes_map (binding_of m) ≡ true
@@ -113,16 +115,6 @@ map-fits m ws placed kinds fit =
     (only-first (is_none t.http_query) (is_scalar m.node.kind) (ap is_scalar is)
     (only-first (is_none t.http_query || is_scalar m.node.kind) (has_element is_scalar m) no_scalars (query-kind m kinds)))
     (only-first (not t.http_label) (is_scalar m.node.kind) (ap is_scalar is) (label-kind m kinds))
-
-map-texts-if : (b : Bool) (m : Schema) → b ≡ true → (not b || is_text_map m) ≡ true → is_text_map m ≡ true
-map-texts-if true m e kinds = kinds
-map-texts-if false m e kinds = absurd (cc e)
-
--- and one that has it is a map of texts
-pub map-texts : (m : Schema) → has_placed_kind m ≡ true → takes_map (binding_of m) ≡ true → is_text_map m ≡ true
-map-texts m kinds takes =
-    let t = m.node.traits in
-    map-texts-if (has_map m) m (maps-at t.http_header t.http_prefix_headers t.http_query t.http_query_params t.http_label t.http_payload takes) (map-kind m kinds)
 
 placed-bound : (b : Binding) → is_placed_at b ≡ true → is_outside_body b ≡ true
 placed-bound to_body e = absurd (cc e)
@@ -146,9 +138,7 @@ single-fits m v single placed kinds fit =
     go : (b : Bool) → has_map m ≡ b → not b ≡ true
     go false e = refl
     go true e =
-        let texts : is_text_map m ≡ true = map-texts-if (has_map m) m e (map-kind m kinds) in
-        let is : m.node.kind ≡ kind.Map =
-        map_from_test m.node.kind (and_parts (same_kind m.node.kind kind.Map) (is_plain_string (key_of m)) (and_parts (same_kind m.node.kind kind.Map && is_plain_string (key_of m)) (is_plain_string (value_of m)) texts).0).0 in
+        let is : m.node.kind ≡ kind.Map = map-kind m kinds e in
         let bound : is_bound m ≡ true = placed-bound (binding_of m) placed in
         let unfit : fits_member m v ≡ false = rw (is, bound) (single-unfit v single) in
         let q : true ≡ false = sym fit ∙ unfit in

@@ -12,19 +12,14 @@ use Rattle.smithy_serde.specs.Values.{Write}
 use Rattle.smithy_serde.specs.Writes.{Resolved, resolve, resolved, all_resolved, firsts_from, firsts, has_seen}
 use Rattle.smithy_http.specs.Headers.{put, put_all}
 use Rattle.smithy_binding.specs.Bindings.{inserted, pairs_of, labelled, headers, pairs, labels}
-use Rattle.smithy_binding.specs.Placing.{pair_text}
 use Rattle.smithy_binding.specs.Faults.{Fault, writes_fault, resolved_fault, no_member}
 use Rattle.smithy_binding.specs.TargetParts.{queries}
 use Rattle.smithy_binding.specs.Gather.{Gathered, is_seen, placed, added, ok_unless, fault_at, gather_resolved, gather_one, gather, nothing_yet}
+use Rattle.smithy_binding.proofs.ElementSteps.{queries-append}
 
 put_all-append : (done ps qs : List (List ℕ × List ℕ)) → put_all done (ps ++ qs) ≡ put_all (put_all done ps) qs
 put_all-append done [] qs = refl
 put_all-append done (p ∷ ps) qs = put_all-append (put done p) ps qs
-
-pub queries-append : (ps qs : List (List ℕ × List ℕ)) → queries (ps ++ qs) ≡ queries ps ++ queries qs
-queries-append [] qs = refl
-queries-append (p ∷ ps) qs =
-    ap (λ (t : List ℕ). 38 ∷ t) (ap (λ (t : List ℕ). pair_text p ++ t) (queries-append ps qs) ∙ sym (append_assoc (pair_text p) (queries ps) (queries qs)))
 
 pub resolve-resolved : (schema : Schema) (w : Write) (r : Resolved) → resolved schema w ≡ Some r → (resolve schema w.label ≡ Some r.position) × (member_at schema r.position ≡ Some r.member)
 resolve-resolved schema w r e = go (resolve schema w.label) refl

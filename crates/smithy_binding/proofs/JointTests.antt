@@ -1,5 +1,5 @@
 -- Tests that are asked together.
-use Rattle.std.proofs.Common.{◌≡◌, refl, ap, sym, Bool, true, false, not, cond, ◌&&◌, ◌||◌, List, [], ◌∷◌, filter}
+use Rattle.std.proofs.Common.{◌≡◌, refl, ap, Bool, true, false, not, cond, ◌&&◌, ◌||◌, List, [], ◌∷◌, filter}
 use Rattle.std.specs.List.{list_all}
 use Rattle.std.proofs.lemmas.Bool.{and_parts}
 

@@ -1,8 +1,7 @@
 -- What is kept for the body, a write at a time.
-use Rattle.std.proofs.Common.{◌≡◌, refl, ap, sym, ◌∙◌, ℕ, ◌+◌, ◌≤◌, Bool, true, false, not, ◌||◌, ◌==◌, cond, List, [], ◌∷◌, ◌++◌, append_assoc, map, filter, find, length, drop, slice_get, slice_set, subst, Option, Some, None, option_map, Ok, if◌then◌else◌, IfSome}
+use Rattle.std.proofs.Common.{◌≡◌, refl, ap, sym, ◌∙◌, ℕ, Bool, true, false, not, ◌||◌, ◌==◌, cond, List, [], ◌∷◌, ◌++◌, append_assoc, map, filter, find, slice_set, subst, Option, Some, None, option_map, Ok, if◌then◌else◌, IfSome}
 use Rattle.std.specs.List.{cons_option}
 use Rattle.std.specs.Option.{option_or, option_map_or}
-use Rattle.std.proofs.Math.ListN.{drop_of_length-le}
 use Rattle.std.proofs.lemmas.Bool.{eqb-true}
 use Rattle.std.proofs.lemmas.List.{append-nil, map-append}
 use Rattle.smithy_schema.specs.Nodes.{Schema, Table, Binding, to_body, to_payload, binding_of, is_bound, is_outside_body, member_at}
@@ -22,7 +21,7 @@ use Rattle.smithy_binding.specs.KeptWrites.{no_parts, kept_at, keep, keep_all, v
 use Rattle.smithy_binding.specs.declared.body_writes.BodyWrite.{BodyWrite}
 use Rattle.smithy_binding.specs.declared.body_writes.BodyWrites.{BodyWrites}
 use Rattle.smithy_binding.proofs.Gathers.{resolve-resolved, seen_next}
-use Rattle.smithy_binding.proofs.WriteSteps.{drop-some, add-first}
+use Rattle.smithy_binding.proofs.WriteSteps.{add-first}
 
 -- the first write of a member of the body is marked alone
 pub add-unplaced : (schema : Schema) (s : Gathered) (r : Resolved) → fits_member r.member r.value ≡ true → is_seen s r.position ≡ false → is_placed_at (binding_of r.member) ≡ false

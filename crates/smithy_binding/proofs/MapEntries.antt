@@ -1,44 +1,42 @@
 -- The entries of a map, an entry at a time.
-use Rattle.std.proofs.Common.{◌≡◌, refl, ap, sym, ◌∙◌, ℕ, zero, suc, ◌+◌, ◌*◌, ◌%◌, ◌<◌, ◌≤◌, Bool, true, false, not, ◌&&◌, ◌||◌, ◌==◌, cond, List, [], ◌∷◌, ◌++◌, append_assoc, length, drop, filter, filter_map, map, slice_get, arith, Option, Some, None, is_some, option_and_then, if◌then◌else◌}
+use Rattle.std.proofs.Common.{◌≡◌, refl, ap, sym, ◌∙◌, ℕ, zero, suc, ◌+◌, ◌*◌, ◌%◌, ◌<◌, ◌≤◌, Bool, true, false, not, ◌||◌, ◌==◌, cond, List, [], ◌∷◌, ◌++◌, append_assoc, length, drop, filter, filter_map, flat_map, map, slice_get, arith, Option, Some, None, is_some, option_and_then, if◌then◌else◌}
 use Rattle.std.specs.List.{cons_option}
-use Rattle.std.specs.Option.{option_or}
+use Rattle.std.specs.Option.{option_map_or, option_or}
 use Rattle.std.specs.Str.{bytes_eq, str_to_ascii_lowercase}
 use Rattle.std.proofs.Math.ListN.{drop_of_length-le}
-use Rattle.std.proofs.lemmas.Bool.{and_parts}
 use Rattle.std.proofs.lemmas.List.{append-nil}
 use Rattle.smithy_types.specs.Texts.{is_one_of, same_text}
-use Rattle.smithy_ids.specs.declared.shape_type.ShapeType.{ShapeType}
-use Rattle.smithy_ids.specs.declared.shape_type.ShapeType.TheVariants as kind
-use Rattle.smithy_ids.specs.Kinds.{same_kind}
-use Rattle.smithy_schema.specs.Nodes.{Schema, Table, at_place, member_at, key_of, value_of, to_prefix, to_query_map}
+use Rattle.smithy_schema.specs.Nodes.{Schema, Table, at_place, member_at, to_query_map}
 use Rattle.smithy_serde.specs.Fits.{fits}
 use Rattle.smithy_serde.specs.StoredValues.{value_in, listed}
-use Rattle.smithy_serde.specs.Values.{Value, scalar, text, Writes, no_writes, write, Write, list_of, writes_of, text_of_key}
+use Rattle.smithy_serde.specs.Values.{Value, list, Writes, no_writes, write, Write, list_of, text_of_key}
 use Rattle.smithy_serde.specs.Values as value
 use Rattle.smithy_serde.specs.declared.value.OneWrite.{OneWrite}
-use Rattle.smithy_strings.specs.declared.wire.Place.{Place}
-use Rattle.smithy_strings.specs.declared.wire.Place.TheVariants as at
-use Rattle.smithy_strings.specs.Wire.{wire}
-use Rattle.smithy_binding.specs.Bindings.{kind_or_none, entry_texts, inserted_at, pairs_at}
-use Rattle.smithy_binding.specs.Checked.{is_plain_string, is_text_map}
-use Rattle.smithy_binding.specs.Entries.{is_text, are_texts, text_at}
-use Rattle.smithy_binding.specs.Faults.{Fault, wrong_item_kind, entry_fault, item_fault, key_fault, value_fault, ends_with_value, pair_fault, pairs_fault}
-use Rattle.smithy_binding.specs.Placing.{pair_text}
+use Rattle.smithy_binding.specs.Bindings.{kind_or_none, entries_of, entry_pairs, has_key_outside, pairs_at}
+use Rattle.smithy_binding.specs.Entries.{text_at, pairs_at_place}
+use Rattle.smithy_binding.specs.Faults.{Fault, wrong_item_kind, nested_fault, part_fault, entry_fault, item_fault, key_fault, value_fault, ends_with_value, pair_fault, pairs_fault}
 use Rattle.smithy_binding.specs.TargetParts.{queries}
 use Rattle.smithy_binding.proofs.DistinctNames.{same_text-sym}
+use Rattle.smithy_binding.proofs.ElementSteps.{queries-append}
 use Rattle.smithy_binding.proofs.MemberSteps.{members_from}
-use Rattle.smithy_binding.proofs.WriteSteps.{drop-some}
 
 -- a key or a value further
-module _ (t : Table) (m : Schema) (this next : ShapeType) (x : OneWrite) (rest more : List OneWrite) (steps : rest ≡ x ∷ more) where
-  pub entry-more : fits this (value_in t x.value) ≡ true → entry_fault m this next (listed t rest) ≡ entry_fault m next this (listed t more)
+module _ (t : Table) (m : Schema) (this next : Option Schema) (x : OneWrite) (rest more : List OneWrite) (steps : rest ≡ x ∷ more) where
+  pub entry-more : part_fault m this (value_in t x.value) ≡ None → entry_fault m this next (listed t rest) ≡ entry_fault m next this (listed t more)
   entry-more fit = rw (steps, fit) refl
 
-  pub entry-stop : fits this (value_in t x.value) ≡ false → entry_fault m this next (listed t rest) ≡ Some (wrong_item_kind m this (value_in t x.value))
-  entry-stop wrong = rw (steps, wrong) refl
+  pub entry-stop : (f : Fault) → part_fault m this (value_in t x.value) ≡ Some f → entry_fault m this next (listed t rest) ≡ Some f
+  entry-stop f wrong = rw (steps, wrong) refl
 
-pub entry-end : (t : Table) (m : Schema) (this next : ShapeType) (rest : List OneWrite) → rest ≡ [] → entry_fault m this next (listed t rest) ≡ None
+pub entry-end : (t : Table) (m : Schema) (this next : Option Schema) (rest : List OneWrite) → rest ≡ [] → entry_fault m this next (listed t rest) ≡ None
 entry-end t m this next rest none = rw none refl
+
+-- a part of another kind, or one whose elements decide
+pub part-wrong : (m : Schema) (here : Option Schema) (v : Value) → fits (kind_or_none here) v ≡ false → part_fault m here v ≡ Some (wrong_item_kind m (kind_or_none here) v)
+part-wrong m here v wrong = rw wrong refl
+
+pub part-fits : (m : Schema) (here : Option Schema) (v : Value) → fits (kind_or_none here) v ≡ true → part_fault m here v ≡ nested_fault m here v
+part-fits m here v fit = rw fit refl
 
 -- keys and values in turn end with a value where there are as many of them
 pub ends-even : (ws : Writes) → (length (list_of ws) % 2 == 0) ≡ ends_with_value ws
@@ -56,112 +54,53 @@ map-key m ws f e k = rw (e, k) refl
 pub map-whole : (m : Schema) (ws : Writes) → item_fault m (value.map ws) ≡ None → ends_with_value ws ≡ true → value_fault m (value.map ws) ≡ None
 map-whole m ws e k = rw (e, k) refl
 
--- a value that fits a text node is a text
-
-string_from_test : (k : ShapeType) → same_kind k kind.String ≡ true → k ≡ kind.String
-string_from_test kind.String e = refl
-string_from_test _ e = absurd (cc e)
-
-plain-kind : (s : Option Schema) → is_plain_string s ≡ true → kind_or_none s ≡ kind.String
-plain-kind None e = absurd (cc e)
-plain-kind (Some s) e = string_from_test s.node.kind (and_parts (same_kind s.node.kind kind.String) _ e).0
-
-fits-text : (v : Value) → fits kind.String v ≡ true → is_text v ≡ true
-fits-text (scalar (text t)) e = refl
-fits-text (scalar (value.whole value.byte z)) e = absurd (cc e)
-fits-text (scalar (value.whole value.short z)) e = absurd (cc e)
-fits-text (scalar (value.whole value.integer z)) e = absurd (cc e)
-fits-text (scalar (value.whole value.long z)) e = absurd (cc e)
-fits-text _ e = absurd (cc e)
-
-texts-of-kinds : (m : Schema) (ws : Writes) → entry_fault m kind.String kind.String ws ≡ None → are_texts ws ≡ true
-texts-of-kinds m no_writes e = refl
-texts-of-kinds m (write l v ws) e = go (λ rest. texts-of-kinds m ws rest) (fits kind.String v) refl e
-  where
-    go : (entry_fault m kind.String kind.String ws ≡ None → are_texts ws ≡ true) → (b : Bool) → fits kind.String v ≡ b → entry_fault m kind.String kind.String (write l v ws) ≡ None
-        → are_texts (write l v ws) ≡ true
-    go later true fit e = rw (fits-text v fit) (later (rw fit at e))
-    go later false fit e = let q : Some (wrong_item_kind m kind.String v) ≡ None = rw fit at e in absurd (cc q)
-
--- the items of a map of texts without a fault are texts
-pub whole-texts : (m : Schema) (ws : Writes) → is_text_map m ≡ true → value_fault m (value.map ws) ≡ None → are_texts ws ≡ true
-whole-texts m ws texts none = texts-of-kinds m ws (rw (key, val) at items)
-  where
-    kinds : (is_plain_string (key_of m) ≡ true) × (is_plain_string (value_of m) ≡ true)
-    kinds =
-        let parts = and_parts (same_kind m.node.kind kind.Map && is_plain_string (key_of m)) (is_plain_string (value_of m)) texts in
-        ((and_parts (same_kind m.node.kind kind.Map) (is_plain_string (key_of m)) parts.0).1, parts.1)
-
-    key : kind_or_none (key_of m) ≡ kind.String
-    key = plain-kind (key_of m) kinds.0
-
-    val : kind_or_none (value_of m) ≡ kind.String
-    val = plain-kind (value_of m) kinds.1
-
-    go : (o : Option Fault) (rest : Option Fault) → option_or o rest ≡ None → o ≡ None
-    go None rest e = refl
-    go (Some f) rest e = absurd (cc e)
-
-    items : entry_fault m (kind_or_none (key_of m)) (kind_or_none (value_of m)) ws ≡ None
-    items = go (item_fault m (value.map ws)) _ none
-
--- the keys and values of texts in turn; a last key without a value is left out
-abbrev pub text_pairs : Writes → List (List ℕ × List ℕ)
-text_pairs no_writes = []
-text_pairs (write k key no_writes) = []
-text_pairs (write k key (write l v ws)) = (text_of_key key, text_of_key v) ∷ text_pairs ws
-
-text-wire : (place : Place) (v : Value) → is_text v ≡ true → wire None false place v ≡ Some (text_of_key v)
-text-wire place (scalar (text t)) e = refl
-text-wire place _ e = absurd (cc e)
-
-pub texts-pairs : (place : Place) (ws : Writes) → are_texts ws ≡ true → entry_texts place ws ≡ text_pairs ws
-texts-pairs place no_writes e = refl
-texts-pairs place (write k key no_writes) e = refl
-texts-pairs place (write k key (write l v ws)) e =
-    let first = and_parts (is_text key) (are_texts (write l v ws)) e in
-    let next = and_parts (is_text v) (are_texts ws) first.1 in
-    rw (text-wire place key first.0, text-wire place v next.0) (ap (λ ps. (text_of_key key, text_of_key v) ∷ ps) (texts-pairs place ws next.1))
-
-later-text : (k l : value.Label) (key v : Value) (ws : Writes) (n j : ℕ) → n ≡ suc (suc j) → text_at (write k key (write l v ws)) n ≡ text_at ws j
-later-text k l key v ws n j e = rw e refl
-
 -- the entry at a place
-pub pair-at : (ws : Writes) (i : ℕ) → 2 * i + 1 < length (list_of ws) → drop i (text_pairs ws) ≡ (text_at ws (2 * i), text_at ws (2 * i + 1)) ∷ drop (i + 1) (text_pairs ws)
-pair-at no_writes i low = absurd (omega (arith, low))
-pair-at (write k key no_writes) i low = absurd (omega (arith, low))
-pair-at (write k key (write l v ws)) zero low = refl
-pair-at (write k key (write l v ws)) (suc i) low =
-    let under : 2 * i + 1 < length (list_of ws) = omega (arith, low) in
-    let first : text_at (write k key (write l v ws)) (2 * suc i) ≡ text_at ws (2 * i) = later-text k l key v ws (2 * suc i) (2 * i) (omega arith) in
-    let second : text_at (write k key (write l v ws)) (2 * suc i + 1) ≡ text_at ws (2 * i + 1) = later-text k l key v ws (2 * suc i + 1) (2 * i + 1) (omega arith) in
+record EntryAt (ws : Writes) (i : ℕ) : Type 0 where
+  value : Write
+  at : slice_get (list_of ws) (2 * i + 1) ≡ Some value
+  here : drop i (entries_of ws) ≡ (text_at ws (2 * i), value.value) ∷ drop (i + 1) (entries_of ws)
+
+later-write : (k l : value.Label) (key v : Value) (ws : Writes) (n j : ℕ) → n ≡ suc (suc j) → slice_get (list_of (write k key (write l v ws))) n ≡ slice_get (list_of ws) j
+later-write k l key v ws n j e = rw e refl
+
+entry-at : (ws : Writes) (i : ℕ) → 2 * i + 1 < length (list_of ws) → EntryAt ws i
+entry-at no_writes i low = absurd (omega (arith, low))
+entry-at (write k key no_writes) i low = absurd (omega (arith, low))
+entry-at (write k key (write l v ws)) zero low = record { value = record { label = l; value = v }; at = refl; here = refl }
+entry-at (write k key (write l v ws)) (suc i) low =
+    let later = entry-at ws i (omega (arith, low)) in
+    let first = later-write k l key v ws (2 * suc i) (2 * i) (omega arith) in
     let next : suc i + 1 ≡ suc (i + 1) = omega arith in
-    rw (first, second, next) (pair-at ws i under)
+    record {
+      value = later.value;
+      at = later-write k l key v ws (2 * suc i + 1) (2 * i + 1) (omega arith) ∙ later.at;
+      here = rw next (later.here ∙ sym (ap (λ o. (option_map_or (λ w. text_of_key w.value) o [], later.value.value) ∷ drop (i + 1) (entries_of ws)) first));
+    }
 
-pub pairs-end : (ws : Writes) (i : ℕ) → length (list_of ws) < 2 * i + 2 → drop i (text_pairs ws) ≡ []
-pairs-end no_writes zero high = refl
-pairs-end no_writes (suc i) high = refl
-pairs-end (write k key no_writes) zero high = refl
-pairs-end (write k key no_writes) (suc i) high = refl
-pairs-end (write k key (write l v ws)) zero high = absurd (omega (arith, high))
-pairs-end (write k key (write l v ws)) (suc i) high = pairs-end ws i (omega (arith, high))
+entries-end : (ws : Writes) (i : ℕ) → length (list_of ws) < 2 * i + 2 → drop i (entries_of ws) ≡ []
+entries-end no_writes zero high = refl
+entries-end no_writes (suc i) high = refl
+entries-end (write k key no_writes) zero high = refl
+entries-end (write k key no_writes) (suc i) high = refl
+entries-end (write k key (write l v ws)) zero high = absurd (omega (arith, high))
+entries-end (write k key (write l v ws)) (suc i) high = entries-end ws i (omega (arith, high))
 
--- the headers of the entries from one on
-abbrev pub prefixed : List ℕ → List ℕ × List ℕ → List ℕ × List ℕ
-prefixed prefix e = (str_to_ascii_lowercase (prefix ++ e.0), e.1)
+-- the header of an entry, and those of the entries from one on
+abbrev pub header_of : List ℕ → List ℕ → List ℕ → List ℕ × List ℕ
+header_of prefix key v = (str_to_ascii_lowercase (prefix ++ key), v)
 
 abbrev pub headers_from : List ℕ → Writes → ℕ → List (List ℕ × List ℕ)
-headers_from prefix ws i = map (prefixed prefix) (drop i (text_pairs ws))
-
-pub headers-all : (m : Schema) (prefix : List ℕ) (ws : Writes) → are_texts ws ≡ true → headers_from prefix ws 0 ≡ inserted_at (to_prefix prefix) m (value.map ws)
-headers-all m prefix ws e = ap (map (prefixed prefix)) (sym (texts-pairs at.Header ws e))
+headers_from prefix ws i = map (λ e. header_of prefix e.0 (text_of_key e.1)) (drop i (entries_of ws))
 
 pub headers-at : (prefix : List ℕ) (ws : Writes) (i : ℕ) (key v : List ℕ) → 2 * i + 1 < length (list_of ws) → key ≡ text_at ws (2 * i) → v ≡ text_at ws (2 * i + 1)
-    → headers_from prefix ws i ≡ prefixed prefix (key, v) ∷ headers_from prefix ws (i + 1)
-headers-at prefix ws i key v low k e = rw (k, e) (ap (map (prefixed prefix)) (pair-at ws i low))
+    → headers_from prefix ws i ≡ header_of prefix key v ∷ headers_from prefix ws (i + 1)
+headers-at prefix ws i key v low k e =
+    let entry = entry-at ws i low in
+    let text : v ≡ text_of_key entry.value.value = e ∙ ap (λ o. option_map_or (λ w. text_of_key w.value) o []) entry.at in
+    ap (map (λ e. header_of prefix e.0 (text_of_key e.1))) entry.here ∙ sym (λ j. header_of prefix (k j) (text j) ∷ headers_from prefix ws (i + 1))
 
 pub headers-end : (prefix : List ℕ) (ws : Writes) (i : ℕ) → length (list_of ws) < 2 * i + 2 → headers_from prefix ws i ≡ []
-headers-end prefix ws i high = ap (map (prefixed prefix)) (pairs-end ws i high)
+headers-end prefix ws i high = ap (map (λ e. header_of prefix e.0 (text_of_key e.1))) (entries-end ws i high)
 
 pub pairs_fault-more : (m : Schema) (p : List ℕ × List ℕ) (ps : List (List ℕ × List ℕ)) → pairs_fault m (p ∷ []) ≡ None → pairs_fault m (p ∷ ps) ≡ pairs_fault m ps
 pairs_fault-more m p ps e = go (pair_fault m p) e
@@ -177,33 +116,50 @@ pairs_fault-stop m p ps f e = go (pair_fault m p) e
     go None e = absurd (cc e)
     go (Some g) e = e
 
--- the pairs from an entry on whose keys pass a test
+-- the pairs of the entries from one on whose keys do not pass a test
 abbrev pub kept_from : (List ℕ → Bool) → Writes → ℕ → List (List ℕ × List ℕ)
-kept_from test ws i = filter (λ e. not (test e.0)) (drop i (text_pairs ws))
+kept_from test ws i = flat_map entry_pairs (filter (λ e. not (test e.0)) (drop i (entries_of ws)))
 
-pub kept-all : (test : List ℕ → Bool) (names : List (List ℕ)) (m : Schema) (ws : Writes) → are_texts ws ≡ true → ((name : List ℕ) → test name ≡ is_one_of name names)
+pub kept-all : (test : List ℕ → Bool) (names : List (List ℕ)) (m : Schema) (ws : Writes) → ((name : List ℕ) → test name ≡ is_one_of name names)
     → kept_from test ws 0 ≡ pairs_at to_query_map names m (value.map ws)
-kept-all test names m ws e same = go (text_pairs ws) ∙ ap (filter (λ e. not (is_one_of e.0 names))) (sym (texts-pairs at.Query ws e))
+kept-all test names m ws same = ap (flat_map entry_pairs) (go (entries_of ws))
   where
-    go : (ps : List (List ℕ × List ℕ)) → filter (λ e. not (test e.0)) ps ≡ filter (λ e. not (is_one_of e.0 names)) ps
+    go : (es : List (List ℕ × Value)) → filter (λ e. not (test e.0)) es ≡ filter (has_key_outside names) es
     go [] = refl
-    go (p ∷ ps) = rw (same p.0, go ps) refl
+    go (e ∷ es) = rw (same e.0, go es) refl
 
-pub kept-at : (test : List ℕ → Bool) (ws : Writes) (i : ℕ) (key v : List ℕ) → 2 * i + 1 < length (list_of ws) → key ≡ text_at ws (2 * i) → v ≡ text_at ws (2 * i + 1)
-    → kept_from test ws i ≡ filter (λ e. not (test e.0)) ((key, v) ∷ drop (i + 1) (text_pairs ws))
-kept-at test ws i key v low k e = rw (k, e) (ap (filter (λ e. not (test e.0))) (pair-at ws i low))
+pub kept-at : (test : List ℕ → Bool) (ws : Writes) (i : ℕ) (key : List ℕ) → 2 * i + 1 < length (list_of ws) → key ≡ text_at ws (2 * i)
+    → kept_from test ws i ≡ (if test key then [] else pairs_at_place ws (2 * i + 1) key) ++ kept_from test ws (i + 1)
+kept-at test ws i key low k =
+    let entry = entry-at ws i low in
+    let rest = filter (λ e. not (test e.0)) (drop (i + 1) (entries_of ws)) in
+    ap (λ es. flat_map entry_pairs (filter (λ e. not (test e.0)) es)) entry.here
+    ∙ go (text_at ws (2 * i)) entry.value.value rest (test (text_at ws (2 * i)))
+    ∙ sym (ap (λ o. (if test (text_at ws (2 * i)) then [] else option_map_or (λ w. entry_pairs (text_at ws (2 * i), w.value)) o []) ++ flat_map entry_pairs rest) entry.at)
+    ∙ sym (ap (λ x. (if test x then [] else pairs_at_place ws (2 * i + 1) x) ++ flat_map entry_pairs rest) k)
+  where
+    go : (key : List ℕ) (v : Value) (rest : List (List ℕ × Value)) (b : Bool)
+        → flat_map entry_pairs (if not b then (key, v) ∷ rest else rest) ≡ (if b then [] else entry_pairs (key, v)) ++ flat_map entry_pairs rest
+    go key v rest true = refl
+    go key v rest false = refl
 
 pub kept-end : (test : List ℕ → Bool) (ws : Writes) (i : ℕ) → length (list_of ws) < 2 * i + 2 → kept_from test ws i ≡ []
-kept-end test ws i high = ap (filter (λ e. not (test e.0))) (pairs-end ws i high)
+kept-end test ws i high = ap (λ es. flat_map entry_pairs (filter (λ e. not (test e.0)) es)) (entries-end ws i high)
 
--- one more entry is in the query
-pub kept-push : (test : List ℕ → Bool) (old now : List ℕ) (p : List ℕ × List ℕ) (ps : List (List ℕ × List ℕ)) → now ≡ old ++ queries (filter (λ e. not (test e.0)) (p ∷ []))
-    → now ++ queries (filter (λ e. not (test e.0)) ps) ≡ old ++ queries (filter (λ e. not (test e.0)) (p ∷ ps))
-kept-push test old now p ps e = rw e (go (test p.0))
-  where
-    go : (b : Bool) → (old ++ queries (if not b then p ∷ [] else [])) ++ queries (filter (λ e. not (test e.0)) ps) ≡ old ++ queries (if not b then p ∷ filter (λ e. not (test e.0)) ps else filter (λ e. not (test e.0)) ps)
-    go true = rw (append-nil old) refl
-    go false = append_assoc old (38 ∷ (pair_text p ++ [])) (queries (filter (λ e. not (test e.0)) ps)) ∙ rw (append-nil (pair_text p)) refl
+-- some pairs are in the query, and some are to come
+pub pairs-push : (old now : List ℕ) (here rest : List (List ℕ × List ℕ)) → now ≡ old ++ queries here → now ++ queries rest ≡ old ++ queries (here ++ rest)
+pairs-push old now here rest e = ap (λ xs. xs ++ queries rest) e ∙ append_assoc old (queries here) (queries rest) ∙ ap (λ xs. old ++ xs) (sym (queries-append here rest))
+
+-- a text of an entry's list further
+pub texts-push : (t : Table) (old now key text : List ℕ) (x : OneWrite) (rest more : List OneWrite) → rest ≡ x ∷ more → text ≡ text_of_key (value_in t x.value) → now ≡ old ++ queries ((key, text) ∷ [])
+    → now ++ queries (entry_pairs (key, list (listed t more))) ≡ old ++ queries (entry_pairs (key, list (listed t rest)))
+texts-push t old now key text x rest more steps is put =
+    pairs-push old now ((key, text) ∷ []) (entry_pairs (key, list (listed t more))) put
+    ∙ ap (λ y. old ++ queries ((key, y) ∷ entry_pairs (key, list (listed t more)))) is
+    ∙ sym (ap (λ xs. old ++ queries (entry_pairs (key, list (listed t xs)))) steps)
+
+pub texts-end : (t : Table) (now key : List ℕ) (rest : List OneWrite) → rest ≡ [] → now ++ queries (entry_pairs (key, list (listed t rest))) ≡ now
+texts-end t now key rest none = ap (λ xs. now ++ queries (entry_pairs (key, list (listed t xs)))) none ∙ append-nil now
 
 -- the query names from a position on
 abbrev pub names_from : Schema → ℕ → List (List ℕ)

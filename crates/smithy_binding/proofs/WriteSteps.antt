@@ -1,7 +1,6 @@
 -- A list of writes, a write at a time.
-use Rattle.std.proofs.Common.{◌≡◌, refl, ap, ◌∙◌, subst, ℕ, zero, suc, ◌+◌, ◌≤◌, Bool, true, false, ◌&&◌, List, [], ◌∷◌, length, drop, filter_map, slice_get, slice_set, arith, Option, Some, None, option_and_then, Ok, Err, if◌then◌else◌}
+use Rattle.std.proofs.Common.{◌≡◌, refl, ap, ◌∙◌, subst, ℕ, zero, suc, ◌+◌, Bool, true, false, ◌&&◌, List, [], ◌∷◌, drop, filter_map, slice_get, slice_set, arith, Option, Some, None, option_and_then, Ok, Err, if◌then◌else◌}
 use Rattle.std.specs.List.{list_all, cons_option}
-use Rattle.std.proofs.Math.ListN.{drop_of_length-le}
 use Rattle.std.proofs.lemmas.Bool.{and_parts}
 use Rattle.smithy_schema.specs.Nodes.{Schema, Table, at_place, member_at, members_of, binding_of}
 use Rattle.smithy_serde.specs.StoredValues.{label_at, value_in, listed}

@@ -1,5 +1,5 @@
 -- The request of an input, or its first fault.
-use Rattle.std.specs.Prelude.{ℕ, List, Result, Ok, Err, Option}
+use Rattle.std.specs.Prelude.{ℕ, List, Result, Ok, Option}
 use Rattle.std.specs.Result.{result_ok}
 use Rattle.smithy_types.specs.Results.{then_give}
 use Rattle.smithy_schema.specs.Nodes.{Schema}

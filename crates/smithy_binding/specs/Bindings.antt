@@ -1,6 +1,6 @@
 -- What a bound write puts into labels, headers and the query (Smithy, HTTP protocol bindings).
-use Rattle.std.specs.Prelude.{ℕ, false, not, List, [], ◌∷◌, ◌++◌, map, filter, flat_map, filter_map, Option, Some, None, option_map, option_to_list, unwrap_or, is_some}
-use Rattle.std.specs.Option.{option_map_or, option_zip}
+use Rattle.std.specs.Prelude.{ℕ, Bool, false, not, List, [], ◌∷◌, ◌++◌, map, filter, flat_map, filter_map, Option, Some, option_map, unwrap_or, is_some}
+use Rattle.std.specs.Option.{option_map_or}
 use Rattle.std.specs.Str.{str_to_ascii_lowercase}
 use Rattle.smithy_types.specs.Texts.{is_one_of}
 use Rattle.smithy_types.specs.Results.{each}
@@ -8,7 +8,7 @@ use Rattle.smithy_ids.specs.declared.shape_type.ShapeType.{ShapeType}
 use Rattle.smithy_ids.specs.declared.shape_type.ShapeType.TheVariants as kind
 use Rattle.smithy_http.specs.Headers.{put_all}
 use Rattle.smithy_schema.specs.Nodes.{Schema, element_of, members_of, name_of, Binding, to_header, to_prefix, to_query, to_query_map, to_label, binding_of}
-use Rattle.smithy_serde.specs.Values.{Value, list, Writes, no_writes, write, Write, list_of}
+use Rattle.smithy_serde.specs.Values.{Value, list, Writes, no_writes, write, Write, list_of, text_of_key}
 use Rattle.smithy_serde.specs.Values as value
 use Rattle.smithy_serde.specs.Writes.{Resolved, firsts}
 use Rattle.smithy_strings.specs.declared.wire.Place.{Place}
@@ -39,17 +39,22 @@ member_text place m v = wire m.node.traits.timestamp_format (is_some m.node.trai
 abbrev pub element_text : Place → Write → Option (List ℕ)
 element_text place w = wire w.label.time_format false place w.value
 
--- the texts of the entries, key and value, in the order of the writes
-abbrev pub entry_texts : Place → Writes → List (List ℕ × List ℕ)
-entry_texts place no_writes = []
-entry_texts place (write k key no_writes) = []
-entry_texts place (write k key (write l v ws)) =
-    option_to_list (option_zip (wire None false place key) (wire None false place v)) ++ entry_texts place ws
+-- keys with their values, in the order of the writes; a last key without a value is left out
+abbrev pub entries_of : Writes → List (List ℕ × Value)
+entries_of no_writes = []
+entries_of (write k key no_writes) = []
+entries_of (write k key (write l v ws)) = (text_of_key key, v) ∷ entries_of ws
 
--- the entries of a map, and of no other value
-abbrev pub map_texts : Place → Value → List (List ℕ × List ℕ)
-map_texts place (value.map ws) = entry_texts place ws
-map_texts place _ = []
+-- the entries of a map, and of no other value; its keys are texts
+abbrev pub map_entries : Value → List (List ℕ × Value)
+map_entries (value.map ws) = entries_of ws
+map_entries _ = []
+
+-- The texts of an entry: of each element of a list, or the value itself. An entry holds texts alone, which stand as
+-- they are.
+abbrev pub entry_texts : Value → List (List ℕ)
+entry_texts (list ws) = map (λ w. text_of_key w.value) (list_of ws)
+entry_texts v = text_of_key v ∷ []
 
 -- The texts of a value at its member's place: one of a scalar, one for each element of a list. There are none at all where one of them is missing.
 abbrev pub texts : Schema → Value → Option (List (List ℕ))
@@ -69,7 +74,7 @@ pairs_with name ts = map (λ t. (name, t)) ts
 -- The pairs of lower-case name and value of a header or prefix write (httpHeader, httpPrefixHeaders).
 abbrev pub inserted_at : Binding → Schema → Value → List (List ℕ × List ℕ)
 inserted_at (to_header name) m v = pairs_with (str_to_ascii_lowercase name) (option_map_or (header_texts m v) (texts m v) [])
-inserted_at (to_prefix prefix) m v = map (λ e. (str_to_ascii_lowercase (prefix ++ e.0), e.1)) (map_texts Header v)
+inserted_at (to_prefix prefix) m v = map (λ e. (str_to_ascii_lowercase (prefix ++ e.0), text_of_key e.1)) (map_entries v)
 inserted_at _ m v = []
 
 -- the pairs that a write gives to the headers
@@ -84,10 +89,19 @@ headers schema ws = put_all [] (flat_map inserted (firsts schema ws))
 abbrev pub query_names : Schema → List (List ℕ)
 query_names schema = filter_map (λ m. m.node.traits.http_query) (members_of schema)
 
--- The pairs of a query write. A key of the query map that is one of these names, those of the query members, is left out (httpQuery, httpQueryParams).
+-- the key of an entry is none of these names
+abbrev pub has_key_outside : List (List ℕ) → List ℕ × Value → Bool
+has_key_outside names e = not (is_one_of e.0 names)
+
+-- each text of an entry under its key
+abbrev pub entry_pairs : List ℕ × Value → List (List ℕ × List ℕ)
+entry_pairs e = pairs_with e.0 (entry_texts e.1)
+
+-- The pairs of a query write. An entry of the query map whose key is one of these names, those of the query members, is
+-- left out (httpQuery, httpQueryParams).
 abbrev pub pairs_at : Binding → List (List ℕ) → Schema → Value → List (List ℕ × List ℕ)
 pairs_at (to_query name) names m v = pairs_with name (unwrap_or (texts m v) [])
-pairs_at to_query_map names m v = filter (λ e. not (is_one_of e.0 names)) (map_texts Query v)
+pairs_at to_query_map names m v = flat_map entry_pairs (filter (has_key_outside names) (map_entries v))
 pairs_at _ names m v = []
 
 -- the pairs that a write gives to the query

@@ -1,5 +1,5 @@
 -- What a request's body is (Smithy, HTTP protocol bindings, httpPayload; unbound members are the document of the body).
-use Rattle.std.specs.Prelude.{ℕ, Bool, true, false, not, List, [], find, Option, Some, None, option_map, option_and_then, unwrap_or}
+use Rattle.std.specs.Prelude.{ℕ, Bool, true, false, not, List, [], find, Option, Some, None, option_map, option_and_then, unwrap_or, if◌then◌else◌}
 use Rattle.std.specs.List.{list_any}
 use Rattle.smithy_types.specs.Documents.{Document}
 use Rattle.smithy_ids.specs.declared.shape_type.ShapeType.{ShapeType}
@@ -24,6 +24,21 @@ payload_kind schema = option_map (λ m. m.node.kind) (find (λ m. is_payload (bi
 abbrev pub has_unbound_member : Schema → Bool
 has_unbound_member schema = list_any (λ m. not (is_bound m)) (members_of schema)
 
+-- the kinds of a payload whose bytes are the body (httpPayload)
+abbrev pub is_raw_kind : ShapeType → Bool
+is_raw_kind kind.Blob = true
+is_raw_kind kind.String = true
+is_raw_kind _ = false
+
+-- the kinds of a payload whose document is the root of the body (httpPayload)
+abbrev pub is_codec_kind : ShapeType → Bool
+is_codec_kind kind.Structure = true
+is_codec_kind kind.Union = true
+is_codec_kind kind.List = true
+is_codec_kind kind.Map = true
+is_codec_kind kind.Document = true
+is_codec_kind _ = false
+
 -- without a payload the unbound members are the body, where there are some
 abbrev pub unbound_form : Bool → BodyForm
 unbound_form true = form.Unbound
@@ -31,11 +46,9 @@ unbound_form false = form.Nothing
 
 -- the form for a payload of this kind, if there is one, and beside it an unbound member or none
 abbrev pub form_at : Option ShapeType → Bool → BodyForm
-form_at (Some kind.Blob) has_unbound = form.Raw
-form_at (Some kind.String) has_unbound = form.Raw
-form_at (Some kind.Structure) has_unbound = form.Payload
-form_at (Some kind.Union) has_unbound = form.Payload
-form_at _ has_unbound = unbound_form has_unbound
+form_at None has_unbound = unbound_form has_unbound
+form_at (Some k) has_unbound =
+    if is_raw_kind k then form.Raw else if is_codec_kind k then form.Payload else unbound_form has_unbound
 
 -- the form of a schema's bodies
 abbrev pub form_in : Schema → BodyForm
@@ -90,6 +103,7 @@ pub record Body : Type 0 where
   pub bytes : List ℕ
   pub form : BodyForm
 
--- The bytes of a Blob or String payload; or the text of the document of a structure payload, empty without one; or that of the object of the unbound writes; or nothing.
+-- The bytes of a Blob or String payload; or the text of the document of a payload of another kind, empty without one;
+-- or that of the object of the unbound writes; or nothing.
 unfoldable pub body : (Document → List ℕ) → Schema → List Write → Body
 body text_of schema ws = record { bytes = bytes_by (form_in schema) text_of (body_parts schema ws); form = form_in schema }

@@ -1,6 +1,6 @@
 -- Schemas that a request can be placed by (Smithy, HTTP protocol bindings: where each trait may stand, and beside which).
 use denote.Enum.Declared.{tag_of}
-use Rattle.std.specs.Prelude.{◌≡◌, ℕ, ◌+◌, nat_eq, nat_le, Bool, true, false, not, ◌&&◌, ◌||◌, ◌==◌, codes, List, length, map, filter, filter_map, Option, Some, None, is_some, is_none, IsTrue, All}
+use Rattle.std.specs.Prelude.{◌≡◌, ℕ, ◌+◌, nat_eq, nat_le, Bool, true, false, not, ◌&&◌, ◌||◌, ◌==◌, codes, List, length, map, filter, filter_map, Option, is_some, is_none, IsTrue, All}
 use Rattle.std.specs.List.{list_all, list_any, starts_with}
 use Rattle.std.specs.Option.{option_eq, option_map_or}
 use Rattle.std.specs.Str.{str_to_ascii_lowercase}
@@ -16,7 +16,7 @@ use Rattle.smithy_ids.specs.Kinds.{same_kind, is_scalar, is_unwritable, is_struc
 use Rattle.smithy_schema.specs.Nodes.{Schema, Traits, at_place, cites_nodes, members_of, element_of, key_of, value_of}
 use Rattle.smithy_binding.specs.Clear.{is_clear}
 use Rattle.smithy_binding.specs.Bindings.{query_names}
-use Rattle.smithy_binding.specs.Bodies.{payload_kind, has_unbound_member}
+use Rattle.smithy_binding.specs.Bodies.{payload_kind, has_unbound_member, is_raw_kind, is_codec_kind}
 
 -- every node that the schema or a member cites is defined
 abbrev pub has_cited_nodes : Schema → Bool
@@ -100,7 +100,7 @@ has_at_most_one test schema = nat_le (length (members_with test schema)) 1
 
 -- the kinds of a payload (httpPayload)
 abbrev pub is_payload_kind : ShapeType → Bool
-is_payload_kind k = same_kind k kind.Blob || same_kind k kind.String || is_structure_or_union k
+is_payload_kind k = is_raw_kind k || is_codec_kind k
 
 -- a payload, if there is one, has such a kind, and no member is unbound beside it
 abbrev pub is_sound_payload : Option ShapeType → Bool → Bool
@@ -115,16 +115,28 @@ has_sound_payload schema =
 abbrev pub is_plain_string : Option Schema → Bool
 is_plain_string node = option_map_or (λ s. same_kind s.node.kind kind.String && is_none s.node.traits.media_type) node false
 
+-- a list of plain Strings without a media type stands there
+abbrev pub is_plain_list : Option Schema → Bool
+is_plain_list node =
+    option_map_or (λ s. same_kind s.node.kind kind.List && is_none s.node.traits.media_type && is_plain_string (element_of s)) node false
+
 -- a map from plain Strings to plain Strings
 abbrev pub is_text_map : Schema → Bool
 is_text_map m = same_kind m.node.kind kind.Map && is_plain_string (key_of m) && is_plain_string (value_of m)
 
--- at most one prefix map and one query map, from texts to texts (httpPrefixHeaders, httpQueryParams)
+-- a map from plain Strings to plain Strings or to lists of these
+abbrev pub is_query_map : Schema → Bool
+is_query_map m =
+    same_kind m.node.kind kind.Map && is_plain_string (key_of m) && (is_plain_string (value_of m) || is_plain_list (value_of m))
+
+-- At most one prefix map, from texts to texts, and one query map, from texts to texts or to lists of texts
+-- (httpPrefixHeaders, httpQueryParams).
 abbrev pub has_sound_maps : Schema → Bool
 has_sound_maps schema =
     has_at_most_one (λ t. is_some t.http_prefix_headers) schema
     && has_at_most_one (λ t. t.http_query_params) schema
-    && list_all is_text_map (members_with (λ t. is_some t.http_prefix_headers || t.http_query_params) schema)
+    && list_all is_text_map (members_with (λ t. is_some t.http_prefix_headers) schema)
+    && list_all is_query_map (members_with (λ t. t.http_query_params) schema)
 
 -- the names of the header members in lower case; header names have no case (RFC 7230, section 3.2)
 abbrev pub lower_header_names : Schema → List (List ℕ)
@@ -166,9 +178,17 @@ abbrev pub has_sound_http : Schema → Bool
 has_sound_http schema =
     option_map_or (λ h. is_token h.method && is_clear h.uri schema && starts_with nat_eq h.uri (codes "/")) schema.node.traits.http true
 
--- a map in the headers or the query is one from texts to texts (httpPrefixHeaders, httpQueryParams)
+-- a prefix map is one from texts to texts (httpPrefixHeaders)
+abbrev pub has_prefix_kind : Schema → Bool
+has_prefix_kind m = not (is_some m.node.traits.http_prefix_headers) || is_text_map m
+
+-- a query map is one from texts to texts or to lists of these (httpQueryParams)
+abbrev pub has_query_map_kind : Schema → Bool
+has_query_map_kind m = not m.node.traits.http_query_params || is_query_map m
+
+-- so a map has a kind of its binding
 abbrev pub has_map_kind : Schema → Bool
-has_map_kind m = not (is_some m.node.traits.http_prefix_headers || m.node.traits.http_query_params) || is_text_map m
+has_map_kind m = has_prefix_kind m && has_query_map_kind m
 
 -- what is asked of each member
 abbrev pub is_sound_member : Schema → Bool

@@ -6,7 +6,7 @@ use Rattle.smithy_ids.specs.declared.shape_type.ShapeType.{ShapeType}
 use Rattle.smithy_ids.specs.declared.shape_type.ShapeType.TheVariants as kind
 use Rattle.smithy_ids.specs.Kinds.{same_kind}
 use Rattle.smithy_schema.specs.Nodes.{Schema, Traits, cites_nodes, members_of, is_response_bound}
-use Rattle.smithy_binding.specs.Checked.{has_cited_nodes, has_named_members, member_names, one_if, is_writable, has_header_kind, is_element_plain, members_with, has_at_most_one, is_sound_payload, is_text_map, has_sound_headers}
+use Rattle.smithy_binding.specs.Checked.{has_cited_nodes, has_named_members, member_names, one_if, is_writable, has_header_kind, is_element_plain, members_with, has_at_most_one, is_sound_payload, is_text_map, has_prefix_kind, has_sound_headers}
 
 -- how many of the four response bindings a node has (httpHeader, httpPrefixHeaders, httpResponseCode, httpPayload)
 abbrev pub response_binding_count : Traits → ℕ
@@ -44,10 +44,6 @@ abbrev pub has_sound_response_code : Schema → Bool
 has_sound_response_code schema =
     has_at_most_one (λ t. t.http_response_code) schema
     && list_all (λ m. same_kind m.node.kind kind.Integer) (members_with (λ t. t.http_response_code) schema)
-
--- a prefix map is one from texts to texts (httpPrefixHeaders)
-abbrev pub has_prefix_kind : Schema → Bool
-has_prefix_kind m = not (is_some m.node.traits.http_prefix_headers) || is_text_map m
 
 -- a response code is an Integer (httpResponseCode)
 abbrev pub has_code_kind : Schema → Bool

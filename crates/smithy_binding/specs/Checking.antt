@@ -7,7 +7,6 @@ use Rattle.std.specs.Option.{option_map_or}
 use Rattle.smithy_types.specs.Grammars.{is_token, is_legal_target}
 use Rattle.smithy_types.specs.Texts.{are_distinct}
 use Rattle.smithy_ids.specs.declared.shape_type.ShapeType.{ShapeType}
-use Rattle.smithy_ids.specs.declared.shape_type.ShapeType.TheVariants as kind
 use Rattle.smithy_ids.specs.Kinds.{is_structure_or_union}
 use Rattle.smithy_schema.specs.Nodes.{Schema, Traits, is_bound, is_response_bound, binding_of}
 use Rattle.smithy_schema.specs.Templates.{pieces, holes_of, has_unclosed_brace}
@@ -34,10 +33,6 @@ counted_test counted.Prefix t = is_some t.http_prefix_headers
 counted_test counted.QueryMap t = t.http_query_params
 counted_test counted.Label t = t.http_label
 counted_test counted.ResponseCode t = t.http_response_code
-
--- a prefix map or a query map
-abbrev pub is_map_binding : Traits → Bool
-is_map_binding t = is_some t.http_prefix_headers || t.http_query_params
 
 -- what is asked of each member
 abbrev pub is_sound_in : Direction → Schema → Bool

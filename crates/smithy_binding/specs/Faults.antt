@@ -35,7 +35,7 @@ no_member l = unknown_member (unwrap_or l.member_name l.full_name)
 abbrev pub wrong_kind : Schema → Value → Fault
 wrong_kind m v = unsupported (message (codes "cannot write " ∷ written_word v ∷ codes " to member " ∷ name_of m ∷ codes " of type " ∷ kind_word m.node.kind ∷ []))
 
--- a part is not of the kind of the member's element, key or value node, which the text names
+-- a part is not of the kind of its own node, an element, key or value node, which the text names
 abbrev pub wrong_item_kind : Schema → ShapeType → Value → Fault
 wrong_item_kind m item v = unsupported (message (codes "cannot write " ∷ written_word v ∷ codes " to an element of member " ∷ name_of m ∷ codes " of type " ∷ kind_word item ∷ []))
 
@@ -44,15 +44,25 @@ abbrev pub element_fault : Schema → ShapeType → Writes → Option Fault
 element_fault m element no_writes = None
 element_fault m element (write l v ws) = option_or (unless (fits element v) (wrong_item_kind m element v)) (element_fault m element ws)
 
--- the first key or value that is not of its kind
-abbrev pub entry_fault : Schema → ShapeType → ShapeType → Writes → Option Fault
-entry_fault m this next no_writes = None
-entry_fault m this next (write l v ws) = option_or (unless (fits this v) (wrong_item_kind m this v)) (entry_fault m next this ws)
+-- the first element of an entry's list that is not of its kind
+abbrev pub nested_fault : Schema → Option Schema → Value → Option Fault
+nested_fault m here (list ws) = element_fault m (kind_or_none (option_and_then element_of here)) ws
+nested_fault m here _ = None
 
--- the first element, key or value that is not of its kind
+-- a key or a value that is not of the kind of its node, or else an element of it
+abbrev pub part_fault : Schema → Option Schema → Value → Option Fault
+part_fault m here v =
+    option_or (unless (fits (kind_or_none here) v) (wrong_item_kind m (kind_or_none here) v)) (nested_fault m here v)
+
+-- the first such of keys and values in turn
+abbrev pub entry_fault : Schema → Option Schema → Option Schema → Writes → Option Fault
+entry_fault m this next no_writes = None
+entry_fault m this next (write l v ws) = option_or (part_fault m this v) (entry_fault m next this ws)
+
+-- the first element, key, value or element of an entry's list that is not of its kind
 abbrev pub item_fault : Schema → Value → Option Fault
 item_fault m (list ws) = element_fault m (kind_or_none (element_of m)) ws
-item_fault m (value.map ws) = entry_fault m (kind_or_none (key_of m)) (kind_or_none (value_of m)) ws
+item_fault m (value.map ws) = entry_fault m (key_of m) (value_of m) ws
 item_fault m _ = None
 
 -- keys and values in turn end with a value

@@ -1,27 +1,21 @@
 -- The normal form of an input: what a request tells of it.
-use Rattle.std.specs.Prelude.{ℕ, Bool, true, false, not, List, [], ◌∷◌, filter, filter_map, map, Option, Some, None, option_map, option_and_then, if◌then◌else◌}
+use Rattle.std.specs.Prelude.{ℕ, Bool, true, false, not, ◌&&◌, List, [], filter, filter_map, map, Option, Some, None, option_map, option_and_then, if◌then◌else◌}
 use Rattle.std.specs.List.{enumerate_from, last_or}
 use Rattle.std.specs.Str.{str_to_ascii_lowercase}
-use Rattle.smithy_types.specs.Texts.{is_one_of}
 use Rattle.smithy_ids.specs.declared.shape_type.ShapeType.TheVariants as kind
-use Rattle.smithy_ids.specs.Kinds.{same_kind, is_structure_or_union}
-use Rattle.smithy_schema.specs.Nodes.{Schema, element_of, members_of, Binding, to_header, to_prefix, to_query, to_query_map, to_payload, binding_of, is_bound}
-use Rattle.smithy_serde.specs.Values.{Value, scalar, text, blob, list, Writes, no_writes, write, Write, label_of, text_of_key}
+use Rattle.smithy_ids.specs.Kinds.{same_kind}
+use Rattle.smithy_schema.specs.Nodes.{Schema, element_of, value_of, members_of, Binding, to_header, to_prefix, to_query, to_query_map, to_payload, binding_of, is_bound}
+use Rattle.smithy_serde.specs.Values.{Value, scalar, text, blob, list, no_writes, Write, label_of}
 use Rattle.smithy_serde.specs.Values as value
 use Rattle.smithy_serde.specs.Writes.{Resolved, all_resolved, first, is_of}
-use Rattle.smithy_serde.specs.NormalBody.{in_key_order, map_value, settled, settled_elements}
-use Rattle.smithy_binding.specs.Bindings.{query_names}
+use Rattle.smithy_serde.specs.NormalBody.{in_key_order, map_value, settled, settled_elements, settled_entries}
+use Rattle.smithy_binding.specs.Bindings.{query_names, has_key_outside}
+use Rattle.smithy_binding.specs.Bodies.{is_codec_kind}
 
--- the keys and values of a map's writes
-abbrev pub entries_of : Writes → List (List ℕ × Value)
-entries_of no_writes = []
-entries_of (write k key no_writes) = []
-entries_of (write k key (write l v ws)) = (text_of_key key, v) ∷ entries_of ws
-
--- the entries of a map, and none of another value
-abbrev pub map_entries : Value → List (List ℕ × Value)
-map_entries (value.map ws) = entries_of ws
-map_entries _ = []
+-- the entries of a map, over the schema's own nodes
+abbrev pub own_entries : Schema → Value → List (List ℕ × Value)
+own_entries m (value.map ws) = settled_entries (value_of m) ws
+own_entries m _ = []
 
 -- the keys in lower case, as header names stand in a request
 abbrev pub in_lower_case : List (List ℕ × Value) → List (List ℕ × Value)
@@ -39,28 +33,27 @@ is_empty_value _ = false
 abbrev pub unless_empty : Value → Option Value
 unless_empty v = if is_empty_value v then None else Some v
 
--- a list of one element with an empty text has the header value of the empty list: an empty text or no bytes
-abbrev pub header_list : Value → Value
-header_list (list (write l (scalar (text [])) no_writes)) = list no_writes
-header_list (list (write l (scalar (blob [])) no_writes)) = list no_writes
-header_list v = v
-
 -- a list with the labels of the schema's element node
 abbrev pub with_own_elements : Schema → Value → Value
 with_own_elements m (list ws) = list (settled_elements (element_of m) ws)
 with_own_elements m v = v
 
--- the entry's key is none of these names
-abbrev pub has_key_outside : List (List ℕ) → List ℕ × Value → Bool
-has_key_outside names e = not (is_one_of e.0 names)
+-- a list without elements
+abbrev pub is_empty_list : Value → Bool
+is_empty_list (list no_writes) = true
+is_empty_list _ = false
+
+-- the entry leaves a pair in the query, beside query members of these names
+abbrev pub has_pairs : List (List ℕ) → List ℕ × Value → Bool
+has_pairs names e = has_key_outside names e && not (is_empty_list e.1)
 
 -- what is left of the value of a bound member, beside query members of these names
 abbrev pub bound_view_at : Binding → List (List ℕ) → Schema → Value → Option Value
-bound_view_at (to_header name) names m v = Some (header_list (with_own_elements m v))
-bound_view_at (to_prefix prefix) names m v = unless_empty (map_value (Some m) (in_key_order (in_lower_case (map_entries v))))
+bound_view_at (to_header name) names m v = Some (with_own_elements m v)
+bound_view_at (to_prefix prefix) names m v = unless_empty (map_value (Some m) (in_key_order (in_lower_case (own_entries m v))))
 bound_view_at (to_query name) names m v = if same_kind m.node.kind kind.List then unless_empty (with_own_elements m v) else Some v
-bound_view_at to_query_map names m v = unless_empty (map_value (Some m) (filter (has_key_outside names) (in_key_order (map_entries v))))
-bound_view_at to_payload names m v = if is_structure_or_union m.node.kind then Some (settled (Some m) v) else unless_empty v
+bound_view_at to_query_map names m v = unless_empty (map_value (Some m) (filter (has_pairs names) (in_key_order (own_entries m v))))
+bound_view_at to_payload names m v = if is_codec_kind m.node.kind then Some (settled (Some m) v) else unless_empty v
 bound_view_at _ names m v = Some v
 
 -- the value of a bound member, or none where nothing of it is left

@@ -10,8 +10,8 @@ use Rattle.smithy_schema.specs.Templates.{pieces}
 use Rattle.smithy_serde.specs.Values.{Write}
 use Rattle.smithy_strings.specs.Escapes.{escape}
 use Rattle.smithy_binding.specs.Filling.{fill}
-use Rattle.smithy_binding.specs.Bindings.{headers, pairs, labels}
-use Rattle.smithy_binding.specs.Bodies.{Body, is_codec, body}
+use Rattle.smithy_binding.specs.Bindings.{pairs, labels}
+use Rattle.smithy_binding.specs.Bodies.{Body, is_codec}
 
 -- a protocol: the content type of its bodies, and the text of a document in its codec
 pub record Protocol : Type 0 where

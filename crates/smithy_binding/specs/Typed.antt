@@ -1,12 +1,11 @@
 -- Inputs that a request tells apart, up to their normal form.
-use Rattle.std.specs.Prelude.{◌≡◌, ℕ, nat_le, Bool, true, not, ◌&&◌, ◌||◌, ◌==◌, codes, List, [], ◌∷◌, filter, Option, Some, None, option_and_then, is_some, IsTrue}
+use Rattle.std.specs.Prelude.{◌≡◌, ℕ, nat_le, Bool, true, not, ◌&&◌, ◌||◌, codes, List, [], ◌∷◌, filter, Option, Some, None, option_and_then, is_some, IsTrue}
 use Rattle.std.specs.List.{list_all, AllByRecursion}
 use Rattle.std.specs.Option.{option_map_or}
 use Rattle.std.specs.Str.{str_to_ascii_lowercase}
 use Rattle.smithy_types.specs.Texts.{found, same_text, is_one_of, are_distinct}
 use Rattle.smithy_types.specs.Documents.{Document, nesting}
 use Rattle.smithy_ids.specs.declared.traits.TimestampFormat.{TimestampFormat}
-use Rattle.smithy_ids.specs.Kinds.{is_structure_or_union}
 use Rattle.smithy_schema.specs.Nodes.{Schema, element_of, members_of, Binding, to_header, binding_of, is_bound}
 use Rattle.smithy_serde.specs.Values.{Value, list, Writes, Write, list_of, keys_of}
 use Rattle.smithy_serde.specs.Values as value
@@ -16,9 +15,9 @@ use Rattle.smithy_serde.specs.DocumentOf.{doc_of}
 use Rattle.smithy_serde.specs.Shaped.{is_shaped}
 use Rattle.smithy_serde.specs.Writes.{Resolved, all_resolved, firsts}
 use Rattle.smithy_binding.specs.Bindings.{headers, inserted}
-use Rattle.smithy_binding.specs.Bodies.{Body, is_payload, body, document_value}
+use Rattle.smithy_binding.specs.Bodies.{Body, is_payload, is_codec_kind, body, document_value}
 use Rattle.smithy_binding.specs.Placing.{Protocol, Omit, adds_content_type, adds_content_length, template_of}
-use Rattle.smithy_binding.specs.Faults.{fault}
+use Rattle.smithy_binding.specs.Faults.{fault, is_placed_at}
 use Rattle.smithy_binding.specs.Clear.{is_clear}
 use Rattle.smithy_binding.specs.Checked.{same_format}
 
@@ -36,9 +35,10 @@ abbrev pub has_own_formats : Schema → Value → Bool
 has_own_formats m (list ws) = list_all (λ w. same_format w.label.time_format (element_format m)) (list_of ws)
 has_own_formats m _ = true
 
--- what is asked of the value of a bound member beside fitting
-abbrev pub is_bound_typed : Resolved → Bool
-is_bound_typed r = not (is_bound r.member) || (has_distinct_keys r.value && has_own_formats r.member r.value)
+-- what is asked of the value of a member in the target or the headers beside fitting
+abbrev pub is_placed_typed : Resolved → Bool
+is_placed_typed r =
+    not (is_placed_at (binding_of r.member)) || (has_distinct_keys r.value && has_own_formats r.member r.value)
 
 -- the value is shaped by its member's node
 abbrev pub is_shaped_write : Resolved → Bool
@@ -50,9 +50,9 @@ bodied schema ws = filter (λ r. not (is_bound r.member)) (all_resolved schema w
 
 -- a payload whose document is the body (httpPayload)
 abbrev pub is_codec_payload : Schema → Bool
-is_codec_payload m = is_payload (binding_of m) && is_structure_or_union m.node.kind
+is_codec_payload m = is_payload (binding_of m) && is_codec_kind m.node.kind
 
--- the first write of a payload of kind Structure or Union is shaped
+-- the first write of such a payload is shaped
 abbrev pub is_shaped_payload : Schema → List Write → Bool
 is_shaped_payload schema ws = list_all (λ r. not (is_codec_payload r.member) || is_shaped_write r) (firsts schema ws)
 
@@ -94,7 +94,7 @@ pub record IsTyped (protocol : Protocol) (schema : Schema) (endpoint : List ℕ)
   pub conforming : fault schema ws endpoint ≡ None
   pub unbound_shaped : AllByRecursion (λ r. IsTrue (is_shaped_write r)) (bodied schema ws)
   pub payload_shaped : IsTrue (is_shaped_payload schema ws)
-  pub bound_values : AllByRecursion (λ r. IsTrue (is_bound_typed r)) (firsts schema ws)
+  pub placed_values : AllByRecursion (λ r. IsTrue (is_placed_typed r)) (firsts schema ws)
   pub defaults : IsTrue (list_all (λ m. writes_default (body protocol.text_of schema ws) omit (headers schema ws) (binding_of m)) (members_of schema))
   pub prefixed : AllByRecursion (λ r. IsTrue (has_no_default_name (binding_of r.member) r)) (firsts schema ws)
   pub clear : IsTrue (has_clear_template schema endpoint)

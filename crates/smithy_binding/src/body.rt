@@ -77,7 +77,7 @@ fn raw_body(alloc: Global, payload: Option<BodyWrite<'_, '_>>) -> Result<Blob, O
     }
 }
 
-// The text of a structure payload, no bytes where it was not written.
+// The text of a payload's document, no bytes where it was not written.
 fn payload_body<S: FinishSerializer + Drop>(
     alloc: Global,
     serializer: S,
@@ -96,9 +96,9 @@ fn payload_body<S: FinishSerializer + Drop>(
     }
 }
 
-/// The body of these writes, by its form: the bytes of a text or blob payload, the serializer's text of a structure
-/// payload or of the structure of the unbound writes, or no bytes; of a payload that was not written, none. `Custom` for
-/// the first rule of documents that the document breaks. Takes memory (Smithy, HTTP protocol bindings, httpPayload).
+/// The body of these writes, by its form: the bytes of a text or blob payload, the serializer's text of the value of
+/// another payload or of the structure of the unbound writes, or no bytes; of a payload that was not written, none.
+/// `Custom` for the first rule of documents that the document breaks. Takes memory (Smithy, HTTP protocol bindings, httpPayload).
 pub fn request_body<S: FinishSerializer + Drop>(
     alloc: Global,
     serializer: S,

@@ -3,7 +3,7 @@ ghost use Rattle.std.specs.Prelude.{◌≡◌, Some, false, not};
 ghost use Rattle.std.specs.Option.{option_map_or};
 ghost use Rattle.smithy_schema.specs.Nodes.{member_at, is_bound};
 ghost use Rattle.smithy_schema.specs.References.{schema_of};
-ghost use Rattle.smithy_binding.specs.Bodies.{has_unbound_member as has_unbound, form_at, form_in, is_codec, unbound_form as form_without};
+ghost use Rattle.smithy_binding.specs.Bodies.{has_unbound_member as has_unbound, form_at, form_in, is_codec, is_raw_kind as raw_kind, is_codec_kind as codec_kind, unbound_form as form_without};
 ghost use Rattle.smithy_binding.specs.PayloadKinds.{kind_if_payload};
 
 use crate::binding::{has_unbound_members, member_count};
@@ -15,7 +15,7 @@ use smithy_schema::{Binding, SchemaRef};
 pub enum BodyForm {
     /// The bytes of a Blob or String payload.
     Raw,
-    /// The codec's text of a Structure or Union payload.
+    /// The codec's text of a payload of another kind.
     Payload,
     /// The codec's text of the structure of the unbound members.
     Unbound,
@@ -30,6 +30,27 @@ impl BodyForm {
     {
         matches!(self, BodyForm::Payload | BodyForm::Unbound)
     }
+}
+
+/// A Blob or a String: the kinds of a payload whose bytes are the body.
+pub fn is_raw_kind(kind: ShapeType) -> bool
+    ensures { result ≡ raw_kind kind }
+{
+    matches!(kind, ShapeType::Blob | ShapeType::String)
+}
+
+/// The kinds of a payload whose document is the root of the body.
+pub fn is_codec_kind(kind: ShapeType) -> bool
+    ensures { result ≡ codec_kind kind }
+{
+    matches!(
+        kind,
+        ShapeType::Structure
+            | ShapeType::Union
+            | ShapeType::List
+            | ShapeType::Map
+            | ShapeType::Document
+    )
 }
 
 // What a position of the members says of the body.
@@ -87,10 +108,12 @@ fn unbound_form(has_unbound: bool) -> BodyForm
 fn payload_form(schema: SchemaRef<'_>, kind: ShapeType) -> BodyForm
     ensures { result ≡ form_at (Some kind) (has_unbound (schema_of schema.entry)) }
 {
-    match kind {
-        ShapeType::Blob | ShapeType::String => BodyForm::Raw,
-        ShapeType::Structure | ShapeType::Union => BodyForm::Payload,
-        _ => unbound_form(has_unbound_members(schema)),
+    if is_raw_kind(kind) {
+        BodyForm::Raw
+    } else if is_codec_kind(kind) {
+        BodyForm::Payload
+    } else {
+        unbound_form(has_unbound_members(schema))
     }
 }
 

@@ -23,14 +23,21 @@ use smithy_strings::{Place, push_listed};
 use smithy_types::Text;
 use std::alloc::Global;
 
+/// The kind of a node, and where there is none the kind that no value has.
+pub fn kind_of(node: Option<SchemaRef<'_>>) -> ShapeType
+    ensures { result ≡ kind_or_none (option_map schema_of node.entry) }
+{
+    match node {
+        Some(node) => node.shape_type(),
+        None => ShapeType::Member,
+    }
+}
+
 /// The kind of the elements of a member, and where it has none the kind that no value has.
 pub fn element_kind(member: SchemaRef<'_>) -> ShapeType
     ensures { result ≡ kind_or_none (element_of (schema_of member.entry)) }
 {
-    match member.element() {
-        Some(element) => element.shape_type(),
-        None => ShapeType::Member,
-    }
+    kind_of(member.element())
 }
 
 /// Tests that each element of the member's list is of the kind. `UnsupportedOperation` for the first that is not.

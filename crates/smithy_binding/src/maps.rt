@@ -1,24 +1,24 @@
 // The entries of a map in the headers or the query (Smithy, HTTP protocol bindings, httpPrefixHeaders and httpQueryParams).
-ghost use Rattle.std.specs.Prelude.{◌≡◌, ◌∷◌, ◌++◌, [], ℕ, List, IsTrue, IfOk, IfErr, OnOk, None, Some, option_map, option_and_then, string_bytes};
+ghost use Rattle.std.specs.Prelude.{◌≡◌, ◌∷◌, ◌++◌, [], ℕ, List, IfOk, IfErr, OnOk, None, Some, option_map, option_and_then, string_bytes};
 ghost use Rattle.std.specs.Str.{str_to_ascii_lowercase};
 ghost use Rattle.smithy_types.specs.Texts.{is_one_of};
-ghost use Rattle.smithy_schema.specs.Nodes.{Schema, Table, member_at, to_prefix, to_query_map};
+ghost use Rattle.smithy_schema.specs.Nodes.{Schema, Table, element_of, member_at, to_prefix, to_query_map};
 ghost use Rattle.smithy_schema.specs.References.{schema_of};
 ghost use Rattle.smithy_serde.specs.StoredValues.{value_in, writes_in};
-ghost use Rattle.smithy_serde.specs.Values.{map, text_of_key};
+ghost use Rattle.smithy_serde.specs.Values.{list, map, text_of_key};
 ghost use Rattle.smithy_http.specs.Headers.{put_all};
-ghost use Rattle.smithy_binding.specs.Bindings.{kind_or_none, inserted_at, pairs_at, query_names as names_of_queries};
-ghost use Rattle.smithy_binding.specs.Entries.{are_texts, text_at as text_in, has_key, unnamed};
-ghost use Rattle.smithy_binding.specs.Faults.{item_fault, value_fault, pairs_fault, ends_with_value as ends_whole};
+ghost use Rattle.smithy_binding.specs.Bindings.{inserted_at, entry_pairs, pairs_at, query_names as names_of_queries};
+ghost use Rattle.smithy_binding.specs.Entries.{text_at as text_in, pairs_at_place, has_key, unnamed};
+ghost use Rattle.smithy_binding.specs.Faults.{nested_fault, part_fault, item_fault, value_fault, pairs_fault, ends_with_value as ends_whole};
 ghost use Rattle.smithy_binding.specs.Refusing.{TellsFault};
 ghost use Rattle.smithy_binding.specs.TargetParts.{queries};
 
 use crate::binding::member_count;
+use crate::elements::{kind_of, test_elements};
 use crate::member_header::put_header;
 use crate::refusal::{unmatched_key, wrong_item};
 use crate::target::push_pair;
 use smithy_http::Headers;
-use smithy_ids::ShapeType;
 use smithy_schema::{SchemaRef, Schemas};
 use smithy_serde::{SerdeError, ShapeValue, WriteList};
 use smithy_types::OutOfMemory;
@@ -28,17 +28,55 @@ use std::collections::BTreeMap;
 // The names of query members, each with the position of a member that has it.
 type QueryNames<'t> = BTreeMap<&'t str, usize>;
 
-fn kind_of(node: Option<SchemaRef<'_>>) -> ShapeType
-    ensures { result ≡ kind_or_none (option_map schema_of node.entry) }
+// The node of the elements of a node.
+fn element_node<'t>(node: Option<SchemaRef<'t>>) -> Option<SchemaRef<'t>>
+    ensures { option_map schema_of result ≡ option_and_then element_of (option_map schema_of node.entry) }
 {
-    match node {
-        Some(node) => node.shape_type(),
-        None => ShapeType::Member,
+    node?.element()
+}
+
+// Tests that each element is of the kind of its node, where the value is a list. `UnsupportedOperation` for the first
+// that is not.
+#[tactic(auto, unfolding(smithy_serde::specs::StoredValues::value_in))]
+fn test_nested(
+    alloc: Global,
+    table: &Schemas,
+    member: SchemaRef<'_>,
+    node: Option<SchemaRef<'_>>,
+    value: &ShapeValue,
+) -> Result<(), SerdeError>
+    ensures ok { OnOk result (nested_fault (schema_of member.entry) (option_map schema_of node.entry) (value_in table.now value.now) ≡ None) }
+    ensures err { IfErr result (λ e. TellsFault e (λ f. nested_fault (schema_of member.entry) (option_map schema_of node.entry) (value_in table.now value.now) ≡ Some f)) }
+{
+    match value {
+        ShapeValue::List(elements) => {
+            test_elements(alloc, table, member, kind_of(element_node(node)), elements)
+        }
+        _ => Ok(()),
     }
 }
 
-/// Tests that each key and value of the member's map is of the kind of its node. `UnsupportedOperation` for the first
-/// that is not.
+// Tests that a key or a value of the member's map is of the kind of its node, and each element of a list too.
+// `UnsupportedOperation` for the first that is not.
+fn test_part(
+    alloc: Global,
+    table: &Schemas,
+    member: SchemaRef<'_>,
+    node: Option<SchemaRef<'_>>,
+    value: &ShapeValue,
+) -> Result<(), SerdeError>
+    ensures ok { OnOk result (part_fault (schema_of member.entry) (option_map schema_of node.entry) (value_in table.now value.now) ≡ None) }
+    ensures err { IfErr result (λ e. TellsFault e (λ f. part_fault (schema_of member.entry) (option_map schema_of node.entry) (value_in table.now value.now) ≡ Some f)) }
+{
+    let kind = kind_of(node);
+    if !value.fits(kind) {
+        return Err(wrong_item(alloc, member, kind, value));
+    }
+    test_nested(alloc, table, member, node, value)
+}
+
+/// Tests that each key and value of the member's map is of the kind of its node, and each element of a list among the
+/// values too. `UnsupportedOperation` for the first that is not, in the order of the writes.
 pub fn test_entries(
     alloc: Global,
     table: &Schemas,
@@ -48,14 +86,12 @@ pub fn test_entries(
     ensures ok { OnOk result (item_fault (schema_of member.entry) (map (writes_in table.now entries.now)) ≡ None) }
     ensures err { IfErr result (λ e. TellsFault e (λ f. item_fault (schema_of member.entry) (map (writes_in table.now entries.now)) ≡ Some f)) }
 {
-    let mut kind = kind_of(member.key());
-    let mut next = kind_of(member.value());
+    let mut node = member.key();
+    let mut next = member.value();
     for (_, value) in entries.iter() {
-        if !value.fits(kind) {
-            return Err(wrong_item(alloc, member, kind, value));
-        }
-        let last = kind;
-        kind = next;
+        test_part(alloc, table, member, node, value)?;
+        let last = node;
+        node = next;
         next = last;
     }
     Ok(())
@@ -137,7 +173,6 @@ pub fn put_entries(
     prefix: &str,
     entries: &WriteList,
 ) -> Result<(), SerdeError>
-    requires { IsTrue (are_texts (writes_in table.now entries.now)) }
     ensures ok { OnOk result (pairs_fault (schema_of member.entry) (inserted_at (to_prefix prefix.now) (schema_of member.entry) (map (writes_in table.now entries.now))) ≡ None) }
     ensures put { OnOk result (headers.new ≡ put_all headers.old (inserted_at (to_prefix prefix.now) (schema_of member.entry) (map (writes_in table.now entries.now)))) }
     ensures err { IfErr result (λ e. TellsFault e (λ f. pairs_fault (schema_of member.entry) (inserted_at (to_prefix prefix.now) (schema_of member.entry) (map (writes_in table.now entries.now))) ≡ Some f)) }
@@ -184,38 +219,61 @@ fn is_named<'n>(names: &QueryNames<'n>, name: &'n str) -> bool
     names.get(&name).is_some()
 }
 
-// Adds a pair of an entry, unless its key is one of the names.
+// Adds a pair of the key and each text of a list.
+fn push_texts(query: &mut String, key: &str, texts: &WriteList) -> Result<(), OutOfMemory>
+    ensures { OnOk result ((t : Table) → string_bytes query.new ≡ string_bytes query.old ++ queries (entry_pairs (key.now, list (writes_in t texts.now)))) }
+{
+    for (_, text) in texts.iter() {
+        push_pair(query, key, text_or_empty(text))?;
+    }
+    Ok(())
+}
+
+// Adds the pairs of an entry.
+#[tactic(auto, unfolding(smithy_serde::specs::StoredValues::value_in))]
+fn push_value(query: &mut String, key: &str, value: &ShapeValue) -> Result<(), OutOfMemory>
+    ensures { OnOk result ((t : Table) → string_bytes query.new ≡ string_bytes query.old ++ queries (entry_pairs (key.now, value_in t value.now))) }
+{
+    match value {
+        ShapeValue::List(texts) => push_texts(query, key, texts),
+        _ => push_pair(query, key, text_or_empty(value)),
+    }
+}
+
+// Adds the pairs of the value at a place, unless its key is one of the names.
 fn push_entry<'n>(
     query: &mut String,
     names: &QueryNames<'n>,
     key: &'n str,
-    value: &str,
+    entries: &WriteList,
+    place: usize,
 ) -> Result<(), OutOfMemory>
-    ensures { OnOk result (string_bytes query.new ≡ string_bytes query.old ++ queries (unnamed names.now ((key.now, value.now) ∷ []))) }
+    ensures { OnOk result ((t : Table) → string_bytes query.new ≡ string_bytes query.old ++ queries (unnamed names.now key.now (pairs_at_place (writes_in t entries.now) place key.now))) }
 {
     if is_named(names, key) {
         return Ok(());
     }
-    push_pair(query, key, value)
+    match entries.write(place) {
+        Some((_node, value)) => push_value(query, key, value),
+        None => Ok(()),
+    }
 }
 
-/// Adds a pair of each entry whose key is no query name of the schema, whether that member is written or not (Smithy,
-/// HTTP protocol bindings, httpQueryParams). Takes memory, linear in the texts and in the number of members.
+/// Adds the pairs of each entry whose key is no query name of the schema, whether that member is written or not: one of
+/// a text, and one for each text of a list (Smithy, HTTP protocol bindings, httpQueryParams). Takes memory, linear in
+/// the texts and in the number of members.
 pub fn push_entries<'n>(
     alloc: Global,
-    table: &Schemas,
     schema: SchemaRef<'n>,
     query: &mut String,
     entries: &'n WriteList,
 ) -> Result<(), OutOfMemory>
-    requires { IsTrue (are_texts (writes_in table.now entries.now)) }
-    ensures { OnOk result ((m : Schema) → string_bytes query.new ≡ string_bytes query.old ++ queries (pairs_at to_query_map (names_of_queries (schema_of schema.entry)) m (map (writes_in table.now entries.now)))) }
+    ensures { OnOk result ((t : Table) (m : Schema) → string_bytes query.new ≡ string_bytes query.old ++ queries (pairs_at to_query_map (names_of_queries (schema_of schema.entry)) m (map (writes_in t entries.now)))) }
 {
     let names = query_names(alloc, schema)?;
     for place in 0..entries.len() / 2 {
         let key = text_at(entries, 2 * place);
-        let value = text_at(entries, 2 * place + 1);
-        push_entry(query, &names, key, value)?;
+        push_entry(query, &names, key, entries, 2 * place + 1)?;
     }
     Ok(())
 }

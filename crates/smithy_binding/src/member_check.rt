@@ -4,12 +4,13 @@ ghost use Rattle.smithy_ids.specs.Kinds.{same_kind, is_scalar as scalar, is_unwr
 ghost use Rattle.smithy_ids.specs.declared.shape_type.ShapeType.TheVariants as kind;
 ghost use Rattle.smithy_schema.specs.Nodes.{element_of, binding_of as binding};
 ghost use Rattle.smithy_schema.specs.References.{schema_of};
-ghost use Rattle.smithy_binding.specs.Checked.{one_if as one, is_bound_once as bound_once, is_header_kind as header_kind, has_label_kind as label_kind, has_query_kind as query_kind, has_header_kind as header_test, is_plain_element as plain_element, is_element_plain as element_plain, has_plain_elements as plain_elements, is_plain_string as plain_string, is_text_map as text_map, is_payload_kind as payload_test, is_sound_member as sound_request_member};
-ghost use Rattle.smithy_binding.specs.CheckedOutput.{is_response_bound_once as response_bound_once, has_plain_header_elements as plain_header_elements, has_prefix_kind as prefix_kind, has_code_kind as code_kind, is_sound_response_member as sound_response_member};
-ghost use Rattle.smithy_binding.specs.Checking.{is_map_binding as map_binding, is_sound_in, is_payload_in, is_bound_in as bound_in};
+ghost use Rattle.smithy_binding.specs.Checked.{one_if as one, is_bound_once as bound_once, is_header_kind as header_kind, has_label_kind as label_kind, has_query_kind as query_kind, has_header_kind as header_test, is_plain_element as plain_element, is_element_plain as element_plain, has_plain_elements as plain_elements, is_plain_string as plain_string, is_plain_list as plain_list, is_text_map as text_map, is_query_map as query_map, has_prefix_kind as prefix_kind, has_map_kind as map_kind, is_payload_kind as payload_test, is_sound_member as sound_request_member};
+ghost use Rattle.smithy_binding.specs.CheckedOutput.{is_response_bound_once as response_bound_once, has_plain_header_elements as plain_header_elements, has_code_kind as code_kind, is_sound_response_member as sound_response_member};
+ghost use Rattle.smithy_binding.specs.Checking.{is_sound_in, is_payload_in, is_bound_in as bound_in};
 ghost use Rattle.smithy_binding.specs.Bodies.{is_payload as payload};
 
 use crate::binding::is_bound;
+use crate::body_form::{is_codec_kind, is_raw_kind};
 use smithy_ids::ShapeType;
 use smithy_schema::{Binding, SchemaRef};
 use smithy_strings::format_in;
@@ -99,10 +100,7 @@ pub fn is_structure_or_union(kind: ShapeType) -> bool
 pub fn is_payload_kind(kind: ShapeType) -> bool
     ensures { result ≡ payload_test kind }
 {
-    match kind {
-        ShapeType::Blob | ShapeType::String => true,
-        _ => is_structure_or_union(kind),
-    }
+    is_raw_kind(kind) || is_codec_kind(kind)
 }
 
 // The elements, where the member is a list.
@@ -187,6 +185,19 @@ fn is_plain_string(node: Option<SchemaRef<'_>>) -> bool
     }
 }
 
+// A list of texts.
+fn is_plain_list(node: Option<SchemaRef<'_>>) -> bool
+    ensures { result ≡ plain_list (option_map schema_of node.entry) }
+{
+    match node {
+        Some(node) => match node.shape_type() {
+            ShapeType::List => node.media_type().is_none() && is_plain_string(node.element()),
+            _ => false,
+        },
+        None => false,
+    }
+}
+
 // A map from texts to texts.
 fn is_text_map(member: SchemaRef<'_>) -> bool
     ensures { result ≡ text_map (schema_of member.entry) }
@@ -197,10 +208,29 @@ fn is_text_map(member: SchemaRef<'_>) -> bool
     }
 }
 
-fn is_map_binding(member: SchemaRef<'_>) -> bool
-    ensures { result ≡ map_binding (schema_of member.entry).node.traits }
+// A map from texts to texts or to lists of these.
+fn is_query_map(member: SchemaRef<'_>) -> bool
+    ensures { result ≡ query_map (schema_of member.entry) }
 {
-    member.http_prefix_headers().is_some() || member.http_query_params().is_some()
+    match member.shape_type() {
+        ShapeType::Map => {
+            is_plain_string(member.key())
+                && (is_plain_string(member.value()) || is_plain_list(member.value()))
+        }
+        _ => false,
+    }
+}
+
+fn has_prefix_kind(member: SchemaRef<'_>) -> bool
+    ensures { result ≡ prefix_kind (schema_of member.entry) }
+{
+    member.http_prefix_headers().is_none() || is_text_map(member)
+}
+
+fn has_map_kind(member: SchemaRef<'_>) -> bool
+    ensures { result ≡ map_kind (schema_of member.entry) }
+{
+    has_prefix_kind(member) && (member.http_query_params().is_none() || is_query_map(member))
 }
 
 // What is asked of each member of an input.
@@ -214,13 +244,7 @@ fn is_sound_request_member(member: SchemaRef<'_>) -> bool
         && has_query_kind(member)
         && has_header_kind(member)
         && has_plain_elements(member)
-        && (!is_map_binding(member) || is_text_map(member))
-}
-
-fn has_prefix_kind(member: SchemaRef<'_>) -> bool
-    ensures { result ≡ prefix_kind (schema_of member.entry) }
-{
-    member.http_prefix_headers().is_none() || is_text_map(member)
+        && has_map_kind(member)
 }
 
 fn is_integer(member: SchemaRef<'_>) -> bool
@@ -249,8 +273,8 @@ fn is_sound_response_member(member: SchemaRef<'_>) -> bool
 }
 
 /// What is asked of each member: its nodes are defined, it has at most one binding, a kind that is written and
-/// that its binding takes, and plain elements in a header or the query; a map of headers or of the query is one from
-/// texts to texts, and a response code is an Integer.
+/// that its binding takes, and plain elements in a header or the query; a map of headers is one from texts to texts, a
+/// map of the query one from texts to texts or to lists of texts, and a response code is an Integer.
 pub fn is_sound_member(member: SchemaRef<'_>, way: Direction) -> bool
     ensures { result ≡ is_sound_in way (schema_of member.entry) }
 {

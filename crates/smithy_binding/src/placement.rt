@@ -10,7 +10,7 @@ ghost use Rattle.smithy_serde.specs.Values.{label_of, list, list_of, map};
 ghost use Rattle.smithy_serde.specs.Writes.{all_resolved};
 ghost use Rattle.smithy_http.specs.Headers.{put_all};
 ghost use Rattle.smithy_binding.specs.Bindings.{kind_or_none, inserted_at};
-ghost use Rattle.smithy_binding.specs.Checked.{has_bound_kind, is_text_map};
+ghost use Rattle.smithy_binding.specs.Checked.{has_bound_kind};
 ghost use Rattle.smithy_binding.specs.Faults.{element_fault, is_placed_at};
 ghost use Rattle.smithy_binding.specs.Gather.{gather_one, gather, add_or_fault, nothing_yet};
 ghost use Rattle.smithy_binding.specs.Placed.{has_placed_kind, is_text_member, is_list_binding, takes_map, placed_first, first_fault, IsSingle};
@@ -170,7 +170,6 @@ fn add_map<'t>(
 ) -> Result<(), SerdeError>
     requires bound { binding_shown binding ≡ binding_of (schema_of member) }
     requires placed { IsTrue (takes_map (binding_of (schema_of member))) }
-    requires texts { IsTrue (is_text_map (schema_of member)) }
     ensures ok { OnOk result (first_fault (schema_of member.entry) (map (writes_in table.now entries.now)) ≡ None) }
     ensures put { OnOk result (gathered_of parts.new ≡ placed_first (schema_of schema.entry) (schema_of member.entry) (map (writes_in table.now entries.now)) (gathered_of parts.old)) }
     ensures body { OnOk result (parts.new.body ≡ parts.old.body) }
@@ -182,7 +181,7 @@ fn add_map<'t>(
             put_entries(alloc, table, member, &mut parts.headers, prefix, entries)
         }
         Binding::QueryMap => {
-            push_entries(alloc, table, schema, &mut parts.query, entries)?;
+            push_entries(alloc, schema, &mut parts.query, entries)?;
             Ok(())
         }
         _ => unreachable!(),

@@ -1,5 +1,6 @@
 // What the tests of this crate share: members, values and requests as rows of data, and what is placed of them as text.
 ghost use Rattle.std.specs.Prelude.{IsTrue};
+ghost use Rattle.smithy_schema.specs.Nodes.{Table};
 ghost use Rattle.smithy_schema.specs.References.{schema_of};
 ghost use Rattle.smithy_serde.specs.StoredValues.{AreDefined, IsDefined};
 ghost use Rattle.smithy_binding.specs.Checked.{checked_input as checked};
@@ -19,14 +20,17 @@ pub(crate) const KEEP: OmitFlags = OmitFlags {
     content_length: false,
 };
 
-// The nodes before the members: of keys, of values and elements that are texts, and of elements that are blobs.
+// The nodes before the members: of keys, of values and elements that are texts, of elements that are blobs, and of
+// values that are lists of texts.
 const KEY: SchemaIndex = SchemaIndex(0);
 
 const VALUE: SchemaIndex = SchemaIndex(1);
 
 const BLOB: SchemaIndex = SchemaIndex(2);
 
-const FIRST_MEMBER: usize = 3;
+const LIST: SchemaIndex = SchemaIndex(3);
+
+const FIRST_MEMBER: usize = 4;
 
 // The trait of a member.
 #[derive(Clone, Copy)]
@@ -38,6 +42,7 @@ pub(crate) enum Trait {
     Prefix(&'static str),
     Query(&'static str),
     QueryMap,
+    QueryLists,
     Label,
     Payload,
     Code,
@@ -46,7 +51,7 @@ pub(crate) enum Trait {
     Outside,
 }
 
-// A name, a kind and a trait; lists are of texts and maps from texts to texts.
+// A name, a kind and a trait; lists are of texts and maps from texts to texts or to lists of these.
 pub(crate) type Member = (&'static str, ShapeType, Trait);
 
 // What is written by itself, and as a part.
@@ -57,6 +62,8 @@ pub(crate) enum One {
     Long(i64),
     Bytes(&'static [u8]),
     Time(i64),
+    // A list of two texts or of none.
+    Texts(Option<(&'static str, &'static str)>),
 }
 
 // A value; the parts of a map and a structure are written as `key` and `value` in turn.
@@ -102,6 +109,7 @@ fn described(member: Member, index: usize) -> Schema<'static> {
         Trait::Prefix(prefix) => schema.with_http_prefix_headers(prefix),
         Trait::Query(name) => schema.with_http_query(name),
         Trait::QueryMap => schema.with_http_query_params(),
+        Trait::QueryLists => schema.with_map_members(KEY, LIST).with_http_query_params(),
         Trait::Label => schema.with_http_label(),
         Trait::Payload => schema.with_http_payload(),
         Trait::Code => schema.with_http_response_code(),
@@ -131,6 +139,11 @@ pub(crate) fn placed(
         rt,
         table,
         described(("member", ShapeType::Blob, Trait::Body), 0),
+    );
+    inserted(
+        rt,
+        table,
+        described(("value", ShapeType::List, Trait::Body), 1),
     );
     let mut places = Vec::new(alloc);
     for (index, member) in members.iter().enumerate() {
@@ -176,15 +189,46 @@ pub(crate) fn assert_checked(rt: &impl Abort, alloc: Global, schema: SchemaRef<'
 }
 
 #[tactic(auto, unfolding(smithy_serde::specs::StoredValues::IsDefined))]
+fn stored_text(rt: &impl Abort, alloc: Global, text: &str) -> ShapeValue
+    ensures { (t : Table) → IsDefined t result }
+{
+    ShapeValue::String(Text::from_str(alloc, text).expect(rt, "no memory"))
+}
+
+// A list of two texts or of none.
+fn stored_texts(
+    rt: &impl Abort,
+    alloc: Global,
+    texts: Option<(&str, &str)>,
+    table: &Schemas,
+) -> WriteList
+    ensures { AreDefined table.now result }
+{
+    let mut writes = WriteList::new(alloc);
+    if let Some((first, second)) = texts {
+        add(rt, table, &mut writes, VALUE, stored_text(rt, alloc, first));
+        add(
+            rt,
+            table,
+            &mut writes,
+            VALUE,
+            stored_text(rt, alloc, second),
+        );
+    }
+    writes
+}
+
+#[tactic(auto, unfolding(smithy_serde::specs::StoredValues::IsDefined))]
 fn stored_one(rt: &impl Abort, alloc: Global, one: One, table: &Schemas) -> ShapeValue
     ensures { IsDefined table.now result }
 {
     match one {
-        One::Text(text) => ShapeValue::String(Text::from_str(alloc, text).expect(rt, "no memory")),
+        One::Text(text) => stored_text(rt, alloc, text),
         One::Whole(number) => ShapeValue::Integer(number),
         One::Long(number) => ShapeValue::Long(number),
         One::Bytes(bytes) => ShapeValue::Blob(Blob::new(alloc, bytes).expect(rt, "no memory")),
         One::Time(seconds) => ShapeValue::Timestamp(DateTime::from_secs(seconds)),
+        One::Texts(texts) => ShapeValue::List(stored_texts(rt, alloc, texts, table)),
     }
 }
 

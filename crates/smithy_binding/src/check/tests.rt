@@ -14,7 +14,7 @@ const CODE: Member = ("Code", ShapeType::Integer, Trait::Code);
 
 // Members, and whether they are those of an input and of an output. In a response the query and labels do not stand, and
 // in a request the response code does not: such members are unbound there.
-const ROWS: [(&[Member], bool, bool); 12] = [
+const ROWS: [(&[Member], bool, bool); 15] = [
     (&[NAME], true, true),
     (
         &[
@@ -31,6 +31,13 @@ const ROWS: [(&[Member], bool, bool); 12] = [
         false,
     ),
     (&[DATA, NAME], false, false),
+    (&[("Data", ShapeType::List, Trait::Payload)], true, true),
+    (
+        &[("Data", ShapeType::Integer, Trait::Payload)],
+        false,
+        false,
+    ),
+    (&[("Query", ShapeType::Map, Trait::QueryLists)], true, true),
     (
         &[("Headers", ShapeType::String, Trait::Prefix("X-")), NAME],
         false,

@@ -44,8 +44,10 @@ const META: Member = ("P", ShapeType::Map, Trait::Prefix("X-Meta-"));
 
 const QUERY_MAP: Member = ("P", ShapeType::Map, Trait::QueryMap);
 
+const QUERY_LISTS: Member = ("P", ShapeType::Map, Trait::QueryLists);
+
 // Lists, times, texts with a media type, blobs and maps (Smithy, HTTP protocol bindings).
-const ROWS: [Row; 18] = [
+const ROWS: [Row; 20] = [
     (
         TAGS,
         Given::List(&[One::Text("a,b"), One::Text(" c"), One::Text("d\"e")]),
@@ -54,9 +56,13 @@ const ROWS: [Row; 18] = [
     (
         TAGS,
         Given::List(&[One::Text("a"), One::Text("")]),
-        "GET /\nx-tags: a, \n\n",
+        "GET /\nx-tags: a, \"\"\n\n",
     ),
-    (TAGS, Given::List(&[One::Text("")]), "GET /\nx-tags: \n\n"),
+    (
+        TAGS,
+        Given::List(&[One::Text("")]),
+        "GET /\nx-tags: \"\"\n\n",
+    ),
     (TAGS, Given::List(&[]), "GET /\nx-tags: \n\n"),
     (
         TAGS,
@@ -139,6 +145,23 @@ const ROWS: [Row; 18] = [
             One::Text("x"),
         ]),
         "GET /?q=x\n\n",
+    ),
+    (
+        QUERY_LISTS,
+        Given::Map(&[
+            One::Text("max"),
+            One::Texts(Some(("9", "8"))),
+            One::Text("q"),
+            One::Texts(Some(("x", "y"))),
+            One::Text("z"),
+            One::Texts(None),
+        ]),
+        "GET /?q=x&q=y\n\n",
+    ),
+    (
+        QUERY_LISTS,
+        Given::Map(&[One::Text("q"), One::Text("x")]),
+        "UnsupportedOperation: unsupported operation: cannot write string to an element of member P of type list",
     ),
 ];
 
@@ -223,6 +246,8 @@ const STRUCTURE_PAYLOAD: [Member; 2] = [
     ("Body", ShapeType::Structure, Trait::Payload),
 ];
 
+const LIST_PAYLOAD: [Member; 1] = [("L", ShapeType::List, Trait::Payload)];
+
 // An unbound member beside a header and beside prefix headers, which are not written.
 const BESIDE_HEADER: [Member; 2] = [
     ("T", ShapeType::String, Trait::Header("Content-Type")),
@@ -239,7 +264,7 @@ const WITH_UNKNOWN: [Member; 2] = [
     ("Zed", ShapeType::String, Trait::Outside),
 ];
 
-const CASES: [Case; 11] = [
+const CASES: [Case; 12] = [
     Case {
         http: GET_FIRST,
         members: &FIRST,
@@ -312,6 +337,12 @@ const CASES: [Case; 11] = [
         members: &STRUCTURE_PAYLOAD,
         writes: &[(1, Given::Structure(&[One::Text("a")]))],
         told: "PUT /p\ncontent-type: application/json\ncontent-length: 11\n\n{\"key\":\"a\"}",
+    },
+    Case {
+        http: ("PUT", "/l"),
+        members: &LIST_PAYLOAD,
+        writes: &[(0, Given::List(&[One::Whole(1), One::Whole(2)]))],
+        told: "PUT /l\ncontent-type: application/json\ncontent-length: 5\n\n[1,2]",
     },
     Case {
         http: ("POST", "/t"),

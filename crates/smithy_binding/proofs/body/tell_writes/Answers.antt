@@ -1,7 +1,7 @@
 use Rattle.std.proofs.Common.{rules, refl}
 use Rattle.smithy_serde.proofs.Calls.{tells_none, one_tells}
 use Rattle.smithy_serde.proofs.InOrder.{told_next, told_stop, told_end}
-use Rattle.smithy_binding.proofs.TellingUnbound.{told, told_in_order, defined-at}
+use Rattle.smithy_binding.proofs.TellingUnbound.{told_in_order, defined-at}
 use Rattle.smithy_binding.proofs.body.tell_writes.Goals as goal
 
 pub loop-write-init : goal.loop-write-init

@@ -1,7 +1,7 @@
 use Rattle.std.proofs.Common.{rules, ◌≡◌, refl, ap, sym, ◌∙◌, ◌++◌, ◌∷◌, [], Some, None, option_map, IfErr}
 use Rattle.smithy_serde.specs.StoredValues as stored
 use Rattle.smithy_serde.specs.StoredValues.{writes_in, value_in, label_at}
-use Rattle.smithy_serde.specs.Values.{Write, Writes, list_of}
+use Rattle.smithy_serde.specs.Values.{Write, list_of}
 use Rattle.smithy_strings.specs.declared.wire.Place.TheVariants as at
 use Rattle.smithy_strings.specs.Lists.{listed}
 use Rattle.smithy_binding.specs.Bindings.{element_text}

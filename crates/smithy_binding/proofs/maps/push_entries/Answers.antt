@@ -1,37 +1,36 @@
-use Rattle.std.proofs.Common.{◌≡◌, ap, sym, ◌∙◌, ◌+◌, ◌*◌, ◌<◌, ◌++◌, length, drop, string_bytes, arith}
+use Rattle.std.proofs.Common.{◌≡◌, ap, sym, ◌∙◌, ◌+◌, ◌*◌, ◌<◌, ◌++◌, length, string_bytes, arith}
 use Rattle.std.proofs.lemmas.List.{append-nil}
 use Rattle.smithy_schema.specs.References.{schema_of}
 use Rattle.smithy_serde.specs.StoredValues.{writes_in}
 use Rattle.smithy_serde.specs.Values.{list_of}
 use Rattle.smithy_binding.specs.Bindings.{query_names}
-use Rattle.smithy_binding.specs.Entries.{has_key}
+use Rattle.smithy_binding.specs.Entries.{has_key, unnamed, pairs_at_place}
 use Rattle.smithy_binding.specs.TargetParts.{queries}
-use Rattle.smithy_binding.proofs.MapEntries.{text_pairs, kept-all, kept-at, kept-push, kept-end}
+use Rattle.smithy_binding.proofs.MapEntries.{kept_from, kept-all, kept-at, kept-end, pairs-push}
 use Rattle.smithy_binding.proofs.maps.push_entries.Goals as goal
 
 pub loop-place-init : goal.loop-place-init
-loop-place-init c = λ m.
+loop-place-init c = λ t m.
     ap (λ ps. string_bytes c.args.query.now ++ queries ps)
-    (kept-all (has_key c.in_ok-names.names) (query_names (schema_of c.args.schema)) m (writes_in c.args.table.now c.args.entries.now) c.requires c.in_ok-names.ensures)
+    (kept-all (has_key c.in_ok-names.names) (query_names (schema_of c.args.schema)) m (writes_in t c.args.entries.now) c.in_ok-names.ensures)
 
 pub loop-place-preserved : goal.loop-place-preserved
-loop-place-preserved c = λ m.
-    let t = c.args.table.now in
+loop-place-preserved c = λ t m.
     let ws = writes_in t c.args.entries.now in
     let i = c.loop-place.place in
     let names = has_key c.in_ok-names.names in
     let all : c.len-place-end.result ≡ length (list_of ws) = c.len-place-end.ensures t in
     let within : 2 * i + 1 < length (list_of ws) = omega (arith, all, c.loop-place-test.true) in
     let key = c.text_at-key.result.now in
-    let value = c.text_at-value.result.now in
-    kept-push names (string_bytes c.loop-place.query) (string_bytes c.push_entry.new.query) (key, value) (drop (i + 1) (text_pairs ws)) c.in_ok-push_entry.ensures
-    ∙ sym (ap (λ ps. string_bytes c.loop-place.query ++ queries ps) (kept-at names ws i key value within (c.text_at-key.ensures t) (c.text_at-value.ensures t)))
-    ∙ c.loop-place.invariant m
+    pairs-push (string_bytes c.loop-place.query) (string_bytes c.push_entry.new.query) (unnamed c.in_ok-names.names key (pairs_at_place ws (2 * i + 1) key)) (kept_from names ws (i + 1))
+    (c.in_ok-push_entry.ensures t)
+    ∙ sym (ap (λ ps. string_bytes c.loop-place.query ++ queries ps) (kept-at names ws i key within (c.text_at-key.ensures t)))
+    ∙ c.loop-place.invariant t m
 
 pub returns : goal.returns
-returns c = λ m.
-    let ws = writes_in c.args.table.now c.args.entries.now in
-    let all : c.len-place-end.result ≡ length (list_of ws) = c.len-place-end.ensures c.args.table.now in
+returns c = λ t m.
+    let ws = writes_in t c.args.entries.now in
+    let all : c.len-place-end.result ≡ length (list_of ws) = c.len-place-end.ensures t in
     sym (ap (λ ps. string_bytes c.loop-place.query ++ queries ps) (kept-end (has_key c.in_ok-names.names) ws c.loop-place.place (omega (arith, all, c.loop-place-test.false)))
     ∙ append-nil (string_bytes c.loop-place.query))
-    ∙ c.loop-place.invariant m
+    ∙ c.loop-place.invariant t m

@@ -1,5 +1,5 @@
 use Rattle.std.proofs.Common.{◌≡◌, ◌++◌, string_bytes}
-use Rattle.smithy_schema.specs.Nodes.{Schema, to_query_map}
+use Rattle.smithy_schema.specs.Nodes.{Schema, Table, to_query_map}
 use Rattle.smithy_schema.specs.References.{schema_of}
 use Rattle.smithy_serde.specs.StoredValues.{writes_in}
 use Rattle.smithy_serde.specs.Values.{map}
@@ -11,5 +11,5 @@ use Rattle.smithy_binding.proofs.maps.push_entries.Given as goal
 
 abbrev pub invariant-loop-place : goal.invariant-loop-place
 invariant-loop-place l =
-    let ws = writes_in l.table l.entries in
-    (m : Schema) → string_bytes l.query ++ queries (kept_from (has_key l.names) ws l.place) ≡ string_bytes l.initial.query ++ queries (pairs_at to_query_map (query_names (schema_of l.schema)) m (map ws))
+    (t : Table) (m : Schema) → let ws = writes_in t l.entries in
+    string_bytes l.query ++ queries (kept_from (has_key l.names) ws l.place) ≡ string_bytes l.initial.query ++ queries (pairs_at to_query_map (query_names (schema_of l.schema)) m (map ws))

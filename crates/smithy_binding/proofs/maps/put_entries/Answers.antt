@@ -1,19 +1,16 @@
-use Rattle.std.proofs.Common.{rules, ◌≡◌, ap, sym, ◌∙◌, ◌+◌, ◌*◌, ◌<◌, ◌∷◌, [], length, Some, IfErr, arith}
+use Rattle.std.proofs.Common.{rules, ◌≡◌, refl, ap, sym, ◌∙◌, ◌+◌, ◌*◌, ◌<◌, ◌∷◌, [], length, Some, IfErr, arith}
 use Rattle.smithy_schema.specs.References.{schema_of}
 use Rattle.smithy_serde.specs.StoredValues.{writes_in}
 use Rattle.smithy_serde.specs.Values.{list_of}
 use Rattle.smithy_http.specs.Headers.{put_all}
 use Rattle.smithy_binding.specs.Faults.{pairs_fault}
 use Rattle.smithy_binding.specs.Refusing.{TellsFault}
-use Rattle.smithy_binding.proofs.MapEntries.{prefixed, headers_from, headers-all, headers-at, headers-end, pairs_fault-more, pairs_fault-stop}
+use Rattle.smithy_binding.proofs.MapEntries.{header_of, headers_from, headers-at, headers-end, pairs_fault-more, pairs_fault-stop}
 use Rattle.smithy_binding.proofs.Refusals.{IfErr-then}
 use Rattle.smithy_binding.proofs.maps.put_entries.Goals as goal
 
 pub loop-place-init : goal.loop-place-init
-loop-place-init c =
-    let m = schema_of c.args.member in
-    let all = headers-all m c.args.prefix.now (writes_in c.args.table.now c.args.entries.now) c.requires in
-    record { legal = ap (pairs_fault m) all; put = ap (put_all c.args.headers.now) all }
+loop-place-init c = record { legal = refl; put = refl }
 
 pub loop-place-preserved : goal.loop-place-preserved
 loop-place-preserved c =
@@ -22,7 +19,7 @@ loop-place-preserved c =
     let ws = writes_in t c.args.entries.now in
     let prefix = c.args.prefix.now in
     let i = c.loop-place.place in
-    let e = prefixed prefix (c.text_at-key.result.now, c.text_at-value.result.now) in
+    let e = header_of prefix c.text_at-key.result.now c.text_at-value.result.now in
     let rest = headers_from prefix ws (i + 1) in
     let all : c.len-place-end.result ≡ length (list_of ws) = c.len-place-end.ensures t in
     let within : 2 * i + 1 < length (list_of ws) = omega (arith, all, c.loop-place-test.true) in
@@ -40,7 +37,7 @@ returns-in_err-put_entry-clause-err c =
     let ws = writes_in t c.args.entries.now in
     let prefix = c.args.prefix.now in
     let i = c.loop-place.place in
-    let e = prefixed prefix (c.text_at-key.result.now, c.text_at-value.result.now) in
+    let e = header_of prefix c.text_at-key.result.now c.text_at-value.result.now in
     let rest = headers_from prefix ws (i + 1) in
     let all : c.len-place-end.result ≡ length (list_of ws) = c.len-place-end.ensures t in
     let within : 2 * i + 1 < length (list_of ws) = omega (arith, all, c.loop-place-test.true) in

@@ -1,27 +1,24 @@
-use Rattle.std.proofs.Common.{rules, ◌≡◌, ap, sym, ◌∙◌, Some}
-use Rattle.smithy_ids.specs.declared.shape_type.ShapeType.{ShapeType}
-use Rattle.smithy_schema.specs.Nodes.{key_of, value_of}
+use Rattle.std.proofs.Common.{rules, ◌≡◌, sym, ◌∙◌, Some, option_map, IfErr}
 use Rattle.smithy_schema.specs.References.{schema_of}
-use Rattle.smithy_serde.specs.StoredValues.{writes_in, listed}
-use Rattle.smithy_serde.specs.Values.{Writes}
-use Rattle.smithy_binding.specs.Bindings.{kind_or_none}
-use Rattle.smithy_binding.specs.Faults.{entry_fault}
+use Rattle.smithy_serde.specs.StoredValues.{value_in}
+use Rattle.smithy_binding.specs.Faults.{part_fault}
+use Rattle.smithy_binding.specs.Refusing.{TellsFault}
 use Rattle.smithy_binding.proofs.MapEntries.{entry-more, entry-stop, entry-end}
-use Rattle.smithy_binding.proofs.Refusals.{TellsFault-then}
+use Rattle.smithy_binding.proofs.Refusals.{IfErr-then}
 use Rattle.smithy_binding.proofs.maps.test_entries.Goals as goal
 
 pub loop-value-preserved : goal.loop-value-preserved
 loop-value-preserved c =
     let t = c.args.table.now in
-    sym (entry-more t (schema_of c.args.member) c.loop-value.kind c.loop-value.next _ _ _ c.in-Some.ensures.steps (sym (c.fits.ensures t) ∙ c.if-not-fits.false)) ∙ c.loop-value.invariant
+    sym (entry-more t (schema_of c.args.member) _ _ _ _ _ c.in-Some.ensures.steps c.in_ok-test_part.ensures.ok) ∙ c.loop-value.invariant
 
-pub returns-then-not-fits-clause-err : goal.returns-then-not-fits-clause-err
-returns-then-not-fits-clause-err c =
+pub returns-in_err-test_part-clause-err : goal.returns-in_err-test_part-clause-err
+returns-in_err-test_part-clause-err c =
     let t = c.args.table.now in
-    TellsFault-then c.wrong_item.result _ _
-    (λ f e. sym c.loop-value.invariant
-    ∙ entry-stop t (schema_of c.args.member) c.loop-value.kind c.loop-value.next _ _ _ c.in-Some.ensures.steps (sym (c.fits.ensures t) ∙ c.if-not-fits.true) ∙ ap Some (sym e))
-    (c.wrong_item.ensures t)
+    let m = schema_of c.args.member in
+    let here = option_map schema_of c.loop-value.node in
+    let told : IfErr c.from_residual.result (λ e. TellsFault e (λ f. part_fault m here (value_in t c.in-Some.value.now) ≡ Some f)) = search rules in
+    IfErr-then c.from_residual.result _ _ (λ f e. sym c.loop-value.invariant ∙ entry-stop t m _ _ _ _ _ c.in-Some.ensures.steps f e) told
 
 pub returns-clause-ok : goal.returns-clause-ok
-returns-clause-ok c = sym c.loop-value.invariant ∙ entry-end c.args.table.now (schema_of c.args.member) c.loop-value.kind c.loop-value.next _ c.in-None.ensures.steps.0
+returns-clause-ok c = sym c.loop-value.invariant ∙ entry-end c.args.table.now (schema_of c.args.member) _ _ _ c.in-None.ensures.steps.0

@@ -1,4 +1,4 @@
-use Rattle.std.proofs.Common.{rules, ◌≡◌, ap, sym, ◌∙◌, refl, subst, Result, Ok, Err, Some, None, IfErr, ℕ, List, length, map, string_bytes}
+use Rattle.std.proofs.Common.{rules, ◌≡◌, ap, sym, ◌∙◌, subst, Result, Err, Some, IfErr, ℕ, List, length, map, string_bytes}
 use Rattle.smithy_schema.specs.References.{schema_of}
 use Rattle.smithy_serde.specs.StoredValues.{writes_in}
 use Rattle.smithy_serde.specs.Values.{list_of}

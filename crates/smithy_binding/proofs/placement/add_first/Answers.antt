@@ -6,7 +6,7 @@ use Rattle.smithy_serde.specs.StoredValues.{value_in, writes_in}
 use Rattle.smithy_serde.specs.Values.{list, map}
 use Rattle.smithy_serde.specs.declared.value.ShapeValue.{ShapeValue}
 use Rattle.smithy_binding.specs.Placed.{first_fault, IsSingle}
-use Rattle.smithy_binding.proofs.FirstKinds.{list-fits, map-fits, map-texts, single-fits}
+use Rattle.smithy_binding.proofs.FirstKinds.{list-fits, map-fits, single-fits}
 use Rattle.smithy_binding.proofs.Refusals.{IfErr-at}
 use Rattle.smithy_binding.proofs.placement.add_first.Goals as goal
 
@@ -24,8 +24,7 @@ add_map-requires c =
     let m = schema_of c.args.member in
     let ws = writes_in c.args.table.now c.in-Map.entries in
     let fit : fits_member m (map ws) ≡ true = sym (ap (λ (v : ShapeValue). fits_member m (value_in c.args.table.now v)) c.in-Map.is) ∙ c.requires.fits in
-    let placed = map-fits m ws c.requires.placed c.requires.kinds fit in
-    record { bound = c.requires.bound; placed = placed; texts = map-texts m c.requires.kinds placed }
+    record { bound = c.requires.bound; placed = map-fits m ws c.requires.placed c.requires.kinds fit }
 
 pub add_single-requires-clause-placed : goal.add_single-requires-clause-placed
 unfolding value_in

@@ -5,16 +5,9 @@ use Rattle.smithy_serde.specs.StoredValues.{writes_in}
 use Rattle.smithy_serde.specs.Values.{map}
 use Rattle.smithy_binding.specs.Seen.{gathered_of}
 use Rattle.smithy_binding.proofs.FirstKinds.{placed-query_map}
-use Rattle.smithy_binding.proofs.MapEntries.{whole-texts}
 use Rattle.smithy_binding.proofs.placement.add_map.Goals as goal
-
-pub put_entries-requires : goal.put_entries-requires
-put_entries-requires c = whole-texts (schema_of c.args.member) (writes_in c.args.table.now c.args.entries.now) c.requires.texts c.in_ok-test_map.ensures.ok
-
-pub push_entries-requires : goal.push_entries-requires
-push_entries-requires c = whole-texts (schema_of c.args.member) (writes_in c.args.table.now c.args.entries.now) c.requires.texts c.in_ok-test_map.ensures.ok
 
 pub returns-in_ok-push_entries-in-QueryMap-clause-put : goal.returns-in_ok-push_entries-in-QueryMap-clause-put
 returns-in_ok-push_entries-in-QueryMap-clause-put c =
     placed-query_map (schema_of c.args.schema) (schema_of c.args.member) (map (writes_in c.args.table.now c.args.entries.now)) (gathered_of c.args.parts.now) (string_bytes c.push_entries.new.query) (ap binding_shown (sym c.in-QueryMap.is) ∙ c.requires.bound)
-    c.in_ok-push_entries-in-QueryMap.ensures
+    (c.in_ok-push_entries-in-QueryMap.ensures c.args.table.now)

@@ -1,9 +1,8 @@
-use Rattle.std.proofs.Common.{rules, ◌≡◌, refl, ap, sym, ◌∙◌, subst, List, Err, IfErr}
+use Rattle.std.proofs.Common.{rules, ◌≡◌, ap, sym, ◌∙◌, subst, Err, IfErr}
 use Rattle.smithy_schema.specs.References.{schema_of}
 use Rattle.smithy_serde.specs.StoredValues.{label_at, value_in, writes_in, listed, AreListedDefined}
 use Rattle.smithy_serde.specs.Values.{Write, Writes, list_of}
 use Rattle.smithy_serde.specs.Writes.{all_resolved}
-use Rattle.smithy_serde.specs.declared.value.OneWrite.{OneWrite}
 use Rattle.smithy_binding.specs.Gather.{gather, gather_one, nothing_yet}
 use Rattle.smithy_binding.specs.Refusing.{TellsFault}
 use Rattle.smithy_binding.specs.Seen.{gathered_of}
