@@ -1,13 +1,14 @@
 -- Bodies: of the codec, raw, or none.
-use Rattle.std.proofs.Common.{◌≡◌, refl, ℕ, codes, List, [], ◌∷◌, Option, Some}
+use Rattle.std.proofs.Common.{◌≡◌, refl, ℕ, codes, List, [], ◌∷◌, Option, Some, pos}
 use Rattle.std.specs.Option.{option_map as mapped}
 use Rattle.conformance.proofs.OnLiterals.{conformance_on_literals}
+use Rattle.smithy_types.specs.Documents as doc
 use Rattle.smithy_ids.specs.declared.shape_type.ShapeType.TheVariants as kind
 use Rattle.smithy_schema.specs.Nodes.{Schema}
-use Rattle.smithy_serde.specs.Values.{scalar, Write, no_writes, writes_of, text, blob, null, structure}
+use Rattle.smithy_serde.specs.Values.{scalar, Write, no_writes, writes_of, whole, integer, text, blob, document, null, structure}
 use Rattle.smithy_binding.specs.Answer.{place}
-use Rattle.conformance.proofs.Making.{to, named, string_map, json, keep_all}
-use Rattle.conformance.proofs.Samples.{one_name, one_map, one_payload}
+use Rattle.conformance.proofs.Making.{to, named, elements, string_map, json, keep_all}
+use Rattle.conformance.proofs.Samples.{one_name, one_map, one_payload, list_payload, document_payload}
 
 -- the body of a request
 abbrev body_placed : Schema → List Write → Option (List ℕ)
@@ -48,3 +49,11 @@ raw_payload_unwritten = refl
 pub map_keeps_the_last_value : body_placed one_map (to one_map 0 (string_map ((codes "k", codes "1") ∷ (codes "j", codes "2") ∷ (codes "k", codes "3") ∷ [])) ∷ []) ≡ Some (codes "{\"entries\":{\"j\":\"2\",\"k\":\"3\"}}")
 unfolding conformance_on_literals
 map_keeps_the_last_value = refl
+
+pub list_payload_is_the_root : place json list_payload (to list_payload 0 (elements (scalar (whole integer (pos 1)) ∷ scalar (whole integer (pos 2)) ∷ [])) ∷ []) [] keep_all ≡ Some (record { method = codes "PUT"; target = codes "/l"; headers = ((codes "content-type", codes "application/json") ∷ (codes "content-length", codes "5") ∷ []); body = codes "[1,2]" })
+unfolding conformance_on_literals
+list_payload_is_the_root = refl
+
+pub null_document_is_a_body : place json document_payload (to document_payload 0 (scalar (document doc.null)) ∷ []) [] keep_all ≡ Some (record { method = codes "PUT"; target = codes "/d"; headers = ((codes "content-type", codes "application/json") ∷ (codes "content-length", codes "4") ∷ []); body = codes "null" })
+unfolding conformance_on_literals
+null_document_is_a_body = refl

@@ -7,8 +7,8 @@ use Rattle.smithy_schema.specs.Nodes.{Schema}
 use Rattle.smithy_serde.specs.Values.{Label, Value, scalar, Write, Writes, no_writes, write, writes_of, list_of, whole, integer, long, text, blob, null, document, timestamp, list, structure}
 use Rattle.smithy_serde.specs.Values as value
 use Rattle.smithy_binding.specs.Faults.{fault, fault_line}
-use Rattle.conformance.proofs.Making.{item_label, to, named, string_map}
-use Rattle.conformance.proofs.Samples.{get_object, bucket, key, labelled_body, one_map, one_header, tags, metadata, search, endpoint_label}
+use Rattle.conformance.proofs.Making.{item_label, to, named, string_map, list_map}
+use Rattle.conformance.proofs.Samples.{get_object, bucket, key, labelled_body, one_map, one_header, tags, metadata, search, list_search, endpoint_label}
 
 -- the line of the fault of an input
 abbrev line : Schema → List Write → List ℕ → Option (List ℕ)
@@ -58,6 +58,14 @@ entry_with_a_line_feed = refl
 pub integer_in_a_list_of_texts : line tags (to tags 0 (list (write item_label (scalar (text (codes "a"))) (write item_label (scalar (whole long (pos 5))) no_writes))) ∷ []) [] ≡ Some (codes "UnsupportedOperation: unsupported operation: cannot write long to an element of member tags of type string")
 unfolding conformance_on_literals
 integer_in_a_list_of_texts = refl
+
+pub integer_in_a_list_of_an_entry : line list_search (to list_search 0 (list_map ((codes "q", scalar (text (codes "x")) ∷ scalar (whole long (pos 5)) ∷ []) ∷ [])) ∷ []) [] ≡ Some (codes "UnsupportedOperation: unsupported operation: cannot write long to an element of member P of type string")
+unfolding conformance_on_literals
+integer_in_a_list_of_an_entry = refl
+
+pub text_in_place_of_a_list_of_an_entry : line list_search (to list_search 0 (string_map ((codes "q", codes "x") ∷ [])) ∷ []) [] ≡ Some (codes "UnsupportedOperation: unsupported operation: cannot write string to an element of member P of type list")
+unfolding conformance_on_literals
+text_in_place_of_a_list_of_an_entry = refl
 
 pub null_in_a_list_of_texts : line tags (to tags 0 (list (write item_label (scalar null) no_writes)) ∷ []) [] ≡ Some (codes "UnsupportedOperation: unsupported operation: cannot write null to an element of member tags of type string")
 unfolding conformance_on_literals

@@ -8,7 +8,7 @@ use Rattle.smithy_schema.specs.Nodes.{Schema}
 use Rattle.smithy_serde.specs.Values.{scalar, Write, whole, integer, text, blob, timestamp}
 use Rattle.smithy_strings.specs.declared.wire.Place.TheVariants.{Header}
 use Rattle.smithy_strings.specs.Wire.{scalar_wire}
-use Rattle.smithy_strings.specs.Lists.{listed, codec_listed}
+use Rattle.smithy_strings.specs.Lists.{listed}
 use Rattle.smithy_binding.specs.Answer.{place}
 use Rattle.conformance.proofs.Making.{to, strings, string_map, json, keep_all}
 use Rattle.conformance.proofs.Samples.{get_object, bucket, key, one_header, tags, metadata}
@@ -21,11 +21,11 @@ pub list_with_quotes : listed kind.String (codes "a,b" ∷ codes " c" ∷ codes 
 unfolding conformance_on_literals
 list_with_quotes = refl
 
-pub codec_quotes_an_empty_text : codec_listed (codes "a" ∷ [] ∷ []) ≡ codes "a, \"\""
+pub empty_text_is_quoted : headers_placed tags (to tags 0 (strings (codes "a" ∷ [] ∷ [])) ∷ []) ≡ Some ((codes "x-tags", codes "a, \"\"") ∷ [])
 unfolding conformance_on_literals
-codec_quotes_an_empty_text = refl
+empty_text_is_quoted = refl
 
-pub list_of_one_empty_text : headers_placed tags (to tags 0 (strings ([] ∷ [])) ∷ []) ≡ Some ((codes "x-tags", []) ∷ [])
+pub list_of_one_empty_text : headers_placed tags (to tags 0 (strings ([] ∷ [])) ∷ []) ≡ Some ((codes "x-tags", codes "\"\"") ∷ [])
 unfolding conformance_on_literals
 list_of_one_empty_text = refl
 

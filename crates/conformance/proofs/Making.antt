@@ -5,7 +5,6 @@ use Rattle.std.specs.Option.{option_map_or}
 use Rattle.smithy_ids.specs.declared.shape_type.ShapeType.{ShapeType}
 use Rattle.smithy_ids.specs.declared.shape_type.ShapeType.TheVariants as kind
 use Rattle.smithy_ids.specs.declared.payload_hint.PayloadHint.{PayloadHint}
-use Rattle.smithy_ids.specs.declared.payload_hint.PayloadHint.TheVariants.{Unknown}
 use Rattle.smithy_schema.specs.Nodes.{Schema, Node, Traits, Table, no_traits, bare_node, member_at}
 use Rattle.smithy_serde.specs.Values.{Label, Value, scalar, Write, writes_of, text, list, label_of}
 use Rattle.smithy_serde.specs.Values as value
@@ -59,6 +58,10 @@ with_target place (Some n) = Some (record n { target = Some place })
 abbrev pub string_node : Option Node
 string_node = Some (bare_node (codes "smithy.api#String") kind.String)
 
+-- the node of elements that are whole numbers
+abbrev pub integer_node : Option Node
+integer_node = Some (bare_node (codes "smithy.api#Integer") kind.Integer)
+
 -- a node of a structure whose members stand at these places
 abbrev pub structure_node : Traits → List ℕ → Node
 structure_node traits members = record (bare_node (codes "ex#In") kind.Structure) { members = members; traits = traits }
@@ -75,6 +78,10 @@ flagged hint schema = record { table = schema.table; node = record schema.node {
 abbrev pub item_label : Label
 item_label = record { full_name = codes "smithy.api#String"; member_name = None; member_index = None; time_format = None }
 
+-- that of one that is a whole number
+abbrev pub integer_label : Label
+integer_label = record item_label { full_name = codes "smithy.api#Integer" }
+
 -- a write to a member, with the schema's own node
 abbrev pub to : Schema → ℕ → Value → Write
 to schema index v = record { label = option_map_or label_of (member_at schema index) item_label; value = v }
@@ -83,13 +90,29 @@ to schema index v = record { label = option_map_or label_of (member_at schema in
 abbrev pub named : List ℕ → Value → Write
 named name v = record { label = record { full_name = codes "ex#In$" ++ name; member_name = Some name; member_index = None; time_format = None }; value = v }
 
+-- a list of these elements
+abbrev pub elements : List Value → Value
+elements vs = list (writes_of (map (λ v. record { label = item_label; value = v }) vs))
+
 -- a list of texts
 abbrev pub strings : List (List ℕ) → Value
-strings texts = list (writes_of (map (λ t. record { label = item_label; value = scalar (text t) }) texts))
+strings texts = elements (map (λ t. scalar (text t)) texts)
 
 -- a map from texts to texts
 abbrev pub string_map : List (List ℕ × List ℕ) → Value
 string_map entries = value.map (writes_of (flat_map (λ e. record { label = item_label; value = scalar (text e.0) } ∷ record { label = item_label; value = scalar (text e.1) } ∷ []) entries))
+
+-- the node of a list whose elements stand at a place, and the label of such a list among the values of a map
+abbrev pub list_node : ℕ → Node
+list_node place = record (bare_node (codes "ex#List") kind.List) { element = Some place }
+
+abbrev pub list_label : Label
+list_label = record { full_name = codes "ex#List"; member_name = None; member_index = None; time_format = None }
+
+-- a map from texts to lists of these elements
+abbrev pub list_map : List (List ℕ × List Value) → Value
+list_map entries =
+    value.map (writes_of (flat_map (λ e. record { label = item_label; value = scalar (text e.0) } ∷ record { label = list_label; value = elements e.1 } ∷ []) entries))
 
 -- the protocol of the samples
 abbrev pub json : Protocol

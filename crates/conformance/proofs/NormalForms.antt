@@ -8,9 +8,9 @@ use Rattle.smithy_serde.specs.Values.{Value, scalar, Write, label_of, writes_of,
 use Rattle.smithy_serde.specs.Shaped.{is_shaped}
 use Rattle.smithy_serde.specs.Ranges.{is_in_range}
 use Rattle.smithy_serde.specs.NormalBody.{put_entry, last_named}
-use Rattle.smithy_binding.specs.NormalForm.{view, header_list}
-use Rattle.conformance.proofs.Making.{item_label, to, named, string_map}
-use Rattle.conformance.proofs.Samples.{own_content_type, nested_body, metadata, search}
+use Rattle.smithy_binding.specs.NormalForm.{view}
+use Rattle.conformance.proofs.Making.{item_label, integer_label, to, named, elements, strings, string_map, list_map}
+use Rattle.conformance.proofs.Samples.{own_content_type, nested_body, metadata, search, list_search, tags, list_payload, document_payload}
 
 pub blob_of_bytes_alone : is_in_range (scalar (blob (255 ∷ 256 ∷ []))) ≡ false
 unfolding conformance_on_literals
@@ -24,9 +24,6 @@ pub object_with_a_name_twice : is_in_range (scalar (document (doc.object (doc.me
 unfolding conformance_on_literals
 object_with_a_name_twice = refl
 
-pub list_of_one_empty_blob : header_list (list (write item_label (scalar (blob [])) no_writes)) ≡ list no_writes
-list_of_one_empty_blob = refl
-
 pub entry_in_place_of_another : put_entry (codes "k") (scalar null) ((codes "k", scalar (text [])) ∷ []) ≡ (codes "k", scalar null) ∷ []
 entry_in_place_of_another = refl
 
@@ -37,6 +34,22 @@ last_of_a_name = refl
 pub empty_query_map_is_dropped : view search (to search 1 (string_map ((codes "max", codes "9") ∷ [])) ∷ []) ≡ []
 unfolding conformance_on_literals
 empty_query_map_is_dropped = refl
+
+pub empty_list_of_an_entry_is_dropped : view list_search (to list_search 0 (list_map ((codes "z", []) ∷ (codes "q", scalar (text []) ∷ []) ∷ [])) ∷ []) ≡ to list_search 0 (list_map ((codes "q", scalar (text []) ∷ []) ∷ [])) ∷ []
+unfolding conformance_on_literals
+empty_list_of_an_entry_is_dropped = refl
+
+pub list_of_one_empty_text_stands : view tags (to tags 0 (strings ([] ∷ [])) ∷ []) ≡ to tags 0 (strings ([] ∷ [])) ∷ []
+unfolding conformance_on_literals
+list_of_one_empty_text_stands = refl
+
+pub list_payload_has_the_labels_of_its_nodes : view list_payload (to list_payload 0 (elements (scalar (whole integer (pos 1)) ∷ [])) ∷ []) ≡ to list_payload 0 (list (write integer_label (scalar (whole integer (pos 1))) no_writes)) ∷ []
+unfolding conformance_on_literals
+list_payload_has_the_labels_of_its_nodes = refl
+
+pub null_document_stands : view document_payload (to document_payload 0 (scalar (document doc.null)) ∷ []) ≡ to document_payload 0 (scalar (document doc.null)) ∷ []
+unfolding conformance_on_literals
+null_document_stands = refl
 
 pub last_unbound_and_first_bound : view own_content_type (named (codes "name") (scalar (text (codes "a"))) ∷ named (codes "T") (scalar (text (codes "x"))) ∷ named (codes "T") (scalar (text (codes "y"))) ∷ named (codes "name") (scalar (text (codes "b"))) ∷ []) ≡ to own_content_type 0 (scalar (text (codes "x"))) ∷ to own_content_type 1 (scalar (text (codes "b"))) ∷ []
 unfolding conformance_on_literals

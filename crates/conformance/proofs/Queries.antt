@@ -6,8 +6,8 @@ use Rattle.smithy_ids.specs.declared.shape_type.ShapeType.TheVariants as kind
 use Rattle.smithy_schema.specs.Nodes.{Schema}
 use Rattle.smithy_serde.specs.Values.{scalar, Write, text, timestamp}
 use Rattle.smithy_binding.specs.Answer.{place}
-use Rattle.conformance.proofs.Making.{to, strings, string_map, json, keep_all}
-use Rattle.conformance.proofs.Samples.{search, tagged, one_query}
+use Rattle.conformance.proofs.Making.{to, strings, string_map, list_map, json, keep_all}
+use Rattle.conformance.proofs.Samples.{search, list_search, tagged, one_query}
 
 -- the target of a request
 abbrev target_placed : Schema → List Write → List ℕ → Option (List ℕ)
@@ -26,6 +26,10 @@ pairs_stand_in_the_order_of_the_writes = refl
 pub list_gives_a_pair_for_each : target_placed tagged (to tagged 0 (strings (codes "a b" ∷ codes "c=d" ∷ [])) ∷ []) [] ≡ Some (codes "/q?list=2&tag=a%20b&tag=c%3Dd")
 unfolding conformance_on_literals
 list_gives_a_pair_for_each = refl
+
+pub entry_gives_a_pair_for_each : target_placed list_search (to list_search 0 (list_map ((codes "q", scalar (text (codes "x")) ∷ scalar (text (codes "y")) ∷ []) ∷ (codes "z", []) ∷ [])) ∷ []) [] ≡ Some (codes "/q?q=x&q=y")
+unfolding conformance_on_literals
+entry_gives_a_pair_for_each = refl
 
 pub time_by_default : target_placed (one_query kind.Timestamp) (to (one_query kind.Timestamp) 0 (scalar (timestamp (pos 1515523620))) ∷ []) [] ≡ Some (codes "/q?when=2018-01-09T18%3A47%3A00Z")
 unfolding conformance_on_literals

@@ -6,7 +6,7 @@ use Rattle.smithy_ids.specs.declared.shape_type.ShapeType.TheVariants as kind
 use Rattle.smithy_ids.specs.declared.payload_hint.PayloadHint.TheVariants.{NoStructPayload}
 use Rattle.smithy_schema.specs.Nodes.{no_traits, Schema}
 use Rattle.smithy_serde.specs.Values.{scalar, Write, text, blob, whole, integer, long, timestamp}
-use Rattle.conformance.proofs.Making.{label, payload, query_map, response_code, query, header, prefix_map, with_http, member, with_element, with_entries, with_target, string_node, structure_node, structure_of, flagged, to, string_map}
+use Rattle.conformance.proofs.Making.{label, payload, query_map, response_code, query, header, prefix_map, with_http, member, with_element, with_entries, with_target, string_node, integer_node, list_node, structure_node, structure_of, flagged, to, string_map}
 
 -- the first sample job: labels, one of them greedy, a header and a query member
 abbrev pub get_object : Schema
@@ -123,6 +123,24 @@ search = structure_of (with_http (codes "GET") (codes "/q")) 2 (
     ∷ string_node
     ∷ string_node
     ∷ [])
+
+-- a query map of lists of texts
+abbrev pub list_search : Schema
+list_search = structure_of (with_http (codes "GET") (codes "/q")) 1 (
+    with_entries 1 2 (member 0 (codes "P") kind.Map query_map) ∷ string_node ∷ Some (list_node 3) ∷ string_node ∷ [])
+
+-- the same map behind a prefix
+abbrev pub list_metadata : Schema
+list_metadata = structure_of (with_http (codes "GET") (codes "/q")) 1 (
+    with_entries 1 2 (member 0 (codes "P") kind.Map (prefix_map (codes "X-"))) ∷ string_node ∷ Some (list_node 3) ∷ string_node ∷ [])
+
+-- a list payload
+abbrev pub list_payload : Schema
+list_payload = structure_of (with_http (codes "PUT") (codes "/l")) 1 (with_element 1 (member 0 (codes "L") kind.List payload) ∷ integer_node ∷ [])
+
+-- a document payload
+abbrev pub document_payload : Schema
+document_payload = structure_of (with_http (codes "PUT") (codes "/d")) 1 (member 0 (codes "D") kind.Document payload ∷ [])
 
 -- a query list behind a literal query
 abbrev pub tagged : Schema

@@ -1,5 +1,5 @@
 -- Which schemas are checked.
-use Rattle.std.proofs.Common.{◌≡◌, refl, ◌+◌, ◌^◌, codes, true, false, [], ◌∷◌, Some}
+use Rattle.std.proofs.Common.{◌≡◌, refl, ◌&&◌, ◌+◌, ◌^◌, codes, true, false, [], ◌∷◌, Some}
 use Rattle.conformance.proofs.OnLiterals.{conformance_on_literals}
 use Rattle.smithy_ids.specs.declared.shape_type.ShapeType.TheVariants as kind
 use Rattle.smithy_ids.specs.declared.payload_hint.PayloadHint.TheVariants.{StructPayload}
@@ -9,11 +9,28 @@ use Rattle.smithy_binding.specs.Clear.{is_clear}
 use Rattle.smithy_binding.specs.Checked.{checked_input}
 use Rattle.smithy_binding.specs.CheckedOutput.{checked_output}
 use Rattle.conformance.proofs.Making.{with_element, label, payload, response_code, header, prefix_map, query, with_http, member, with_entries, string_node, structure_of, flagged}
-use Rattle.conformance.proofs.Samples.{one_name, every_header, endpoint_label, nothing_in, tagged_output, many_members}
+use Rattle.conformance.proofs.Samples.{one_name, one_payload, list_payload, document_payload, list_search, list_metadata, every_header, endpoint_label, nothing_in, tagged_output, many_members}
 
 pub every_header_is_checked : checked_input every_header ≡ true
 unfolding conformance_on_literals
 every_header_is_checked = refl
+
+-- each aggregate and a document may be the payload, and the query map may hold lists
+pub payload_of_any_aggregate : (checked_input list_payload && checked_input document_payload && checked_input (one_payload kind.Map) && checked_input (one_payload kind.Union)) ≡ true
+unfolding conformance_on_literals
+payload_of_any_aggregate = refl
+
+pub number_payload : checked_input (one_payload kind.Integer) ≡ false
+unfolding conformance_on_literals
+number_payload = refl
+
+pub query_map_of_lists : checked_input list_search ≡ true
+unfolding conformance_on_literals
+query_map_of_lists = refl
+
+pub prefix_map_of_lists : checked_input list_metadata ≡ false
+unfolding conformance_on_literals
+prefix_map_of_lists = refl
 
 -- the empty prefix begins every header name
 pub empty_prefix_beside_a_header : checked_input (structure_of (with_http (codes "GET") (codes "/")) 2 (with_entries 2 3 (member 0 (codes "P") kind.Map (prefix_map [])) ∷ member 1 (codes "T") kind.String (header (codes "X-T")) ∷ string_node ∷ string_node ∷ [])) ≡ false

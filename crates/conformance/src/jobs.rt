@@ -7,16 +7,7 @@ use std::alloc::Global;
 use std::process::Abort;
 use std::test::Fail;
 
-// A job of the operation `ex#Get` and its input `ex#GetIn`, as the two shapes and what is asked; how a run of `request` with it
-// ends, and what it writes.
-type Row = (
-    &'static str,
-    &'static str,
-    &'static str,
-    Status,
-    &'static str,
-);
-
+// A job of the operation `ex#Get` and its input `ex#GetIn`, and the request that it is.
 const GET: &str =
     r#"{"type":"operation","input":{"target":"ex#GetIn"},"traits":{"smithy.api#http":{"method":"GET","uri":"/{Bucket}/{Key+}","code":200}}}"#;
 
@@ -27,101 +18,6 @@ const ASKED: &str =
     r#""operation":"ex#Get","input":[["Bucket","b"],["Key","x/y z"],["Max",3],["Id",7]]"#;
 
 const REQUEST: &str = "GET /b/x/y%20z?max=3\nx-id: 7\n\n";
-
-const POST: &str =
-    r#"{"type":"operation","input":{"target":"ex#GetIn"},"traits":{"smithy.api#http":{"method":"POST","uri":"/t"}}}"#;
-
-const NAMED: &str = r#""operation":"ex#Get","input":[["name","a"]]"#;
-
-const BODY: &str =
-    "POST /t\ncontent-type: application/json\ncontent-length: 12\n\n{\"name\":\"a\"}";
-
-const ROOT: &str =
-    r#"{"type":"operation","input":{"target":"ex#GetIn"},"traits":{"smithy.api#http":{"method":"GET","uri":"/"}}}"#;
-
-const NOTHING: &str = r#""operation":"ex#Get","input":[]"#;
-
-const PLACED: [Row; 8] = [
-    (GET, GET_IN, ASKED, Status::Done, REQUEST),
-    (
-        GET,
-        GET_IN,
-        r#""operation":"ex#Get","input":[["Bucket",""],["Key","x/y z"],["Max",3],["Id",7]]"#,
-        Status::Fault,
-        "InvalidInput: invalid input: Bucket was missing: cannot be empty or unset\n",
-    ),
-    // The first write of a bound member counts.
-    (
-        GET,
-        GET_IN,
-        r#""operation":"ex#Get","input":[["Bucket","b"],["Key","x/y z"],["Max",3],["Id",1],["Id",2]]"#,
-        Status::Done,
-        "GET /b/x/y%20z?max=3\nx-id: 1\n\n",
-    ),
-    // The last value of a key counts, and other keys are passed over.
-    (
-        GET,
-        GET_IN,
-        r#""operation":"ex#None","operation":"ex#Get","input":[["Bucket","b"],["Key","k"]],"more":1.5"#,
-        Status::Done,
-        "GET /b/k\n\n",
-    ),
-    (
-        POST,
-        r#"{"type":"structure","members":{"name":{"target":"smithy.api#String"}}}"#,
-        NAMED,
-        Status::Done,
-        BODY,
-    ),
-    (
-        POST,
-        r#"{"type":"structure","members":{"name":{"target":"smithy.api#String","traits":{}}}}"#,
-        NAMED,
-        Status::Done,
-        BODY,
-    ),
-    (
-        POST,
-        r#"{"type":"structure","members":{"name":{"target":"smithy.api#Integer"}}}"#,
-        r#""operation":"ex#Get","input":[["name",-2147483648]]"#,
-        Status::Done,
-        "POST /t\ncontent-type: application/json\ncontent-length: 20\n\n{\"name\":-2147483648}",
-    ),
-    (
-        r#"{"type":"operation","input":{"target":"smithy.api#Unit"},"traits":{"smithy.api#http":{"method":"GET","uri":"/"}}}"#,
-        "5",
-        NOTHING,
-        Status::Done,
-        "GET /\n\n",
-    ),
-];
-
-// What is asked of `GET` in a form that no job has.
-const ASKED_WRONGLY: [&str; 10] = [
-    r#""operation":"ex#Get""#,
-    r#""operation":"ex#None","input":[]"#,
-    r#""operation":"ex#GetIn","input":[]"#,
-    r#""operation":"ex#Get","input":{}"#,
-    r#""operation":"ex#Get","input":[["Id",1.0]]"#,
-    r#""operation":"ex#Get","input":[["Id",2147483648]]"#,
-    r#""operation":"ex#Get","input":[["Id","7"]]"#,
-    r#""operation":"ex#Get","input":[["Id",7,7]]"#,
-    r#""operation":"ex#Get","input":[["Zed",7]]"#,
-    r#""operation":"ex#Get","input":[],"endpoint":null"#,
-];
-
-// Inputs that no job has.
-const WRONG_INPUTS: [&str; 5] = [
-    r#"{"type":"structure"}"#,
-    r#"{"type":"structure","members":{"Name":{"target":"ex#None"}}}"#,
-    r#"{"type":"structure","members":{"Name":{"target":"smithy.api#String","traits":null}}}"#,
-    r#"{"type":"structure","members":{"Id":{"target":"smithy.api#Integer","traits":{"smithy.api#httpHeader":5}}}}"#,
-    r#"{"type":"structure","members":{},"traits":{"internal":{}}}"#,
-];
-
-// An operation that no job has.
-const WRONG_CODE: &str =
-    r#"{"type":"operation","input":{"target":"ex#GetIn"},"traits":{"smithy.api#http":{"method":"GET","uri":"/","code":65536}}}"#;
 
 // What a run ends with, and what it wrote.
 #[derive(Drop)]
@@ -164,33 +60,6 @@ fn answers(
     let found = run_of(alloc, &["request"], job.as_bytes())?;
     assert_eq!(rt; found.status, status, "{job}");
     assert_eq!(rt; found.written.as_slice(), text.as_bytes(), "{job}");
-    Ok(())
-}
-
-#[test]
-fn places_jobs(rt: HostRuntime) -> Result<(), Fail> {
-    let alloc = rt.alloc();
-    for (operation, input, asked, status, text) in PLACED {
-        let job = job_of(alloc, operation, input, asked)?;
-        answers(&rt, alloc, job.as_str(), status, text)?;
-    }
-    Ok(())
-}
-
-#[test]
-fn refuses_what_is_no_job(rt: HostRuntime) -> Result<(), Fail> {
-    let alloc = rt.alloc();
-    for asked in ASKED_WRONGLY {
-        let job = job_of(alloc, GET, GET_IN, asked)?;
-        answers(&rt, alloc, job.as_str(), Status::Job, "")?;
-    }
-    for input in WRONG_INPUTS {
-        let job = job_of(alloc, ROOT, input, NOTHING)?;
-        answers(&rt, alloc, job.as_str(), Status::Job, "")?;
-    }
-    let input = r#"{"type":"structure","members":{}}"#;
-    let job = job_of(alloc, WRONG_CODE, input, NOTHING)?;
-    answers(&rt, alloc, job.as_str(), Status::Job, "")?;
     Ok(())
 }
 

@@ -1,7 +1,7 @@
 -- The commands of the program.
 use Rattle.std.specs.Prelude.{ℕ, codes, List, [], ◌∷◌, Bool, true, false, Option, Some, None, if◌then◌else◌}
 use Rattle.std.specs.Option.{option_map_or}
-use Rattle.smithy_bind.specs.Names.{is}
+use Rattle.smithy_model.specs.Names.{is}
 use Rattle.smithy_bind.specs.declared.command.Command.{Command}
 use Rattle.smithy_bind.specs.declared.command.Command.TheVariants.{Request, Help, Version}
 

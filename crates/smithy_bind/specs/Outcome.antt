@@ -3,14 +3,16 @@ use Rattle.std.specs.Prelude.{ℕ, codes, List, Bool, Result, Ok, Err, Option, S
 use Rattle.smithy_http.specs.Requests.{Request}
 use Rattle.smithy_schema.specs.Nodes.{Schema}
 use Rattle.smithy_serde.specs.Values.{Write}
-use Rattle.smithy_binding.specs.Placing.{Protocol, Omit}
+use Rattle.smithy_serde.specs.declared.header_omit_settings.OmitFlags.{OmitFlags}
+use Rattle.smithy_binding.specs.Placing.{Protocol}
+use Rattle.smithy_binding.specs.DefaultHeaders.{omit_of}
 use Rattle.smithy_binding.specs.Answer.{answer}
 use Rattle.smithy_binding.specs.Faults.{Fault}
 use Rattle.smithy_binding.specs.Checked.{checked_input}
 use Rattle.smithy_types.specs.Documents.{Document}
 use Rattle.smithy_document.specs.JsonText.{json_text}
-use Rattle.smithy_bind.specs.Json.{json_of}
-use Rattle.smithy_bind.specs.Jobs.{Job, job}
+use Rattle.smithy_model.specs.Json.{json_of}
+use Rattle.smithy_job.specs.Jobs.{Job, job}
 use Rattle.smithy_bind.specs.Shown.{shown, line_of}
 use Rattle.smithy_bind.specs.Commands.{command_of}
 use Rattle.smithy_bind.specs.Texts.{help_text, version_text}
@@ -33,8 +35,8 @@ told (Ok r) = output (shown r)
 told (Err f) = fault_line (line_of f)
 
 -- the answer to writes, by a protocol and a schema
-abbrev pub sent : Protocol → Schema → List Write → List ℕ → Omit → Outcome
-sent protocol schema ws endpoint omit = told (answer protocol schema ws endpoint omit)
+abbrev pub sent : Protocol → Schema → List Write → List ℕ → OmitFlags → Outcome
+sent protocol schema ws endpoint omit = told (answer protocol schema ws endpoint (omit_of omit))
 
 -- the answer to a job, by a protocol; a schema that a request can't be placed by makes none
 unfoldable pub answered : Protocol → Job → Outcome

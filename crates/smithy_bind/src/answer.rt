@@ -1,75 +1,73 @@
 // The answer to the bytes of a job.
-ghost use Rattle.std.specs.Prelude.{IsTrue};
+ghost use Rattle.std.specs.Prelude.{IsTrue, option_and_then};
+ghost use Rattle.serde_json.specs.View.{view};
 ghost use Rattle.smithy_schema.specs.References.{schema_of};
-ghost use Rattle.smithy_serde.specs.StoredValues.{AreDefined};
 ghost use Rattle.smithy_serde.specs.StructValues.{members_of};
 ghost use Rattle.smithy_binding.specs.Checked.{checked_input};
 ghost use Rattle.smithy_binding.specs.Protocols.{codec_of, protocol_of};
-ghost use Rattle.smithy_bind.specs.SeenJob.{job_view};
+ghost use Rattle.smithy_job.specs.Jobs.{job};
 ghost use Rattle.smithy_bind.specs.Outcome.{outcome_of, requested};
 ghost use Rattle.smithy_bind.specs.AnswerView.{Gives, Sends};
 
-use crate::job::{Job, read_job, read_json};
 use crate::shown::{line_of, shown};
+use serde_json::Value;
 use smithy_binding::{HttpBindingProtocol, checked_input};
+use smithy_job::{Job, read_job};
+use smithy_model::{JobError, read_json};
 use smithy_schema::SchemaRef;
 use smithy_serde::{Codec, OmitFlags, SerdeError, SerializableStruct, StructValue};
-use smithy_types::OutOfMemory;
 use std::alloc::Global;
 
-/// What is to be told.
+/// What is to be told of a job.
 #[derive(Drop)]
 pub enum Answer {
-    /// The bytes are no job.
-    NoJob,
     /// The line that tells a fault.
     Fault(Vec<u8>),
     /// The output.
     Output(Vec<u8>),
 }
 
-/// What is to be told of the bytes of a job, by a protocol with a lawful codec. Takes memory.
+/// What is to be told of the bytes of a job, by a protocol with a lawful codec. Takes memory. No job where the bytes are
+/// none, or a request can't be placed by its schema.
 #[tactic(auto, unfolding(crate::specs::Outcome::requested))]
 pub fn answer_to<C: Codec>(
     alloc: Global,
     protocol: &HttpBindingProtocol<C>,
     bytes: &[u8],
-) -> Result<Answer, OutOfMemory>
+) -> Result<Answer, JobError>
     requires { C.lawful (codec_of protocol.now) }
     ensures { Gives (requested (protocol_of C.text protocol.now) bytes.now) result }
 {
-    let Some(value) = read_json(alloc, bytes)? else {
-        return Ok(Answer::NoJob);
-    };
-    let Some(job) = read_job(alloc, &value)? else {
-        return Ok(Answer::NoJob);
-    };
-    answer_job(alloc, protocol, job)
+    let value = read_json(alloc, bytes)?;
+    answer_job(alloc, protocol, &value)
 }
 
 #[tactic(auto, unfolding(crate::specs::Outcome::answered))]
 fn answer_job<C: Codec>(
     alloc: Global,
     protocol: &HttpBindingProtocol<C>,
-    job: Job,
-) -> Result<Answer, OutOfMemory>
-    requires lawful { C.lawful (codec_of protocol.now) }
-    requires defined { AreDefined job.table job.writes }
-    ensures { Gives (outcome_of (protocol_of C.text protocol.now) (job_view job)) result }
+    value: &Value,
+) -> Result<Answer, JobError>
+    requires { C.lawful (codec_of protocol.now) }
+    ensures { Gives (outcome_of (protocol_of C.text protocol.now) (job (view value.now))) result }
 {
     let Job {
         table,
         place,
+        further,
         writes,
-    } = job;
+        endpoint,
+        omit,
+    } = read_job(alloc, value)?;
     let Some(schema) = table.get(place) else {
-        return Ok(Answer::NoJob);
+        unreachable!()
     };
     if !checked_input(alloc, schema)? {
-        return Ok(Answer::NoJob);
+        return Err(JobError::NoJob);
     }
-    let input = StructValue::with_writes(&table, place, writes);
-    answer_struct(alloc, protocol, schema, &input)
+    let nodes = further.as_ref().unwrap_or(&table);
+    let input = StructValue::with_writes(nodes, place, writes);
+    answer_struct(alloc, protocol, schema, &input, endpoint, omit)
 }
 
 // What is to be told of a structure over a table, by its schema.
@@ -78,12 +76,14 @@ fn answer_struct<C: Codec>(
     protocol: &HttpBindingProtocol<C>,
     schema: SchemaRef<'_>,
     input: &StructValue<'_>,
-) -> Result<Answer, OutOfMemory>
+    endpoint: &str,
+    omit: OmitFlags,
+) -> Result<Answer, JobError>
     requires lawful { C.lawful (codec_of protocol.now) }
     requires checked { IsTrue (checked_input (schema_of schema)) }
-    ensures { Sends (protocol_of C.text protocol.now) (schema_of schema.entry) (members_of input.now) result }
+    ensures { Sends (protocol_of C.text protocol.now) (schema_of schema.entry) (members_of input.now) endpoint.now omit result }
 {
-    answer_input(alloc, protocol, schema, input)
+    answer_input(alloc, protocol, schema, input, endpoint, omit)
 }
 
 // What is to be told of an input, by its schema.
@@ -92,14 +92,16 @@ fn answer_input<C: Codec>(
     protocol: &HttpBindingProtocol<C>,
     schema: SchemaRef<'_>,
     input: &dyn SerializableStruct,
-) -> Result<Answer, OutOfMemory>
+    endpoint: &str,
+    omit: OmitFlags,
+) -> Result<Answer, JobError>
     requires lawful { C.lawful (codec_of protocol.now) }
     requires checked { IsTrue (checked_input (schema_of schema)) }
-    ensures { Sends (protocol_of C.text protocol.now) (schema_of schema.entry) (writes input.now) result }
+    ensures { Sends (protocol_of C.text protocol.now) (schema_of schema.entry) (writes input.now) endpoint.now omit result }
 {
-    match protocol.serialize_request(alloc, input, schema, "", OmitFlags::KEEP_ALL) {
+    match protocol.serialize_request(alloc, input, schema, endpoint, omit) {
         Ok(request) => Ok(Answer::Output(shown(alloc, &request)?)),
-        Err(SerdeError::OutOfMemory) => Err(OutOfMemory),
+        Err(SerdeError::OutOfMemory) => Err(JobError::OutOfMemory),
         Err(refusal) => Ok(Answer::Fault(line_of(alloc, &refusal)?)),
     }
 }

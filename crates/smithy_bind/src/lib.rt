@@ -3,7 +3,6 @@
 
 mod answer;
 mod command;
-mod job;
 pub mod laws;
 mod shown;
 mod texts;

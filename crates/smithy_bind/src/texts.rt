@@ -17,15 +17,21 @@ one line that says why.
 
 A job has these keys:
   model      a Smithy model as a JSON AST, with its `shapes`
-  operation  the full name of an operation of the model. Its one trait is
-             smithy.api#http, and its input is a structure whose members
-             are smithy.api#String or smithy.api#Integer. A member without
-             traits stands in the body; any other has one trait, a String
-             smithy.api#httpLabel, an Integer smithy.api#httpQuery or
-             smithy.api#httpHeader
-  input      an array of pairs of a member's name and its value, a text or
-             a whole number of 32 bits
-A job with the key `endpoint` or `omit` is refused; other keys are passed over.
+  operation  the full name of an operation of the model
+  input      an object from names of members to values, written in byte order
+             of the names; or an array of pairs of a name and a value,
+             written in this order
+  endpoint   optional, a text: the URI template of an operation without
+             smithy.api#http
+  omit       optional, an object: with `contentType` or `contentLength` true,
+             that default header is left out
+Other keys are passed over.
+
+A value has the JSON form of its member's shape: a truth value; a whole
+number, also for a timestamp, in seconds since 1970; a text, in base64 for a
+blob; a whole number or a text for a BigInteger, a text for a BigDecimal; any
+value for a document; an array for a list; an object for a map, a structure or
+a union. A float is no value.
 
 The exit status is
   0  the output was written

@@ -1,0 +1,76 @@
+-- The document of a JSON value is canonical.
+use Rattle.std.proofs.Common.{refl, ℕ, List, [], ◌∷◌, IsTrue, IfSome, Option, Some, None, option_map, option_and_then, pos, negsuc}
+use Rattle.std.specs.declared.cmp.Ordering.{Ordering}
+use Rattle.std.specs.declared.cmp.Ordering.TheVariants.{Less, Equal, Greater}
+use Rattle.std.specs.Ordering.{nat_cmp, match_ordering}
+use Rattle.std.specs.Cmp.Lexicographic.{slice_cmp}
+use Rattle.std.proofs.lemmas.Bool.{and_parts}
+use Rattle.serde_json.specs.Data as json
+use Rattle.serde_json.specs.Data.{Num, Data, Items, Members}
+use Rattle.smithy_types.specs.Documents as doc
+use Rattle.smithy_types.specs.Documents.{Document, put, put_all}
+use Rattle.smithy_serde.specs.Lawful.{is_canonical, are_items_canonical, are_members_canonical}
+use Rattle.smithy_model.specs.Documents.{number_of, document_of, items_of, pairs_of}
+
+put-canonical : (k : List ℕ) (d : Document) (ms : doc.Members) → IsTrue (is_canonical d) → IsTrue (are_members_canonical ms) → IsTrue (are_members_canonical (put k d ms))
+put-canonical k d doc.no_members c h = rw c refl
+put-canonical k d (doc.member l e ms) c h =
+    let parts = and_parts (is_canonical e) (are_members_canonical ms) h in
+    go (slice_cmp nat_cmp k l) parts.0 parts.1 (put-canonical k d ms c parts.1)
+  where
+    go : (o : Ordering) → IsTrue (is_canonical e) → IsTrue (are_members_canonical ms) → IsTrue (are_members_canonical (put k d ms))
+        → IsTrue (are_members_canonical (match_ordering o (doc.member k d (doc.member l e ms)) (doc.member l d ms) (doc.member l e (put k d ms))))
+    go Less first rest more = rw (c, first, rest) refl
+    go Equal first rest more = rw (c, rest) refl
+    go Greater first rest more = rw (first, more) refl
+
+abbrev AreCanonical : List (List ℕ × Document) → Type 0
+AreCanonical [] = Unit {0}
+AreCanonical (p ∷ ps) = IsTrue (is_canonical p.1) × AreCanonical ps
+
+put_all-canonical : (ps : List (List ℕ × Document)) (ms : doc.Members) → AreCanonical ps → IsTrue (are_members_canonical ms) → IsTrue (are_members_canonical (put_all ps ms))
+put_all-canonical [] ms c h = h
+put_all-canonical (p ∷ ps) ms c h = put_all-canonical ps (put p.0 p.1 ms) c.1 (put-canonical p.0 p.1 ms c.0 h)
+
+number-canonical : (n : Num) → IfSome (option_map doc.number (number_of n)) (λ x. IsTrue (is_canonical x))
+number-canonical (json.unsigned n) = refl
+number-canonical (json.negative (pos n)) = refl
+number-canonical (json.negative (negsuc n)) = refl
+number-canonical (json.float x) = tt
+
+array-canonical : (o : Option doc.Items) → IfSome o (λ xs. IsTrue (are_items_canonical xs)) → IfSome (option_map doc.array o) (λ x. IsTrue (is_canonical x))
+array-canonical None h = tt
+array-canonical (Some xs) h = h
+
+object-canonical : (o : Option (List (List ℕ × Document))) → IfSome o AreCanonical → IfSome (option_map (λ ps. doc.object (doc.members_of ps)) o) (λ x. IsTrue (is_canonical x))
+object-canonical None h = tt
+object-canonical (Some ps) h = put_all-canonical ps doc.no_members h refl
+
+item-canonical : (o : Option Document) (p : Option doc.Items) → IfSome o (λ x. IsTrue (is_canonical x)) → IfSome p (λ xs. IsTrue (are_items_canonical xs))
+    → IfSome (option_and_then (λ x. option_map (doc.item x) p) o) (λ xs. IsTrue (are_items_canonical xs))
+item-canonical None p h k = tt
+item-canonical (Some x) None h k = tt
+item-canonical (Some x) (Some xs) h k = rw (h, k) refl
+
+pair-canonical : (name : List ℕ) (o : Option Document) (p : Option (List (List ℕ × Document))) → IfSome o (λ x. IsTrue (is_canonical x)) → IfSome p AreCanonical
+    → IfSome (option_and_then (λ x. option_map (λ ps. (name, x) ∷ ps) p) o) AreCanonical
+pair-canonical name None p h k = tt
+pair-canonical name (Some x) None h k = tt
+pair-canonical name (Some x) (Some ps) h k = (h, k)
+
+mutual
+  pub document_of-canonical : (d : Data) → IfSome (document_of d) (λ x. IsTrue (is_canonical x))
+  document_of-canonical json.null = refl
+  document_of-canonical (json.boolean b) = refl
+  document_of-canonical (json.number n) = number-canonical n
+  document_of-canonical (json.string s) = refl
+  document_of-canonical (json.array ds) = array-canonical (items_of ds) (items_of-canonical ds)
+  document_of-canonical (json.object ms) = object-canonical (pairs_of ms) (pairs_of-canonical ms)
+
+  items_of-canonical : (ds : Items) → IfSome (items_of ds) (λ xs. IsTrue (are_items_canonical xs))
+  items_of-canonical json.no_items = refl
+  items_of-canonical (json.item d ds) = item-canonical (document_of d) (items_of ds) (document_of-canonical d) (items_of-canonical ds)
+
+  pairs_of-canonical : (ms : Members) → IfSome (pairs_of ms) AreCanonical
+  pairs_of-canonical json.no_members = tt
+  pairs_of-canonical (json.member k d ms) = pair-canonical k (document_of d) (pairs_of ms) (document_of-canonical d) (pairs_of-canonical ms)

@@ -1,0 +1,7 @@
+pub mod CanonicalLemmas
+pub mod CycleLemmas
+pub mod InputLemmas
+pub mod JobLemmas
+pub mod ScalarLemmas
+pub mod TableLemmas
+pub mod ValueLemmas

@@ -1,0 +1,9 @@
+pub mod Inputs
+pub mod JobView
+pub mod Jobs
+pub mod ReadingView
+pub mod Scalars
+pub mod Seen
+pub mod Settings
+pub mod Tables
+pub mod Values

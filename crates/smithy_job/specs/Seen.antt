@@ -1,0 +1,9 @@
+-- A borrowed name and value, seen.
+use Rattle.std.specs.Borrow.{Bor}
+use Rattle.std.specs.Prelude.{ℕ, List}
+use Rattle.serde_json.specs.Data.{Data}
+use Rattle.serde_json.specs.View.{view}
+use Rattle.serde_json.specs.declared.value.Value.{Value}
+
+abbrev pub seen : Bor (List ℕ) × Bor Value → List ℕ × Data
+seen p = (p.0.now, view p.1.now)

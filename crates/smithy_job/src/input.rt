@@ -1,0 +1,82 @@
+// The input of a job: an object, or an array of pairs of a member's name and its value.
+ghost use Rattle.std.specs.Prelude.{◌≡◌, map, option_map};
+ghost use Rattle.serde_json.specs.View.{view, items_view};
+ghost use Rattle.smithy_schema.specs.References.{schema_of};
+ghost use Rattle.smithy_job.specs.Values.{natural_label};
+ghost use Rattle.smithy_job.specs.Inputs.{named_value, pair_in, pairs_in, input};
+ghost use Rattle.smithy_job.specs.ReadingView.{KeepsNodes, ReadsWrites};
+ghost use Rattle.smithy_job.specs.Tables.{HasLabel, StandsIn};
+ghost use Rattle.smithy_job.specs.Seen.{seen};
+
+use crate::node::{ModelNodes, member_at, member_place};
+use crate::value::{members_at, value_at};
+use serde_json::Value;
+use smithy_model::{JobError, items_of};
+use smithy_schema::SchemaRef;
+use smithy_serde::WriteList;
+use std::alloc::Global;
+
+fn named_value(items: &[Value]) -> Option<(&str, &Value)>
+    ensures { option_map seen result ≡ named_value (map view items.now) }
+{
+    let [name, value] = items else {
+        return None;
+    };
+    Some((name.as_str()?, value))
+}
+
+// A name and a value.
+fn pair_of(value: &Value) -> Option<(&str, &Value)>
+    ensures { option_map seen result ≡ pair_in (view value.now) }
+{
+    named_value(items_of(value)?)
+}
+
+fn pairs_at<'v>(
+    alloc: Global,
+    model: ModelNodes<'_>,
+    names: &mut Vec<&'v str>,
+    schema: SchemaRef<'_>,
+    items: &'v [Value],
+) -> Result<WriteList, JobError>
+    requires natural { HasLabel model.table.now model.natural.0 natural_label }
+    requires schema { StandsIn model.table.now (schema_of schema) }
+    ensures kept { KeepsNodes model.entry names.old names.new result }
+    ensures writes { ReadsWrites model.entry names.new
+        (pairs_in (schema_of schema.entry) (items_view items.now)) result }
+{
+    let mut writes = WriteList::new(alloc);
+    for item in items {
+        let Some((name, value)) = pair_of(item) else {
+            return Err(JobError::NoJob);
+        };
+        let node = member_at(Some(schema), name);
+        let place = member_place(model, names, node, name)?;
+        let value = value_at(alloc, model, names, node, value)?;
+        writes.push(place, value)?;
+    }
+    Ok(writes)
+}
+
+/// The writes of an input at a schema. Adds the names in it that are no member's. Takes memory.
+/// What hasn't the form of an input, or has a float in it, is no job.
+#[tactic(auto, unfolding(crate::specs::Inputs::input))]
+pub fn read_input<'v>(
+    alloc: Global,
+    model: ModelNodes<'_>,
+    names: &mut Vec<&'v str>,
+    schema: SchemaRef<'_>,
+    value: &'v Value,
+) -> Result<WriteList, JobError>
+    requires natural { HasLabel model.table.now model.natural.0 natural_label }
+    requires schema { StandsIn model.table.now (schema_of schema) }
+    ensures kept { KeepsNodes model.entry names.old names.new result }
+    ensures writes { ReadsWrites model.entry names.new
+        (input (schema_of schema.entry) (view value.now)) result }
+{
+    match value {
+        Value::Object(members) => members_at(alloc, model, names, Some(schema), members),
+        Value::Array(items) => pairs_at(alloc, model, names, schema, items.as_slice()),
+        _ => Err(JobError::NoJob),
+    }
+}

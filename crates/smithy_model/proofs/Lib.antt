@@ -1,0 +1,12 @@
+pub mod Bytes
+pub mod DocumentLemmas
+pub mod Each
+pub mod FilledLemmas
+pub mod FurtherLemmas
+pub mod Items
+pub mod Lists
+pub mod NodeLemmas
+pub mod ReachedLemmas
+pub mod Reading
+pub mod SpotLemmas
+pub mod Views

@@ -1,0 +1,13 @@
+use Rattle.std.proofs.Common.{◌≡◌, drop, option_map}
+use Rattle.serde_json.specs.View.{items_view, members_view}
+use Rattle.smithy_types.specs.Documents.{members_of}
+use Rattle.smithy_types.specs.DocumentView.{items_view as documents_view, members_view as fields_view}
+use Rattle.smithy_model.specs.Documents.{items_of, pairs_of}
+use Rattle.smithy_model.proofs.DocumentLemmas.{and_items, put_rest}
+use Rattle.smithy_model.proofs.document.+document.Given as goal
+
+abbrev pub invariant-documents_of-loop-item : goal.invariant-documents_of-loop-item
+invariant-documents_of-loop-item l = option_map (and_items (documents_view l.found)) (items_of (items_view (drop l.item-index l.items.items))) ≡ items_of (items_view l.items.items)
+
+abbrev pub invariant-fields_of-loop-name : goal.invariant-fields_of-loop-name
+invariant-fields_of-loop-name l = put_rest (fields_view l.found) (pairs_of (members_view l.name-iterator)) ≡ option_map members_of (pairs_of (members_view l.members.entries))

@@ -1,0 +1,13 @@
+use Rattle.std.proofs.Common.{◌∙◌, ap, subst, map, Option, option_and_then, List}
+use Rattle.smithy_types.specs.Results.{each}
+use Rattle.smithy_model.specs.Reads.{Reads}
+use Rattle.smithy_model.specs.Json.{members_in}
+use Rattle.smithy_model.specs.Shapes.{member_in, Member}
+use Rattle.smithy_model.specs.ModelView.{member_view}
+use Rattle.smithy_model.proofs.Views.{members_in_view}
+use Rattle.smithy_model.proofs.shapes.members_of.Goals as goal
+
+pub returns-in-Some-as_object : goal.returns-in-Some-as_object
+returns-in-Some-as_object c =
+    let members = ap (option_and_then (each member_in)) (members_in_view _ _ c.in-Some-as_object.ensures ∙ ap (option_and_then members_in) c.in-Some.ensures) in
+    subst (λ (o : Option (List Member)). Reads (λ v. map member_view v.items) o c.members_in.result) members c.members_in.ensures

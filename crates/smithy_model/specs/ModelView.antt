@@ -1,0 +1,30 @@
+-- What the code's readings of a model stand for.
+use Rattle.std.specs.Prelude.{map, Option, option_and_then}
+use Rattle.std.specs.Borrow.{Bor}
+use Rattle.serde_json.specs.View.{view}
+use Rattle.serde_json.specs.declared.value.Value.{Value}
+use Rattle.smithy_schema.specs.Nodes as nodes
+use Rattle.smithy_schema.specs.DescribedTraits.{traits_described}
+use Rattle.smithy_model.specs.Further.{Further, further_traits}
+use Rattle.smithy_model.specs.Shapes as shapes
+use Rattle.smithy_model.specs.Operations as operations
+use Rattle.smithy_model.specs.declared.shape.ShapeTraits.{ShapeTraits}
+use Rattle.smithy_model.specs.declared.shape.Member.{Member}
+use Rattle.smithy_model.specs.declared.shape.Shape.{Shape}
+use Rattle.smithy_model.specs.declared.shape.Operation.{Operation}
+
+-- the further traits of an object, where there is one
+abbrev pub further_given : Option (Bor Value) → Option Further
+further_given given = option_and_then (λ v. further_traits (view v.now)) given
+
+abbrev pub traits_view : ShapeTraits → nodes.Traits
+traits_view t = record (traits_described t.plain) { others = further_given t.given }
+
+abbrev pub member_view : Member → shapes.Member
+member_view m = record { name = m.name.now; target = m.target.now; traits = traits_view m.traits }
+
+abbrev pub shape_view : Shape → shapes.Shape
+shape_view s = record { name = s.name.now; kind = s.kind; traits = traits_view s.traits; members = map member_view s.members.items }
+
+abbrev pub operation_view : Operation → operations.Operation
+operation_view o = record { http = o.http; input = o.input.now }

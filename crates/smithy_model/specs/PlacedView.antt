@@ -1,0 +1,27 @@
+-- The schema of an operation's input, in a table.
+use Rattle.std.specs.Prelude.{◌≡◌, codes, Option, Some, None, Result, Ok, Err}
+use Rattle.smithy_ids.specs.declared.shape_type.ShapeType.TheVariants.{Document}
+use Rattle.smithy_schema.specs.Nodes.{Node, Schema, bare_node, node_at, at_place}
+use Rattle.smithy_model.specs.declared.error.JobError.{JobError}
+use Rattle.smithy_model.specs.declared.error.JobError.TheVariants.{NoJob, OutOfMemory}
+use Rattle.smithy_model.specs.declared.table.Placed.{Placed}
+
+-- the node of natural values: the prelude's document (Smithy, prelude model)
+abbrev pub natural_node : Node
+natural_node = bare_node (codes "smithy.api#Document") Document
+
+-- the schema's table, with its place and that of the node of natural values
+pub record IsPlaced (placed : Placed) (schema : Schema) : Type 0 where
+  pub nodes : placed.table ≡ schema.table
+  pub node : at_place schema.table placed.place.0 ≡ Some schema
+  pub natural : node_at schema.table placed.natural.0 ≡ Some natural_node
+
+abbrev pub IsPlacedAt : Option Schema → Placed → Type 0
+IsPlacedAt (Some schema) placed = IsPlaced placed schema
+IsPlacedAt None placed = ⊥
+
+-- the schema is placed, and it is refused exactly where there is none; want of memory is free
+abbrev pub Places : Option Schema → Result Placed JobError → Type 0
+Places schema (Ok placed) = IsPlacedAt schema placed
+Places schema (Err NoJob) = schema ≡ None
+Places schema (Err OutOfMemory) = Unit {0}

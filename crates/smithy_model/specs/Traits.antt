@@ -1,0 +1,117 @@
+-- The traits of shapes and members.
+use Rattle.std.specs.Prelude.{ℕ, List, codes, Bool, true, false, ◌&&◌, ◌||◌, nat_le, is_some, Option, Some, None, option_map, option_and_then, if◌then◌else◌}
+use Rattle.std.specs.List.{list_all}
+use Rattle.std.specs.Option.{option_map_or}
+use Rattle.serde_json.specs.Data.{Data}
+use Rattle.serde_json.specs.Find.{get, as_str, as_number, as_u64}
+use Rattle.smithy_ids.specs.Traits.{Http, Namespace}
+use Rattle.smithy_ids.specs.declared.traits.TimestampFormat.{TimestampFormat}
+use Rattle.smithy_ids.specs.declared.traits.TimestampFormat.TheVariants.{EpochSeconds, DateTime, HttpDate}
+use Rattle.smithy_schema.specs.Nodes.{Traits, no_traits}
+use Rattle.smithy_model.specs.Json.{members_in, text_at, provided}
+use Rattle.smithy_model.specs.Names.{is, is_full_name}
+
+-- the traits whose value is a text
+abbrev pub is_text_trait : List ℕ → Bool
+is_text_trait id =
+    is id (codes "smithy.api#jsonName")
+    || is id (codes "smithy.api#xmlName")
+    || is id (codes "smithy.api#mediaType")
+    || is id (codes "smithy.api#httpQuery")
+    || is id (codes "smithy.api#httpPrefixHeaders")
+    || is id (codes "smithy.api#httpHeader")
+
+-- the traits that hold nothing: any value says that they are there
+abbrev pub is_flag_trait : List ℕ → Bool
+is_flag_trait id =
+    is id (codes "smithy.api#httpQueryParams")
+    || is id (codes "smithy.api#httpLabel")
+    || is id (codes "smithy.api#httpPayload")
+    || is id (codes "smithy.api#httpResponseCode")
+    || is id (codes "smithy.api#streaming")
+    || is id (codes "smithy.api#xmlAttribute")
+    || is id (codes "smithy.api#xmlFlattened")
+    || is id (codes "smithy.api#sensitive")
+    || is id (codes "smithy.api#hostLabel")
+    || is id (codes "smithy.api#eventHeader")
+    || is id (codes "smithy.api#eventPayload")
+
+-- the traits that have a field of their own
+abbrev pub is_named_trait : List ℕ → Bool
+is_named_trait id =
+    is_text_trait id || is_flag_trait id || is id (codes "smithy.api#xmlNamespace") || is id (codes "smithy.api#timestampFormat")
+
+abbrev pub is_text : Data → Bool
+is_text d = is_some (as_str d)
+
+-- an object with a `uri` and an optional `prefix` (Smithy, xmlNamespace trait)
+abbrev pub is_namespace : Data → Bool
+is_namespace d = option_map_or is_text (get (codes "uri") d) false && option_map_or is_text (get (codes "prefix") d) true
+
+-- one of the three formats (Smithy, timestampFormat trait)
+abbrev pub time_format : List ℕ → Option TimestampFormat
+time_format text =
+    if is text (codes "date-time") then Some DateTime
+    else (if is text (codes "http-date") then Some HttpDate
+    else (if is text (codes "epoch-seconds") then Some EpochSeconds else None))
+
+abbrev pub time_format_in : Data → Option TimestampFormat
+time_format_in d = option_and_then time_format (as_str d)
+
+-- the value of a trait with this name has the trait's form
+abbrev pub has_form : List ℕ → Data → Bool
+has_form id d =
+    if is_text_trait id then is_text d
+    else (if is id (codes "smithy.api#xmlNamespace") then is_namespace d
+    else (if is id (codes "smithy.api#timestampFormat") then is_some (time_format_in d) else true))
+
+abbrev pub is_fit_trait : List ℕ × Data → Bool
+is_fit_trait entry = is_full_name entry.0 && has_form entry.0 entry.1
+
+-- an object of full names, each with a value of its form
+abbrev pub are_fit_traits : Data → Bool
+are_fit_traits d = option_map_or (list_all is_fit_trait) (members_in d) false
+
+abbrev pub has : List ℕ → Data → Bool
+has id traits = is_some (get id traits)
+
+abbrev pub namespace_in : Data → Option Namespace
+namespace_in d = option_map (λ u. record { uri = u; prefix = text_at (codes "prefix") d }) (text_at (codes "uri") d)
+
+-- the traits with a field of their own, by their names; `@http` is of operations alone
+abbrev pub plain_traits : Data → Traits
+plain_traits d = record no_traits {
+  http_header = text_at (codes "smithy.api#httpHeader") d;
+  http_prefix_headers = text_at (codes "smithy.api#httpPrefixHeaders") d;
+  http_query = text_at (codes "smithy.api#httpQuery") d;
+  http_query_params = has (codes "smithy.api#httpQueryParams") d;
+  http_label = has (codes "smithy.api#httpLabel") d;
+  http_payload = has (codes "smithy.api#httpPayload") d;
+  http_response_code = has (codes "smithy.api#httpResponseCode") d;
+  media_type = text_at (codes "smithy.api#mediaType") d;
+  timestamp_format = option_and_then time_format_in (get (codes "smithy.api#timestampFormat") d);
+  streaming = has (codes "smithy.api#streaming") d;
+  json_name = text_at (codes "smithy.api#jsonName") d;
+  xml_name = text_at (codes "smithy.api#xmlName") d;
+  xml_namespace = option_and_then namespace_in (get (codes "smithy.api#xmlNamespace") d);
+  xml_attribute = has (codes "smithy.api#xmlAttribute") d;
+  xml_flattened = has (codes "smithy.api#xmlFlattened") d;
+  sensitive = has (codes "smithy.api#sensitive") d;
+  host_label = has (codes "smithy.api#hostLabel") d;
+  event_header = has (codes "smithy.api#eventHeader") d;
+  event_payload = has (codes "smithy.api#eventPayload") d;
+}
+
+-- a whole number up to 65535
+abbrev pub code_in : Data → Option ℕ
+code_in d = option_and_then (λ n. provided (nat_le n 65535) (Some n)) (option_and_then as_u64 (as_number d))
+
+-- the code of `@http`, 200 where there is none, and none where it has not its form
+abbrev pub code_at : Option Data → Option ℕ
+code_at None = Some 200
+code_at (Some d) = code_in d
+
+-- method, URI and code (Smithy, http trait)
+abbrev pub http_in : Data → Option Http
+http_in d =
+    option_and_then (λ m. option_and_then (λ u. option_map (λ c. record { method = m; uri = u; code = c }) (code_at (get (codes "code") d))) (text_at (codes "uri") d)) (text_at (codes "method") d)

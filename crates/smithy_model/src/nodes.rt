@@ -1,0 +1,177 @@
+// The nodes of members and shapes.
+ghost use Rattle.std.specs.Prelude.{◌≡◌, ◌∷◌, [], true, false, None, Some, map, IfOk, OnOk};
+ghost use Rattle.std.specs.List.{range_with_len};
+ghost use Rattle.smithy_ids.specs.ShapeIds.{has_hash};
+ghost use Rattle.smithy_ids.specs.ShapeIdParts.{parts_of};
+ghost use Rattle.smithy_schema.specs.Places.{places_of};
+ghost use Rattle.smithy_model.specs.Nodes as defined;
+ghost use Rattle.smithy_model.specs.ModelView.{member_view};
+ghost use Rattle.smithy_model.specs.SpotView.{spot_view};
+ghost use Rattle.smithy_model.specs.NodeView.{spots_of, IsFilledBy};
+
+use crate::further::with_traits;
+use crate::passed::{copied, passed_traits};
+use crate::shape::Member;
+use crate::spots::{Spot, SpotMap, place_behind};
+use crate::structure::{are_outside, hint_of, is_structure};
+use smithy_ids::{HttpTrait, ShapeId, ShapeType};
+use smithy_schema::{Schema, SchemaIndex, Schemas};
+use smithy_types::OutOfMemory;
+use std::alloc::Global;
+
+// The identifier with this full name.
+fn shape_id(name: &str) -> ShapeId<'_>
+    requires { has_hash name.now ≡ true }
+    ensures { (parts_of result).full_name ≡ name.now }
+{
+    match ShapeId::parse(name) {
+        Some(id) => id,
+        None => unreachable!(),
+    }
+}
+
+// Gives a declared place its node. The nodes come in the table's order, with places below its length, so that a table
+// refuses them for want of memory alone.
+fn define(table: &mut Schemas, place: usize, schema: Schema<'_>) -> Result<(), OutOfMemory>
+    ensures { OnOk result (IsFilledBy place (schema.entry ∷ []) table.old table.new) }
+{
+    match table.define(SchemaIndex(place), schema) {
+        Ok(()) => Ok(()),
+        Err(_) => Err(OutOfMemory),
+    }
+}
+
+// The same, citing what a shape of this kind holds, whose first member has this place. Condition: it cites nothing of that.
+fn holding<'a>(schema: Schema<'a>, kind: ShapeType, first: usize) -> Result<Schema<'a>, OutOfMemory>
+    requires { schema ≡ record schema { members = []; element = None; key = None; value = None } }
+    ensures { IfOk result (λ s. s ≡ defined.holding kind first schema.entry) }
+{
+    match kind {
+        ShapeType::List => Ok(schema.with_list_member(SchemaIndex(first))),
+        ShapeType::Map => {
+            let second = place_behind(first, 1)?;
+            Ok(schema.with_map_members(SchemaIndex(first), SchemaIndex(second)))
+        }
+        _ => Ok(schema),
+    }
+}
+
+// A member's node without its traits, of the shape at a spot.
+fn member_schema<'a>(
+    id: ShapeId<'a>,
+    spot: Spot<'_, '_>,
+    name: &'a str,
+    position: usize,
+) -> Result<Schema<'a>, OutOfMemory>
+    ensures { IfOk result (λ s.
+        s ≡ defined.bare_member (parts_of id.entry).full_name position name.now (spot_view spot.entry)) }
+{
+    let schema = Schema::new_member(id, spot.shape.kind, name, position).with_target(SchemaIndex(
+        spot.place,
+    ));
+    holding(schema, spot.shape.kind, spot.first)
+}
+
+/// Gives a place the node of a member of the shape of this name, of the shape at a spot. Takes memory.
+pub fn define_member<'v, 's>(
+    alloc: Global,
+    table: &mut Schemas,
+    spots: &SpotMap<'v, 's>,
+    place: usize,
+    shape: &str,
+    position: usize,
+    member: &Member<'v>,
+    spot: Spot<'v, 's>,
+) -> Result<(), OutOfMemory>
+    requires { has_hash shape.now ≡ true }
+    ensures { OnOk result (IsFilledBy place
+        (defined.member_of (spots_of spots.now) shape.now position (member_view member.now) (spot_view spot.entry) ∷ [])
+        table.old table.new) }
+{
+    let traits = passed_traits(spots, &member.traits, spot.shape);
+    let name = member.name;
+    let full_name = format!(in alloc; "{shape}${name}")?;
+    let schema = member_schema(shape_id(full_name.as_str()), spot, name, position)?;
+    define(table, place, with_traits(alloc, schema, traits)?)
+}
+
+// The places from this one, as many as there are members.
+fn places_from(alloc: Global, first: usize, count: usize) -> Result<Vec<SchemaIndex>, OutOfMemory>
+    ensures { IfOk result (λ places. places_of places.items ≡ range_with_len first count) }
+{
+    let mut places = Vec::new(alloc);
+    for position in 0..count {
+        places.push(SchemaIndex(place_behind(first, position)?))?;
+    }
+    Ok(places)
+}
+
+fn with_flag<'a>(schema: Schema<'a>, are_outside: bool) -> Schema<'a>
+    requires { schema.has_no_body_members ≡ false }
+    ensures { result ≡ record schema.entry { has_no_body_members = are_outside } }
+{
+    if are_outside {
+        schema.with_no_body_members()
+    } else {
+        schema
+    }
+}
+
+fn with_http<'a>(schema: Schema<'a>, http: Option<HttpTrait<'a>>) -> Schema<'a>
+    ensures { result ≡ defined.with_http http.entry schema.entry }
+{
+    match http {
+        Some(http) => schema.with_http(http),
+        None => schema,
+    }
+}
+
+// Gives a place the node of a structure or a union, with an operation's `@http`.
+fn define_structure<'v, 's>(
+    alloc: Global,
+    table: &mut Schemas,
+    spots: &SpotMap<'v, 's>,
+    place: usize,
+    spot: Spot<'v, 's>,
+    http: Option<HttpTrait<'v>>,
+) -> Result<(), OutOfMemory>
+    requires structure { defined.is_structure spot.shape.now.kind ≡ true }
+    requires name { has_hash spot.shape.now.name.now ≡ true }
+    ensures { OnOk result (IsFilledBy place
+        (defined.input_node (spots_of spots.now) http.entry (spot_view spot.entry) ∷ []) table.old table.new) }
+{
+    let shape = spot.shape;
+    let members = shape.members.as_slice();
+    let places = places_from(alloc, spot.first, members.len())?;
+    let schema = Schema::new_struct(
+        shape_id(shape.name),
+        shape.kind,
+        places.as_slice(),
+    ).with_payload_hint(hint_of(spots, members));
+    let schema = with_flag(schema, are_outside(members));
+    let schema = with_traits(alloc, schema, copied(&shape.traits))?;
+    define(table, place, with_http(schema, http))
+}
+
+/// Gives a place the node of a shape, with an operation's `@http`. Takes memory.
+pub fn define_shape<'v, 's>(
+    alloc: Global,
+    table: &mut Schemas,
+    spots: &SpotMap<'v, 's>,
+    place: usize,
+    spot: Spot<'v, 's>,
+    http: Option<HttpTrait<'v>>,
+) -> Result<(), OutOfMemory>
+    requires { has_hash spot.shape.now.name.now ≡ true }
+    ensures { OnOk result (IsFilledBy place
+        (defined.input_node (spots_of spots.now) http.entry (spot_view spot.entry) ∷ []) table.old table.new) }
+{
+    let shape = spot.shape;
+    if is_structure(shape.kind) {
+        return define_structure(alloc, table, spots, place, spot, http);
+    }
+    let schema = Schema::new(shape_id(shape.name), shape.kind);
+    let schema = holding(schema, shape.kind, spot.first)?;
+    let schema = with_traits(alloc, schema, copied(&shape.traits))?;
+    define(table, place, with_http(schema, http))
+}

@@ -1,0 +1,126 @@
+// The shapes that are reached from one.
+ghost use Rattle.std.specs.Prelude.{◌≡◌, ◌++◌, ◌∷◌, [], false, map, IfOk, OnOk};
+ghost use Rattle.serde_json.specs.View.{view};
+ghost use Rattle.smithy_model.specs.Reached.{is_among, with_name, with_names, with_targets, names_of, reached};
+ghost use Rattle.smithy_model.specs.Reads.{Reads};
+ghost use Rattle.smithy_model.specs.ModelView.{member_view, shape_view};
+ghost use Rattle.smithy_model.specs.PlaceView.{texts, ArePlaces};
+ghost use Rattle.smithy_model.specs.ReachedView.{IsWhole};
+
+use crate::error::JobError;
+use crate::prelude::prelude;
+use crate::shape::{Member, Shape};
+use crate::shapes::shape_at;
+use serde_json::Value;
+use std::alloc::{AllocError, Global};
+use std::collections::BTreeMap;
+
+/// Shapes, with the place of each among them by its name.
+#[derive(Drop)]
+pub struct Reached<'v> {
+    pub shapes: Vec<Shape<'v>>,
+    pub places: BTreeMap<&'v str, usize>,
+}
+
+// Adds a name that isn't there, with its place.
+fn add<'v>(
+    names: &mut Vec<&'v str>,
+    places: &mut BTreeMap<&'v str, usize>,
+    name: &'v str,
+) -> Result<(), AllocError>
+    requires places { ArePlaces places.old (texts names.old.items) }
+    requires absent { is_among (texts names.old.items) name.now ≡ false }
+    ensures names { OnOk result (texts names.new.items ≡ texts names.old.items ++ name.now ∷ []) }
+    ensures places { OnOk result (ArePlaces places.new (texts names.new.items)) }
+{
+    let place = names.as_slice().len();
+    names.push(name)?;
+    places.insert(name, place)?;
+    Ok(())
+}
+
+// Adds a name where it isn't there yet, with its place.
+fn meet<'v>(
+    names: &mut Vec<&'v str>,
+    places: &mut BTreeMap<&'v str, usize>,
+    name: &'v str,
+) -> Result<(), AllocError>
+    requires { ArePlaces places.old (texts names.old.items) }
+    ensures names { OnOk result (texts names.new.items ≡ with_name (texts names.old.items) name.now) }
+    ensures places { OnOk result (ArePlaces places.new (texts names.new.items)) }
+{
+    match places.get(name) {
+        Some(_) => Ok(()),
+        None => add(names, places, name),
+    }
+}
+
+// Adds the names of the targets of these members.
+fn meet_targets<'v>(
+    names: &mut Vec<&'v str>,
+    places: &mut BTreeMap<&'v str, usize>,
+    members: &[Member<'v>],
+) -> Result<(), AllocError>
+    requires { ArePlaces places.old (texts names.old.items) }
+    ensures names { OnOk result
+        (texts names.new.items ≡ with_targets (texts names.old.items) (map member_view members.now)) }
+    ensures places { OnOk result (ArePlaces places.new (texts names.new.items)) }
+{
+    for member in members {
+        meet(names, places, member.target)?;
+    }
+    Ok(())
+}
+
+// Adds the names of these shapes.
+fn meet_shapes<'v>(
+    names: &mut Vec<&'v str>,
+    places: &mut BTreeMap<&'v str, usize>,
+    shapes: &[Shape<'v>],
+) -> Result<(), AllocError>
+    requires { ArePlaces places.old (texts names.old.items) }
+    ensures names { OnOk result
+        (texts names.new.items ≡ with_names (texts names.old.items) (names_of (map shape_view shapes.now))) }
+    ensures places { OnOk result (ArePlaces places.new (texts names.new.items)) }
+{
+    for shape in shapes {
+        meet(names, places, shape.name)?;
+    }
+    Ok(())
+}
+
+/// The shapes of the prelude, and those of a model that are reached from this name, in the order in which they are met.
+/// It looks at each shape once. Takes memory.
+///
+/// No job where a name has no shape, or one that hasn't its form (Smithy, JSON AST).
+pub fn shapes_from<'v>(
+    alloc: Global,
+    shapes: &'v Value,
+    name: &'v str,
+) -> Result<Reached<'v>, JobError>
+    ensures shapes { Reads (λ r. map shape_view r.shapes.items) (reached (view shapes.now) name.now) result }
+    ensures whole { IfOk result IsWhole }
+{
+    let Some(object) = shapes.as_object() else {
+        return Err(JobError::NoJob);
+    };
+    let mut found = prelude(alloc)?;
+    let mut names = Vec::new(alloc);
+    let mut places = BTreeMap::new(alloc);
+    meet_shapes(&mut names, &mut places, found.as_slice())?;
+    meet(&mut names, &mut places, name)?;
+    let mut rest = object.len();
+    'walk: while let Some(name) = names.as_slice().get(found.as_slice().len()) {
+        let shape = shape_at(alloc, shapes, name)?;
+        meet_targets(&mut names, &mut places, shape.members.as_slice())?;
+        found.push(shape)?;
+        if rest == 0 {
+            return Err(JobError::NoJob);
+        }
+        rest -= 1;
+    }
+    Ok(Reached {
+        shapes: found,
+        places,
+    })
+}

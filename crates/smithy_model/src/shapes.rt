@@ -1,0 +1,277 @@
+// The shapes of a model.
+ghost use Rattle.std.specs.Prelude.{◌≡◌, true, map, option_map, OnSome};
+ghost use Rattle.smithy_ids.specs.ShapeIds.{has_hash};
+ghost use Rattle.serde_json.specs.View.{view};
+ghost use Rattle.smithy_types.specs.Results.{each};
+ghost use Rattle.smithy_model.specs.Reads.{Reads};
+ghost use Rattle.smithy_model.specs.Seen.{entry_view};
+ghost use Rattle.smithy_model.specs.Shapes.{member_at, member_in, part_at, members_at, element_in, key_and_value_in, members_by, number_kind, simple_kind, other_kind, kind_named, kind_in, has_no_mixins, shape_with, shape_in, is_of_prelude, found_at, shape_at};
+ghost use Rattle.smithy_model.specs.ModelView.{member_view, shape_view};
+
+use crate::error::JobError;
+use crate::json_value::{items_of, text_of};
+use crate::name::is_full_name;
+use crate::shape::{Member, Shape};
+use crate::traits::traits_of;
+use serde_json::{Map, Value};
+use smithy_ids::ShapeType;
+use std::alloc::Global;
+
+fn read_member<'v>(name: &'v str, value: &'v Value) -> Option<Member<'v>>
+    ensures { option_map member_view result ≡ member_at name.now (view value.now) }
+{
+    let target = text_of(value, "target")?;
+    let traits = traits_of(value)?;
+    Some(Member {
+        name,
+        target,
+        traits,
+    })
+}
+
+// The member under a key of the shape's own.
+fn part_at<'v>(key: &'static str, shape: &'v Value) -> Option<Member<'v>>
+    ensures { option_map member_view result ≡ part_at key.now (view shape.now) }
+{
+    read_member(key, shape.get(key)?)
+}
+
+fn members_in<'v>(
+    alloc: Global,
+    members: &'v Map<String, Value>,
+) -> Result<Vec<Member<'v>>, JobError>
+    ensures { Reads (λ v. map member_view v.items)
+        (each member_in (map entry_view members.now.entries)) result }
+{
+    let mut found = Vec::new(alloc);
+    for (name, value) in members.iter() {
+        let Some(member) = read_member(name.as_str(), value) else {
+            return Err(JobError::NoJob);
+        };
+        found.push(member)?;
+    }
+    Ok(found)
+}
+
+// The members of a structure or a union, in byte order of their names.
+fn members_of<'v>(alloc: Global, shape: &'v Value) -> Result<Vec<Member<'v>>, JobError>
+    ensures { Reads (λ v. map member_view v.items) (members_at (view shape.now)) result }
+{
+    let Some(value) = shape.get("members") else {
+        return Err(JobError::NoJob);
+    };
+    match value.as_object() {
+        Some(members) => members_in(alloc, members),
+        None => Err(JobError::NoJob),
+    }
+}
+
+// The element of a list.
+fn element_of<'v>(alloc: Global, shape: &'v Value) -> Result<Vec<Member<'v>>, JobError>
+    ensures { Reads (λ v. map member_view v.items) (element_in (view shape.now)) result }
+{
+    let Some(element) = part_at("member", shape) else {
+        return Err(JobError::NoJob);
+    };
+    Ok(vec![in alloc; element]?)
+}
+
+// The key and the value of a map.
+fn key_and_value_of<'v>(alloc: Global, shape: &'v Value) -> Result<Vec<Member<'v>>, JobError>
+    ensures { Reads (λ v. map member_view v.items) (key_and_value_in (view shape.now)) result }
+{
+    let Some(key) = part_at("key", shape) else {
+        return Err(JobError::NoJob);
+    };
+    let Some(value) = part_at("value", shape) else {
+        return Err(JobError::NoJob);
+    };
+    Ok(vec![in alloc; key, value]?)
+}
+
+fn members_by<'v>(
+    alloc: Global,
+    kind: ShapeType,
+    shape: &'v Value,
+) -> Result<Vec<Member<'v>>, JobError>
+    ensures { Reads (λ v. map member_view v.items) (members_by kind (view shape.now)) result }
+{
+    match kind {
+        ShapeType::Structure => members_of(alloc, shape),
+        ShapeType::Union => members_of(alloc, shape),
+        ShapeType::List => element_of(alloc, shape),
+        ShapeType::Map => key_and_value_of(alloc, shape),
+        _ => Ok(Vec::new(alloc)),
+    }
+}
+
+fn number_kind(name: &str) -> Option<ShapeType>
+    ensures { result ≡ number_kind name.now }
+{
+    if name == "byte" {
+        return Some(ShapeType::Byte);
+    }
+    if name == "short" {
+        return Some(ShapeType::Short);
+    }
+    if name == "integer" {
+        return Some(ShapeType::Integer);
+    }
+    if name == "long" {
+        return Some(ShapeType::Long);
+    }
+    if name == "float" {
+        return Some(ShapeType::Float);
+    }
+    if name == "double" {
+        return Some(ShapeType::Double);
+    }
+    if name == "bigInteger" {
+        return Some(ShapeType::BigInteger);
+    }
+    if name == "bigDecimal" {
+        return Some(ShapeType::BigDecimal);
+    }
+    None
+}
+
+fn simple_kind(name: &str) -> Option<ShapeType>
+    ensures { result ≡ simple_kind name.now }
+{
+    if name == "boolean" {
+        return Some(ShapeType::Boolean);
+    }
+    if name == "string" {
+        return Some(ShapeType::String);
+    }
+    if name == "blob" {
+        return Some(ShapeType::Blob);
+    }
+    if name == "timestamp" {
+        return Some(ShapeType::Timestamp);
+    }
+    if name == "document" {
+        return Some(ShapeType::Document);
+    }
+    None
+}
+
+fn other_kind(name: &str) -> Option<ShapeType>
+    ensures { result ≡ other_kind name.now }
+{
+    if name == "enum" {
+        return Some(ShapeType::String);
+    }
+    if name == "intEnum" {
+        return Some(ShapeType::Integer);
+    }
+    if name == "list" {
+        return Some(ShapeType::List);
+    }
+    if name == "set" {
+        return Some(ShapeType::List);
+    }
+    if name == "map" {
+        return Some(ShapeType::Map);
+    }
+    if name == "structure" {
+        return Some(ShapeType::Structure);
+    }
+    if name == "union" {
+        return Some(ShapeType::Union);
+    }
+    None
+}
+
+fn kind_named(name: &str) -> Option<ShapeType>
+    ensures { result ≡ kind_named name.now }
+{
+    match number_kind(name) {
+        Some(kind) => Some(kind),
+        None => match simple_kind(name) {
+            Some(kind) => Some(kind),
+            None => other_kind(name),
+        },
+    }
+}
+
+fn kind_of(shape: &Value) -> Option<ShapeType>
+    ensures { result ≡ kind_in (view shape.now) }
+{
+    kind_named(text_of(shape, "type")?)
+}
+
+/// Whether a shape has no mixins (Smithy, JSON AST). Takes no memory.
+pub fn has_no_mixins(shape: &Value) -> bool
+    ensures { result ≡ has_no_mixins (view shape.now) }
+{
+    match shape.get("mixins") {
+        None => true,
+        Some(mixins) => match items_of(mixins) {
+            Some(items) => items.is_empty(),
+            None => false,
+        },
+    }
+}
+
+fn shape_with<'v>(
+    alloc: Global,
+    name: &'v str,
+    shape: &'v Value,
+    kind: ShapeType,
+) -> Result<Shape<'v>, JobError>
+    ensures { Reads shape_view (shape_with name.now (view shape.now) kind) result }
+{
+    let Some(traits) = traits_of(shape) else {
+        return Err(JobError::NoJob);
+    };
+    let members = members_by(alloc, kind, shape)?;
+    Ok(Shape {
+        name,
+        kind,
+        traits,
+        members,
+    })
+}
+
+fn shape_in<'v>(alloc: Global, name: &'v str, shape: &'v Value) -> Result<Shape<'v>, JobError>
+    ensures { Reads shape_view (shape_in name.now (view shape.now)) result }
+{
+    if !has_no_mixins(shape) {
+        return Err(JobError::NoJob);
+    }
+    match kind_of(shape) {
+        Some(kind) => shape_with(alloc, name, shape, kind),
+        None => Err(JobError::NoJob),
+    }
+}
+
+fn is_of_prelude(name: &str) -> bool
+    ensures { result ≡ is_of_prelude name.now }
+{
+    name.as_bytes().starts_with(b"smithy.api#")
+}
+
+/// What the shapes of a model have at a full name that isn't the prelude's. Takes no memory.
+pub fn found_at<'v>(shapes: &'v Value, name: &str) -> Option<&'v Value>
+    ensures found { option_map (λ v. view v.now) result ≡ found_at (view shapes.now) name.now }
+    ensures named { OnSome result (has_hash name.now ≡ true) }
+{
+    if !is_full_name(name) || is_of_prelude(name) {
+        return None;
+    }
+    shapes.get(name)
+}
+
+/// The shape that a model has at this name. Takes memory for the list of its members.
+///
+/// No job where it has none, or one that hasn't its form.
+#[tactic(auto, unfolding(crate::specs::Shapes::shape_at))]
+pub fn shape_at<'v>(alloc: Global, shapes: &'v Value, name: &'v str) -> Result<Shape<'v>, JobError>
+    ensures { Reads shape_view (shape_at (view shapes.now) name.now) result }
+{
+    match found_at(shapes, name) {
+        Some(shape) => shape_in(alloc, name, shape),
+        None => Err(JobError::NoJob),
+    }
+}

@@ -1,0 +1,141 @@
+// The table of the shapes that an operation reaches.
+ghost use Rattle.std.specs.Prelude.{◌≡◌, [], true, map, IfOk, OnOk};
+ghost use Rattle.std.specs.List.{list_all};
+ghost use Rattle.smithy_ids.specs.ShapeIds.{has_hash};
+ghost use Rattle.smithy_model.specs.Nodes as defined;
+ghost use Rattle.smithy_model.specs.ModelView.{member_view, shape_view};
+ghost use Rattle.smithy_model.specs.ReachedView.{IsWhole};
+ghost use Rattle.smithy_model.specs.NodeView.{spots_of, filled, Fills, IsFilledBy};
+ghost use Rattle.smithy_model.specs.PlacedView.{Places};
+
+use crate::error::JobError;
+use crate::nodes::{define_member, define_shape};
+use crate::passed::spot_named;
+use crate::reached::Reached;
+use crate::shape::{Member, Shape};
+use crate::spots::{SpotMap, member_count, place_behind, spots_from};
+use smithy_ids::HttpTrait;
+use smithy_schema::{SchemaIndex, Schemas};
+use smithy_types::OutOfMemory;
+use std::alloc::Global;
+
+/// The schema of an operation's input in a table of nodes: the members of all shapes that it reaches, each shape's behind
+/// those of the shape before it, then the shapes, then the input with the operation's `@http`.
+#[derive(Drop)]
+pub struct Placed {
+    pub table: Schemas,
+    /// The input's place, the last one.
+    pub place: SchemaIndex,
+    /// The place of the prelude's document, the node of values without a node of their own.
+    pub natural: SchemaIndex,
+}
+
+// A table with this many places that are only declared.
+fn declared(alloc: Global, count: usize) -> Result<Schemas, OutOfMemory>
+    ensures { IfOk result (λ t. t ≡ filled [] count) }
+{
+    let mut table = Schemas::new(alloc);
+    for place in 0..count {
+        let _ = place;
+        if table.declare().is_err() {
+            return Err(OutOfMemory);
+        }
+    }
+    Ok(table)
+}
+
+// Gives the members of a shape their nodes, the first one at this place. No job where a target isn't there.
+fn define_members<'v, 's>(
+    alloc: Global,
+    table: &mut Schemas,
+    spots: &SpotMap<'v, 's>,
+    first: usize,
+    shape: &str,
+    members: &[Member<'v>],
+) -> Result<(), JobError>
+    requires { has_hash shape.now ≡ true }
+    ensures { Fills first table.old table.new
+        (defined.member_nodes_from (spots_of spots.now) shape.now 0 (map member_view members.now)) result }
+{
+    for (position, member) in members.iter().enumerate() {
+        let Some(spot) = spot_named(spots, member.target) else {
+            return Err(JobError::NoJob);
+        };
+        let place = place_behind(first, position)?;
+        define_member(alloc, table, spots, place, shape, position, member, spot)?;
+    }
+    Ok(())
+}
+
+// Gives the members of all shapes their nodes, from the first place on. No job where a target isn't there.
+fn define_all_members<'v, 's>(
+    alloc: Global,
+    table: &mut Schemas,
+    spots: &SpotMap<'v, 's>,
+    shapes: &'s [Shape<'v>],
+) -> Result<(), JobError>
+    requires { list_all (λ s. has_hash s.name) (map shape_view shapes.now) ≡ true }
+    ensures { Fills 0 table.old table.new
+        (defined.member_nodes (spots_of spots.now) (map shape_view shapes.now)) result }
+{
+    let mut first = 0;
+    for shape in shapes {
+        let members = shape.members.as_slice();
+        define_members(alloc, table, spots, first, shape.name, members)?;
+        first = place_behind(first, members.len())?;
+    }
+    Ok(())
+}
+
+// Gives the shapes their nodes, from this place on.
+fn define_shapes<'v, 's>(
+    alloc: Global,
+    table: &mut Schemas,
+    spots: &SpotMap<'v, 's>,
+    first: usize,
+) -> Result<(), OutOfMemory>
+    requires { list_all (λ s. has_hash s.shape.name) (spots_of spots.now) ≡ true }
+    ensures { OnOk result (IsFilledBy first
+        (map (defined.shape_node (spots_of spots.now)) (spots_of spots.now)) table.old table.new) }
+{
+    for (index, spot) in spots.spots.as_slice().iter().enumerate() {
+        let place = place_behind(first, index)?;
+        define_shape(alloc, table, spots, place, *spot, None)?;
+    }
+    Ok(())
+}
+
+/// The table of these shapes, with the input of an operation at its last place. Takes memory.
+///
+/// No job where a target, or the input itself, isn't among the shapes.
+#[tactic(auto, unfolding(crate::specs::Nodes::schema_of))]
+pub fn table_of<'v>(
+    alloc: Global,
+    reached: &Reached<'v>,
+    http: Option<HttpTrait<'v>>,
+    input: &str,
+) -> Result<Placed, JobError>
+    requires { IsWhole reached.now }
+    ensures { Places
+        (defined.schema_of (map shape_view reached.now.shapes.items) http.entry input.now) result }
+{
+    let shapes = reached.shapes.as_slice();
+    let count = member_count(shapes)?;
+    let place = place_behind(count, shapes.len())?;
+    let spots = SpotMap {
+        spots: spots_from(alloc, shapes, count)?,
+        places: &reached.places,
+    };
+    let Some(spot) = spot_named(&spots, input) else {
+        return Err(JobError::NoJob);
+    };
+    let mut table = declared(alloc, place_behind(place, 1)?)?;
+    define_all_members(alloc, &mut table, &spots, shapes)?;
+    define_shapes(alloc, &mut table, &spots, count)?;
+    define_shape(alloc, &mut table, &spots, place, spot, http)?;
+    Ok(Placed {
+        table,
+        place: SchemaIndex(place),
+        natural: SchemaIndex(count),
+    })
+}
