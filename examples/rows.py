@@ -6,15 +6,14 @@ import sys
 
 here = os.path.dirname(os.path.abspath(__file__))
 rows = os.path.join(here, "..", "crates", "job_rows")
-ends = {}
+ends = []
 with open(f"{rows}/stdin", encoding="utf-8") as given, open(f"{rows}/stdout", encoding="utf-8") as wanted:
     for row, end in zip(map(json.loads, given), wanted):
-        if row["words"] == ["request"] and isinstance(row["job"], str):
-            ends[row["job"]] = json.loads(end.split(" ", 1)[1])
+        ends.append((row["job"], json.loads(end.split(" ", 1)[1])))
 
 names = sorted(glob.glob(f"{here}/*.json"))
 for name in names:
     with open(name, encoding="utf-8") as job, open(name.replace(".json", ".txt"), encoding="utf-8") as answer:
-        if ends.get(job.read()) != answer.read():
+        if (job.read(), answer.read()) not in ends:
             sys.exit(f"{name}: no row has this job with its answer")
 print(f"{len(names)} examples stand as rows")

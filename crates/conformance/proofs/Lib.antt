@@ -15,3 +15,4 @@ pub mod SecondSample
 pub mod Sizes
 pub mod SpacedTexts
 pub mod Told
+pub mod Untold

@@ -8,7 +8,10 @@ use smithy_document::{JsonCodec, json_is_lawful};
 use smithy_ids::{HttpTrait, ShapeId, ShapeType};
 use smithy_io::{SureSink, SureSource};
 use smithy_schema::{Schema, SchemaIndex, SchemaRef, Schemas};
-use smithy_serde::{Codec, OmitFlags, ShapeValue, StructValue, WriteList, value_text};
+use smithy_serde::laws::texts_tell_apart;
+use smithy_serde::{
+    Codec, OmitFlags, ShapeDeserializer, ShapeValue, StructValue, WriteList, value_text,
+};
 use smithy_types::{Blob, Text};
 use std::alloc::Global;
 use std::process::Abort;
@@ -21,11 +24,27 @@ fn a_value_has_its_text(rt: HostRuntime) {
     let node = SchemaRef::prelude(ShapeType::Document);
     let codec = JsonCodec;
     json_is_lawful(&codec);
+    texts_tell_apart(&codec);
     let serializer = codec
         .create_serializer(rt.alloc())
         .expect(&rt, "no serializer");
     let text = value_text(serializer, node, &table, &ShapeValue::Null).expect(&rt, "no text");
     assert_eq!(rt; text.as_slice(), b"null".as_slice());
+}
+
+#[test]
+fn a_text_is_read_without_its_line_feed(rt: HostRuntime) {
+    let codec = SpacedJson;
+    let node = SchemaRef::prelude(ShapeType::Document);
+    for (text, count) in [("[1,2]\n", 2), ("[1]", 1), ("[]\n\n", 0)] {
+        let mut reader = codec
+            .create_deserializer(rt.alloc(), text.as_bytes())
+            .expect(&rt, "no reader");
+        let items = reader
+            .read_integer_list(rt.alloc(), node)
+            .expect(&rt, "no list");
+        assert_eq!(rt; items.len(), count);
+    }
 }
 
 const JOB: &str =
@@ -47,11 +66,11 @@ fn a_job_has_the_codecs_body(rt: HostRuntime) -> Result<(), Fail> {
     Ok(())
 }
 
-fn shape() -> ShapeId<'static> {
+pub(crate) fn shape() -> ShapeId<'static> {
     ShapeId::from_parts("ex#In", "ex", "In")
 }
 
-fn inserted(rt: &impl Abort, table: &mut Schemas, schema: Schema<'_>) -> SchemaIndex {
+pub(crate) fn inserted(rt: &impl Abort, table: &mut Schemas, schema: Schema<'_>) -> SchemaIndex {
     table.insert(schema).expect(rt, "no place")
 }
 

@@ -4,7 +4,11 @@
 #[cfg(test)]
 mod codecs;
 #[cfg(test)]
+mod consumers;
+#[cfg(test)]
 mod jobs;
+#[cfg(test)]
+mod skipping;
 pub mod spaced_json;
 #[cfg(test)]
 mod texts;

@@ -2,11 +2,12 @@
 use Rattle.std.specs.Prelude.{ℕ, codes, List, Bool, Result, Ok, Err, Option, Some, None, option_and_then, is_some, if◌then◌else◌}
 use Rattle.smithy_http.specs.Requests.{Request}
 use Rattle.smithy_schema.specs.Nodes.{Schema}
-use Rattle.smithy_serde.specs.Values.{Write}
+use Rattle.smithy_serde.specs.Values.{Write, Writes, writes_of}
 use Rattle.smithy_serde.specs.declared.header_omit_settings.OmitFlags.{OmitFlags}
 use Rattle.smithy_binding.specs.Placing.{Protocol}
 use Rattle.smithy_binding.specs.DefaultHeaders.{omit_of}
 use Rattle.smithy_binding.specs.Answer.{answer}
+use Rattle.smithy_binding.specs.Rpc.{rpc_answer}
 use Rattle.smithy_binding.specs.Faults.{Fault}
 use Rattle.smithy_binding.specs.Checked.{checked_input}
 use Rattle.smithy_types.specs.Documents.{Document}
@@ -19,9 +20,9 @@ use Rattle.smithy_bind.specs.Texts.{help_text, version_text}
 use Rattle.smithy_bind.specs.declared.command.Command as commands
 use Rattle.smithy_bind.specs.declared.command.Command.TheVariants as command
 
--- REST with bodies of JSON, whose documents have this text (AWS restJson1)
-abbrev pub rest_json : (Document → List ℕ) → Protocol
-rest_json text_of = record { content_type = codes "application/json"; text_of = text_of }
+-- a protocol with bodies of JSON, whose documents have this text (AWS restJson1, AWS JSON 1.0)
+abbrev pub json_bodies : (Document → List ℕ) → Protocol
+json_bodies text_of = record { content_type = codes "application/json"; text_of = text_of }
 
 pub data Outcome : Type 0 where
   usage : Outcome
@@ -42,17 +43,30 @@ sent protocol schema ws endpoint omit = told (answer protocol schema ws endpoint
 unfoldable pub answered : Protocol → Job → Outcome
 answered protocol j = if checked_input j.schema then sent protocol j.schema j.writes j.endpoint j.omit else no_job
 
-abbrev pub outcome_of : Protocol → Option Job → Outcome
-outcome_of protocol None = no_job
-outcome_of protocol (Some j) = answered protocol j
+-- what is answered to a job, where there is one
+abbrev pub outcome_of : {J : Type 0} → (J → Outcome) → Option J → Outcome
+outcome_of answer None = no_job
+outcome_of answer (Some j) = answer j
 
 -- the answer to the bytes of a job, by a protocol
 unfoldable pub requested : Protocol → List ℕ → Outcome
-requested protocol bytes = outcome_of protocol (option_and_then job (json_of bytes))
+requested protocol bytes = outcome_of (answered protocol) (option_and_then job (json_of bytes))
+
+-- the answer to writes that are posted whole, by a protocol
+abbrev pub sent_whole : Protocol → Writes → List ℕ → OmitFlags → Outcome
+sent_whole protocol ws endpoint omit = told (rpc_answer protocol ws endpoint (omit_of omit))
+
+-- the answer to a job, whatever its schema
+unfoldable pub called : Protocol → Job → Outcome
+called protocol j = sent_whole protocol (writes_of j.writes) j.endpoint j.omit
+
+unfoldable pub rpc_requested : Protocol → List ℕ → Outcome
+rpc_requested protocol bytes = outcome_of (called protocol) (option_and_then job (json_of bytes))
 
 abbrev pub outcome_by : Option commands.Command → List ℕ → Outcome
 outcome_by None bytes = usage
-outcome_by (Some command.Request) bytes = requested (rest_json json_text) bytes
+outcome_by (Some command.Request) bytes = requested (json_bodies json_text) bytes
+outcome_by (Some command.Rpc) bytes = rpc_requested (json_bodies json_text) bytes
 outcome_by (Some command.Help) bytes = output help_text
 outcome_by (Some command.Version) bytes = output version_text
 

@@ -1,12 +1,15 @@
-// One request from a job, from bytes to bytes.
+// Answers to jobs, from bytes to bytes.
 #![tactic(auto)]
 
 mod answer;
 mod command;
 pub mod laws;
+mod request;
+mod rpc;
 mod shown;
 mod texts;
 mod top_call;
+mod work;
 
 pub use command::Command;
 pub use texts::{HELP, VERSION};

@@ -4,9 +4,10 @@ ghost use Rattle.smithy_bind.specs.Texts.{help_text, version_text};
 
 /// What `--help` writes.
 pub const HELP: &str = "\
-Places the input of a Smithy operation in an HTTP request.
+Places inputs of Smithy operations in HTTP requests.
 
 Usage: smithy_bind request < JOB
+       smithy_bind rpc < JOB
        smithy_bind --help
        smithy_bind --version
 
@@ -14,6 +15,7 @@ Usage: smithy_bind request < JOB
 request to standard output: a line of method and target, a line for each
 header, an empty line, and the body. Where the input can't be sent, it writes
 one line that says why.
+`rpc` does the same by AWS JSON 1.0: the whole input is the body.
 
 A job has these keys:
   model      a Smithy model as a JSON AST, with its `shapes`
@@ -22,7 +24,7 @@ A job has these keys:
              of the names; or an array of pairs of a name and a value,
              written in this order
   endpoint   optional, a text: the URI template of an operation without
-             smithy.api#http
+             smithy.api#http; of `rpc` the target
   omit       optional, an object: with `contentType` or `contentLength` true,
              that default header is left out
 Other keys are passed over.

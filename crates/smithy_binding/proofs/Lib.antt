@@ -33,3 +33,5 @@ pub mod Tests
 pub mod UnboundMembers
 mod Walks
 pub mod WriteSteps
+pub mod EachWrite
+pub mod RpcAnswers

@@ -25,3 +25,6 @@ pub mod KeptWrites
 pub mod PayloadKinds
 pub mod Placed
 pub mod Checking
+pub mod Rpc
+pub mod ServiceNames
+pub mod Pointing

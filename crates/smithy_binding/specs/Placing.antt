@@ -27,10 +27,13 @@ pub record Omit : Type 0 where
 abbrev pub method_of : Schema → List ℕ
 method_of schema = option_map_or (λ h. h.method) schema.node.traits.http (codes "GET")
 
+-- the endpoint, or `/` where it is empty
+abbrev pub endpoint_or_slash : List ℕ → List ℕ
+endpoint_or_slash endpoint = if length endpoint == 0 then codes "/" else endpoint
+
 -- the URI of `@http`, or else the endpoint, or else `/` (http, uri)
 abbrev pub template_of : Schema → List ℕ → List ℕ
-template_of schema endpoint =
-    option_map_or (λ h. h.uri) schema.node.traits.http (if length endpoint == 0 then codes "/" else endpoint)
+template_of schema endpoint = option_map_or (λ h. h.uri) schema.node.traits.http (endpoint_or_slash endpoint)
 
 -- a query pair: both sides are escaped (httpQuery; RFC 3986, section 3.4)
 abbrev pub pair_text : List ℕ × List ℕ → List ℕ

@@ -37,8 +37,8 @@ fn tell_writes<S: ShapeSerializer>(
     Ok(())
 }
 
-// The text of the structure of these writes.
-fn text_of_writes<S: FinishSerializer + Drop>(
+/// The text of the structure of these writes. `Custom` for the first rule of documents that it breaks. Takes memory.
+pub fn text_of_writes<S: FinishSerializer + Drop>(
     serializer: S,
     schema: SchemaRef<'_>,
     table: &Schemas,

@@ -8,9 +8,12 @@ mod body_writes;
 mod bound_text;
 mod check;
 mod clear;
+mod client_protocols;
 mod default_headers;
 mod elements;
+mod endpoint;
 mod http_binding_protocol;
+mod http_rpc_protocol;
 mod kinds;
 mod labels;
 pub mod laws;
@@ -24,11 +27,17 @@ mod place;
 mod placement;
 mod refusal;
 mod resolve;
+mod service_names;
 mod target;
 mod template;
 #[cfg(test)]
 mod testing;
 
 pub use check::checked_input;
+pub use endpoint::apply_http_endpoint;
 pub use http_binding_protocol::HttpBindingProtocol;
+pub use http_rpc_protocol::HttpRpcProtocol;
 pub use output_check::checked_output;
+pub use service_names::{
+    ServiceShapeName, ServiceShapeNamespace, ServiceVersion, ServiceXmlNamespace,
+};

@@ -6,7 +6,7 @@ ghost use Rattle.smithy_serde.specs.StoredValues.{writes_in, AreDefined};
 ghost use Rattle.smithy_serde.specs.Finishing.{IsReady};
 ghost use Rattle.smithy_binding.specs.Checked.{checked_input};
 ghost use Rattle.smithy_binding.specs.Answer.{legal_request};
-ghost use Rattle.smithy_binding.specs.Placing.{method_of as method, template_of as template};
+ghost use Rattle.smithy_binding.specs.Placing.{method_of as method, template_of as template, endpoint_or_slash};
 ghost use Rattle.smithy_binding.specs.Protocols.{protocol_with, IsAnswer};
 ghost use Rattle.smithy_binding.specs.Refusing.{Answers};
 
@@ -41,11 +41,19 @@ fn template_of<'t>(schema: SchemaRef<'t>, endpoint: &'t str) -> &'t str
     if let Some(http) = schema.http() {
         return http.uri();
     }
+    endpoint_or_slash(endpoint)
+}
+
+/// The endpoint, or `/` where it is empty. Takes no memory.
+pub fn endpoint_or_slash(endpoint: &str) -> &str
+    ensures { result.now ≡ endpoint_or_slash endpoint.now }
+{
     if endpoint.is_empty() { "/" } else { endpoint }
 }
 
-// The request of these parts, once the target is legal.
-fn request_with(
+/// The request of these parts. `Custom` where the target is longer than 65,534 bytes, and else where it is not legal (RFC
+/// 7230, section 5.3). Takes memory. Condition: the method is a token.
+pub fn request_with(
     alloc: Global,
     method: &str,
     target: String,

@@ -279,7 +279,12 @@ fn stored(rt: &impl Abort, alloc: Global, given: Given, table: &Schemas) -> Shap
     }
 }
 
-fn stored_writes(rt: &impl Abort, alloc: Global, writes: &[Write], table: &Schemas) -> WriteList
+pub(crate) fn stored_writes(
+    rt: &impl Abort,
+    alloc: Global,
+    writes: &[Write],
+    table: &Schemas,
+) -> WriteList
     ensures { AreDefined table.now result }
 {
     let mut list = WriteList::new(alloc);

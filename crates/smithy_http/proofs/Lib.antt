@@ -7,3 +7,4 @@ pub mod ItemLemmas
 pub mod Gathering
 pub mod DateLemmas
 pub mod QuoteLemmas
+pub mod EndpointLemmas

@@ -1,4 +1,6 @@
+pub mod Endpoints
 pub mod Requests
+pub mod Responses
 pub mod Spelling
 pub mod Facts
 pub mod Headers

@@ -3,8 +3,9 @@ ghost use Rattle.std.specs.Prelude.{◌≡◌, Ok, Err, IfOk, IfErr, OnOk, Match
 ghost use Rattle.std.specs.Str.{str_to_ascii_lowercase, trim};
 ghost use Rattle.smithy_http.specs.DateLists.{value_dates, dates_of};
 ghost use Rattle.smithy_http.specs.Facts.{values_at};
-ghost use Rattle.smithy_http.specs.HeaderValues.{IsRefusal, SpellInOrder, value_text, value_texts, tokens_of, one_text_of, refusal_of_second as refusal_of_second_lem};
+ghost use Rattle.smithy_http.specs.HeaderValues.{IsRefusal, IsListRefusal, SpellInOrder, value_text, value_texts, tokens_of, one_text_of, refusal_of_second as refusal_of_second_lem};
 ghost use Rattle.smithy_http.specs.ItemReading.{AreItemsRead};
+ghost use Rattle.smithy_http.specs.ListTexts.{list_texts};
 
 use crate::date_list::push_date_list;
 use crate::error::{HttpError, ListFault};
@@ -30,6 +31,19 @@ pub fn tokens(alloc: Global, headers: &Headers, name: &str) -> Result<Words, Htt
     let lower = lower_name(alloc, name)?;
     let mut words = Words::new(alloc);
     push_texts(alloc, &mut words, headers.get_all_bytes(lower.as_str()))?;
+    Ok(words)
+}
+
+/// The texts that a list spells, in order: one value, read as `tokens` reads each of a header (RFC 7230, section 7).
+///
+/// `List(Unended)` where a quote has no end, `List(Trailing)` where another byte than a comma follows a closing quote,
+/// whichever stands first. Takes memory; `OutOfMemory` where it is not there.
+pub fn list_texts(alloc: Global, text: &str) -> Result<Words, HttpError>
+    ensures ok { IfOk result (λ words. list_texts text.now ≡ Ok words) }
+    ensures err { IfErr result (λ e. IsListRefusal e (list_texts text.now)) }
+{
+    let mut words = Words::new(alloc);
+    push_items(alloc, &mut words, text)?;
     Ok(words)
 }
 

@@ -1,5 +1,8 @@
-use crate::{Headers, HttpError, ListFault, Request, dates, one_text, quote_header_value, tokens};
-use smithy_types::{Blob, Format, Text};
+use crate::{
+    Endpoint, EndpointPrefix, Headers, HttpError, ListFault, NonUtf8HeaderHandling, Request,
+    Response, dates, list_texts, one_text, quote_header_value, set_endpoint, tokens,
+};
+use smithy_types::{Blob, Format, Text, legal_target};
 use std::alloc::Global;
 use std::test::Fail;
 
@@ -143,6 +146,13 @@ fn lists_are_read(rt: HostRuntime) -> Result<(), Fail> {
         assert_eq!(rt; words.get(0), Some(first));
         assert_eq!(rt; words.get(1), Some(second));
     }
+    let words = list_texts(rt.alloc(), "a, \"b\"")?;
+    assert_eq!(rt; words.get(0), Some("a"));
+    assert_eq!(rt; words.get(1), Some("b"));
+    assert_eq!(rt; words.len(), 2);
+    assert!(rt;
+        list_texts(rt.alloc(), "\"a").is_err_and(|e| e == HttpError::List(ListFault::Unended))
+    );
     Ok(())
 }
 
@@ -238,6 +248,29 @@ fn an_illegal_target_makes_no_request(rt: HostRuntime) -> Result<(), Fail> {
 }
 
 #[test]
+fn a_response_is_its_parts(rt: HostRuntime) -> Result<(), Fail> {
+    let headers = two_values(rt.alloc(), b"1", b"\xFF")?;
+    let response = Response::new(204, headers, Some(Blob::new(rt.alloc(), b"a")?));
+    assert_eq!(rt; response.status(), 204);
+    assert!(rt; are_bytes(response.headers(), "a", b"1", b"\xFF"));
+    assert!(rt;
+        response
+            .body()
+            .is_some_and(|body| body.as_slice() == b"a".as_slice())
+    );
+    assert!(rt;
+        Response::new(999, Headers::new(rt.alloc()), None)
+            .body()
+            .is_none()
+    );
+    assert_eq!(rt;
+        NonUtf8HeaderHandling::default(),
+        NonUtf8HeaderHandling::Reject
+    );
+    Ok(())
+}
+
+#[test]
 fn refusals_are_written(rt: HostRuntime) -> Result<(), Fail> {
     let unended = HttpError::List(ListFault::Unended);
     let text = format!(in rt.alloc(); "{}, {unended}", HttpError::Name)?;
@@ -245,5 +278,59 @@ fn refusals_are_written(rt: HostRuntime) -> Result<(), Fail> {
         text.as_str(),
         "invalid header name, header list: unended quote"
     );
+    Ok(())
+}
+
+// The target joined to the endpoint of this URL, behind this prefix where it is not empty.
+fn joined(alloc: Global, target: &str, url: &str, prefix: &str) -> Result<Text, HttpError> {
+    if !legal_target(target) {
+        return Err(HttpError::Name);
+    }
+    let endpoint = Endpoint::new(alloc, url, Headers::new(alloc))?;
+    if prefix.is_empty() {
+        return set_endpoint(alloc, target, &endpoint, None);
+    }
+    let prefix = EndpointPrefix::new(alloc, prefix)?;
+    set_endpoint(alloc, target, &endpoint, Some(&prefix))
+}
+
+#[test]
+fn targets_are_joined(rt: HostRuntime) -> Result<(), Fail> {
+    let amazon = "https://service.us-east-1.amazonaws.com";
+    let rows = [
+        (
+            "/original/path",
+            amazon,
+            "",
+            "https://service.us-east-1.amazonaws.com/original/path",
+        ),
+        (
+            "/path",
+            amazon,
+            "myprefix.",
+            "https://myprefix.service.us-east-1.amazonaws.com/path",
+        ),
+        (
+            "/operation",
+            "https://example.com/base",
+            "",
+            "https://example.com/base/operation",
+        ),
+        ("//a/", "HTTP://h:80/b//?c", "", "http://h:80/b///a/"),
+        ("http://i/a?b?c", "https://h", "p", "https://ph/a?b?c"),
+        ("https://i?b", "https://h", "", "https://h/?b"),
+    ];
+    for (target, url, prefix, wanted) in rows {
+        assert_eq!(rt; joined(rt.alloc(), target, url, prefix)?.as_str(), wanted);
+    }
+    let faults = [
+        ("/a", "/x", "", HttpError::Address),
+        ("/a", "example.com", "", HttpError::Address),
+        ("/a", "ftp://h", "", HttpError::Target),
+        ("/a", "https://h", "a/b", HttpError::Address),
+    ];
+    for (target, url, prefix, fault) in faults {
+        assert!(rt; joined(rt.alloc(), target, url, prefix).is_err_and(|e| e == fault));
+    }
     Ok(())
 }

@@ -6,6 +6,7 @@ use Rattle.std.specs.Borrow.{Bor}
 use Rattle.smithy_schema.specs.Nodes.{Schema, at_place}
 use Rattle.smithy_serde.specs.Values.{Writes, list_of, label_of}
 use Rattle.smithy_serde.specs.declared.header_omit_settings.OmitFlags.{OmitFlags}
+use Rattle.smithy_model.specs.Models as models
 use Rattle.smithy_model.specs.PlacedView.{IsPlaced, IsPlacedAt, Places}
 use Rattle.smithy_model.specs.declared.error.JobError.{JobError}
 use Rattle.smithy_model.specs.declared.error.JobError.TheVariants.{NoJob, OutOfMemory}
@@ -26,11 +27,11 @@ none_then f (Some x) h = h x
 none_mapped : {A B : Type 0} (f : A → B) (o : Option A) → o ≡ None → option_map f o ≡ None
 none_mapped f o e = rw e refl
 
-pub no_schema : (d : Data) → schema d ≡ None → job d ≡ None
+pub no_schema : (d : Data) → schema models.input d ≡ None → job d ≡ None
 unfolding job
 no_schema d e = rw e refl
 
-module _ (d : Data) (s : Schema) (there : schema d ≡ Some s) where
+module _ (d : Data) (s : Schema) (there : schema models.input d ≡ Some s) where
   by_schema : job d ≡ option_and_then (job_with d s) (writes d s)
   unfolding job
   by_schema = rw there refl
@@ -59,7 +60,7 @@ placed_schema (Some s) placed h = (s, refl, h)
 pub schema_there : (placed : Placed) (s here : Schema) → IsPlaced placed s → Some here ≡ at_place placed.table placed.place.0 → here ≡ s
 schema_there placed s here h at = ap (λ (o : Option Schema). unwrap_or o s) (at ∙ ap (λ t. at_place t placed.place.0) h.nodes ∙ h.node)
 
-module _ (d : Data) (s : Schema) (there : schema d ≡ Some s) (stored : Stored) (names : List (Bor (List ℕ))) (i : Data) where
+module _ (d : Data) (s : Schema) (there : schema models.input d ≡ Some s) (stored : Stored) (names : List (Bor (List ℕ))) (i : Data) where
   by_input : (o : Option Writes) → input s i ≡ o → Has o (AreWrites (nodes_with stored.table names) stored.writes) → at_place stored.table stored.place.0 ≡ Some s
       → get (codes "input") d ≡ Some i → nodes_of stored ≡ nodes_with stored.table names → endpoint d ≡ Some stored.endpoint.now → omit d ≡ Some stored.omit → Has (job d) (IsJob stored)
   by_input None e h at given nodes text flags = absurd h
@@ -79,6 +80,6 @@ module _ (d : Data) (s : Schema) (there : schema d ≡ Some s) (stored : Stored)
   job_read h at given nodes text flags = by_input (input s i) refl h at given nodes text flags
 
 -- a model that is refused
-pub job_refused : (d : Data) (e : JobError) (r : Result Stored JobError) → r ≡ Err e → Places (schema d) (Err e) → ReadsAs IsJob (job d) r
+pub job_refused : (d : Data) (e : JobError) (r : Result Stored JobError) → r ≡ Err e → Places (schema models.input d) (Err e) → ReadsAs IsJob (job d) r
 job_refused d NoJob r is h = rw is (no_schema d h)
 job_refused d OutOfMemory r is h = rw is tt

@@ -2,6 +2,8 @@ pub mod Inputs
 pub mod JobView
 pub mod Jobs
 pub mod ReadingView
+pub mod ReceivedView
+pub mod Responses
 pub mod Scalars
 pub mod Seen
 pub mod Settings

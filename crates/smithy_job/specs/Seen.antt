@@ -1,4 +1,4 @@
--- A borrowed name and value, seen.
+-- Borrowed names and values, seen.
 use Rattle.std.specs.Borrow.{Bor}
 use Rattle.std.specs.Prelude.{ℕ, List}
 use Rattle.serde_json.specs.Data.{Data}
@@ -7,3 +7,6 @@ use Rattle.serde_json.specs.declared.value.Value.{Value}
 
 abbrev pub seen : Bor (List ℕ) × Bor Value → List ℕ × Data
 seen p = (p.0.now, view p.1.now)
+
+abbrev pub operation_seen : Bor Value × Bor (List ℕ) → Data × List ℕ
+operation_seen p = (view p.0.now, p.1.now)

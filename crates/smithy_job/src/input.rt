@@ -25,8 +25,8 @@ fn named_value(items: &[Value]) -> Option<(&str, &Value)>
     Some((name.as_str()?, value))
 }
 
-// A name and a value.
-fn pair_of(value: &Value) -> Option<(&str, &Value)>
+/// A name and a value, of an array of exactly two items. Takes no memory.
+pub fn pair_of(value: &Value) -> Option<(&str, &Value)>
     ensures { option_map seen result ≡ pair_in (view value.now) }
 {
     named_value(items_of(value)?)

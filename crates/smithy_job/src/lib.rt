@@ -4,8 +4,11 @@
 mod input;
 mod node;
 mod reading;
+mod received;
+mod response;
 mod scalar;
 mod settings;
 mod value;
 
 pub use reading::{Job, read_job};
+pub use received::{CodedError, Expected, Received, read_received};

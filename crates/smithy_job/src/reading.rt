@@ -1,8 +1,12 @@
 // A job.
 ghost use Rattle.std.specs.Prelude.{◌≡◌, Some, IfOk, option_map, unwrap_or};
 ghost use Rattle.serde_json.specs.View.{view};
-ghost use Rattle.smithy_model.specs.PlacedView.{Places, IsPlacedAt};
-ghost use Rattle.smithy_job.specs.Jobs.{job, schema};
+ghost use Rattle.smithy_model.specs.Models as models;
+ghost use Rattle.smithy_model.specs.ModelView.{asked_view};
+ghost use Rattle.smithy_model.specs.PlaceView.{texts};
+ghost use Rattle.smithy_model.specs.PlacedView.{Places, PlacesErrors, IsPlacedAt};
+ghost use Rattle.smithy_job.specs.Jobs.{job, operation_in, schema, errors};
+ghost use Rattle.smithy_job.specs.Seen.{operation_seen};
 ghost use Rattle.smithy_job.specs.Tables.{nodes_with, ReadsAs};
 ghost use Rattle.smithy_job.specs.JobView.{IsJob};
 
@@ -10,7 +14,9 @@ use crate::input::read_input;
 use crate::node::{ModelNodes, add_nodes};
 use crate::settings::{endpoint_of, omit_of};
 use serde_json::Value;
-use smithy_model::{JobError, Placed, schema_of_operation, text_of};
+use smithy_model::{
+    Asked, JobError, Placed, PlacedErrors, errors_of_operation, schema_of_operation, text_of,
+};
 use smithy_schema::{SchemaIndex, Schemas};
 use smithy_serde::{OmitFlags, WriteList};
 use smithy_types::OutOfMemory;
@@ -29,18 +35,37 @@ pub struct Job<'v> {
     pub omit: OmitFlags,
 }
 
-// The nodes of the model that a job names.
-#[tactic(auto, unfolding(crate::specs::Jobs::schema))]
-fn model_of(alloc: Global, job: &Value) -> Result<Placed, JobError>
-    ensures { Places (schema (view job.now)) result }
+// The model of a job, and the full name of its operation.
+fn operation_of(job: &Value) -> Option<(&Value, &str)>
+    ensures { option_map operation_seen result ≡ operation_in (view job.now) }
 {
-    let Some(model) = job.get("model") else {
-        return Err(JobError::NoJob);
-    };
-    let Some(name) = text_of(job, "operation") else {
-        return Err(JobError::NoJob);
-    };
-    schema_of_operation(alloc, model, name)
+    Some((job.get("model")?, text_of(job, "operation")?))
+}
+
+/// The schema of what is asked of a job's operation. Takes memory. No job where its model hasn't the form of one.
+#[tactic(auto, unfolding(crate::specs::Jobs::schema))]
+pub fn schema_asked<'v>(alloc: Global, job: &'v Value, asked: Asked<'v>) -> Result<Placed, JobError>
+    ensures { Places (schema (asked_view asked.entry) (view job.now)) result }
+{
+    match operation_of(job) {
+        Some((model, name)) => schema_of_operation(alloc, model, name, asked),
+        None => Err(JobError::NoJob),
+    }
+}
+
+/// The errors of a job's operation, and these of its service. Takes memory. No job where its model hasn't the form of one.
+#[tactic(auto, unfolding(crate::specs::Jobs::errors))]
+pub fn errors_asked<'v>(
+    alloc: Global,
+    job: &'v Value,
+    service: &[&'v str],
+) -> Result<PlacedErrors, JobError>
+    ensures { PlacesErrors (errors (texts service.now) (view job.now)) result }
+{
+    match operation_of(job) {
+        Some((model, name)) => errors_of_operation(alloc, model, name, service),
+        None => Err(JobError::NoJob),
+    }
 }
 
 // The nodes of a job's model, and those of names that are no member's; none where there is no such name.
@@ -51,13 +76,13 @@ fn further_nodes(
     table: &Schemas,
     names: &[&str],
 ) -> Result<Option<Schemas>, OutOfMemory>
-    requires { option_map (λ s. s.table) (schema (view job.now)) ≡ Some table.now }
+    requires { option_map (λ s. s.table) (schema models.input (view job.now)) ≡ Some table.now }
     ensures { IfOk result (λ o. unwrap_or o table.now ≡ nodes_with table.now names.now) }
 {
     if names.is_empty() {
         return Ok(None);
     }
-    let Ok(again) = model_of(alloc, job) else {
+    let Ok(again) = schema_asked(alloc, job, Asked::Input) else {
         return Err(OutOfMemory);
     };
     let mut nodes = again.table;
@@ -67,7 +92,7 @@ fn further_nodes(
 
 // What a job asks by a model that was read.
 fn job_by<'v>(alloc: Global, value: &'v Value, model: Placed) -> Result<Job<'v>, JobError>
-    requires { IsPlacedAt (schema (view value.now)) model }
+    requires { IsPlacedAt (schema models.input (view value.now)) model }
     ensures { ReadsAs IsJob (job (view value.now)) result }
 {
     let Placed {
@@ -108,7 +133,7 @@ fn job_by<'v>(alloc: Global, value: &'v Value, model: Placed) -> Result<Job<'v>,
 pub fn read_job(alloc: Global, value: &Value) -> Result<Job<'_>, JobError>
     ensures { ReadsAs IsJob (job (view value.now)) result }
 {
-    job_by(alloc, value, model_of(alloc, value)?)
+    job_by(alloc, value, schema_asked(alloc, value, Asked::Input)?)
 }
 
 #[cfg(test)]

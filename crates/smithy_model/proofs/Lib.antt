@@ -9,4 +9,5 @@ pub mod NodeLemmas
 pub mod ReachedLemmas
 pub mod Reading
 pub mod SpotLemmas
+pub mod TableLemmas
 pub mod Views

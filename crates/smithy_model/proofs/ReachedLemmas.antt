@@ -181,18 +181,18 @@ first-more [] more d e = absurd (cc e)
 first-more (s ∷ found) more d e = e
 
 -- the walk begins with the prelude
-pub walk-start : (d : Data) (entries : List (List ℕ × Data)) (name : List ℕ) → Some entries ≡ members_in d
-    → reached_in (suc (length entries)) d prelude (with_name (with_names [] (names_of prelude)) name) ≡ reached d name
+pub walk-start : (d : Data) (entries : List (List ℕ × Data)) (roots : List (List ℕ)) → Some entries ≡ members_in d
+    → reached_in (suc (length entries)) d prelude (with_names (with_names [] (names_of prelude)) roots) ≡ reached d roots
 unfolding reached
-walk-start d entries name e = rw (← e) refl
+walk-start d entries roots e = rw (← e) refl
 
 prelude-names : with_names [] (names_of prelude) ≡ names_of prelude
 unfolding prelude
 prelude-names = refl
 
-pub front-start : (name : List ℕ) → IsFront prelude (with_name (with_names [] (names_of prelude)) name)
-front-start name =
-    let more = with_name-front (with_names [] (names_of prelude)) name in
+pub front-start : (roots : List (List ℕ)) → IsFront prelude (with_names (with_names [] (names_of prelude)) roots)
+front-start roots =
+    let more = with_names-front (with_names [] (names_of prelude)) roots in
     record { rest = more.0; front = more.1 ∙ ap (λ ns. ns ++ more.0) prelude-names }
 
 pub prelude-named : list_all (λ s. has_hash s.name) prelude ≡ true
@@ -204,40 +204,40 @@ unfolding prelude
 prelude-first = refl
 
 -- a model without shapes
-pub not-reached : (d : Data) (name : List ℕ) → members_in d ≡ None → reached d name ≡ None
+pub not-reached : (d : Data) (roots : List (List ℕ)) → members_in d ≡ None → reached d roots ≡ None
 unfolding reached
-not-reached d name e = rw e refl
+not-reached d roots e = rw e refl
 
 -- So far these shapes are found of all that are reached from a name, and these names are met.
-pub record IsWalked (d : Data) (name : List ℕ) (rest : ℕ) (found : List Shape) (names : List (List ℕ)) : Type 0 where
-  pub walked : reached_in (suc rest) d found names ≡ reached d name
+pub record IsWalked (d : Data) (roots : List (List ℕ)) (rest : ℕ) (found : List Shape) (names : List (List ℕ)) : Type 0 where
+  pub walked : reached_in (suc rest) d found names ≡ reached d roots
   pub front : IsFront found names
   pub named : list_all (λ s. has_hash s.name) found ≡ true
   pub first : slice_get found 0 ≡ Some document_shape
 
-pub walked-start : (d : Data) (entries : List (List ℕ × Data)) (name : List ℕ) (rest : ℕ) (found : List Shape) (names : List (List ℕ)) → Some entries ≡ members_in d → rest ≡ length entries → found ≡ prelude
-    → names ≡ with_name (with_names [] (names_of prelude)) name → IsWalked d name rest found names
-walked-start d entries name rest found names e r f n =
-    subst (λ k. IsWalked d name k found names) (sym r)
-    (subst (λ ss. IsWalked d name (length entries) ss names) (sym f)
-    (subst (λ ns. IsWalked d name (length entries) prelude ns) (sym n)
-    (record { walked = walk-start d entries name e; front = front-start name; named = prelude-named; first = prelude-first })))
+pub walked-start : (d : Data) (entries : List (List ℕ × Data)) (roots : List (List ℕ)) (rest : ℕ) (found : List Shape) (names : List (List ℕ)) → Some entries ≡ members_in d → rest ≡ length entries → found ≡ prelude
+    → names ≡ with_names (with_names [] (names_of prelude)) roots → IsWalked d roots rest found names
+walked-start d entries roots rest found names e r f n =
+    subst (λ k. IsWalked d roots k found names) (sym r)
+    (subst (λ ss. IsWalked d roots (length entries) ss names) (sym f)
+    (subst (λ ns. IsWalked d roots (length entries) prelude ns) (sym n)
+    (record { walked = walk-start d entries roots e; front = front-start roots; named = prelude-named; first = prelude-first })))
 
-pub walked-more : (d : Data) (name : List ℕ) (rest less : ℕ) (found : List Shape) (names : List (List ℕ)) (n : List ℕ) (s : Shape) (after : List Shape) (more : List (List ℕ)) → slice_get names (length found) ≡ Some n → shape_at d n ≡ Some s
-    → rest ≡ suc less → after ≡ found ++ s ∷ [] → more ≡ with_targets names s.members → IsWalked d name rest found names → IsWalked d name less after more
-walked-more d name rest less found names n s after more at there r a m h =
+pub walked-more : (d : Data) (roots : List (List ℕ)) (rest less : ℕ) (found : List Shape) (names : List (List ℕ)) (n : List ℕ) (s : Shape) (after : List Shape) (more : List (List ℕ)) → slice_get names (length found) ≡ Some n → shape_at d n ≡ Some s
+    → rest ≡ suc less → after ≡ found ++ s ∷ [] → more ≡ with_targets names s.members → IsWalked d roots rest found names → IsWalked d roots less after more
+walked-more d roots rest less found names n s after more at there r a m h =
     let same = shape_at-name d n s there in
-    subst (λ ss. IsWalked d name less ss more) (sym a)
-    (subst (λ ns. IsWalked d name less (found ++ s ∷ []) ns) (sym m)
+    subst (λ ss. IsWalked d roots less ss more) (sym a)
+    (subst (λ ns. IsWalked d roots less (found ++ s ∷ []) ns) (sym m)
     (record {
-      walked = subst (λ k. reached_in k d (found ++ s ∷ []) (with_targets names s.members) ≡ reached d name) r (walk-more rest d found names n s (reached d name) at there h.walked);
+      walked = subst (λ k. reached_in k d (found ++ s ∷ []) (with_targets names s.members) ≡ reached d roots) r (walk-more rest d found names n s (reached d roots) at there h.walked);
       front = front-more found names (map (λ x. x.target) s.members) n s h.front at same;
       named = named-more found s n same (shape_at-hash d n s there) h.named;
       first = first-more found (s ∷ []) document_shape h.first;
     }))
 
 -- a further shape and no step left
-pub walked-short : (d : Data) (name : List ℕ) (rest : ℕ) (found : List Shape) (names : List (List ℕ)) (n : List ℕ) (s : Shape) → slice_get names (length found) ≡ Some n → shape_at d n ≡ Some s → rest ≡ 0
-    → IsWalked d name rest found names → reached d name ≡ None
-walked-short d name rest found names n s at there r h =
-    sym (subst (λ k. reached_in k d (found ++ s ∷ []) (with_targets names s.members) ≡ reached d name) r (walk-more rest d found names n s (reached d name) at there h.walked))
+pub walked-short : (d : Data) (roots : List (List ℕ)) (rest : ℕ) (found : List Shape) (names : List (List ℕ)) (n : List ℕ) (s : Shape) → slice_get names (length found) ≡ Some n → shape_at d n ≡ Some s → rest ≡ 0
+    → IsWalked d roots rest found names → reached d roots ≡ None
+walked-short d roots rest found names n s at there r h =
+    sym (subst (λ k. reached_in k d (found ++ s ∷ []) (with_targets names s.members) ≡ reached d roots) r (walk-more rest d found names n s (reached d roots) at there h.walked))

@@ -8,10 +8,14 @@ use Rattle.smithy_schema.specs.DescribedTraits.{traits_described}
 use Rattle.smithy_model.specs.Further.{Further, further_traits}
 use Rattle.smithy_model.specs.Shapes as shapes
 use Rattle.smithy_model.specs.Operations as operations
+use Rattle.smithy_model.specs.PlaceView.{texts}
 use Rattle.smithy_model.specs.declared.shape.ShapeTraits.{ShapeTraits}
 use Rattle.smithy_model.specs.declared.shape.Member.{Member}
 use Rattle.smithy_model.specs.declared.shape.Shape.{Shape}
+use Rattle.smithy_model.specs.Models as models
 use Rattle.smithy_model.specs.declared.shape.Operation.{Operation}
+use Rattle.smithy_model.specs.declared.shape.Asked.{Asked}
+use Rattle.smithy_model.specs.declared.shape.Asked.TheVariants as asked
 
 -- the further traits of an object, where there is one
 abbrev pub further_given : Option (Bor Value) → Option Further
@@ -27,4 +31,9 @@ abbrev pub shape_view : Shape → shapes.Shape
 shape_view s = record { name = s.name.now; kind = s.kind; traits = traits_view s.traits; members = map member_view s.members.items }
 
 abbrev pub operation_view : Operation → operations.Operation
-operation_view o = record { http = o.http; input = o.input.now }
+operation_view o = record { http = o.http; input = o.input.now; output = o.output.now; errors = texts o.errors.items }
+
+abbrev pub asked_view : Asked → models.Asked
+asked_view asked.Input = models.input
+asked_view asked.Output = models.output
+asked_view (asked.Error name) = models.error name.now

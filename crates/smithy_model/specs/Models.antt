@@ -1,20 +1,49 @@
--- The schema of an operation's input in a model (Smithy, JSON AST).
-use Rattle.std.specs.Prelude.{ℕ, codes, List, Option, option_and_then}
+-- The schemas of an operation in a model (Smithy, JSON AST).
+use Rattle.std.specs.Prelude.{ℕ, codes, List, [], ◌∷◌, ◌++◌, find, Option, Some, None, option_and_then}
 use Rattle.serde_json.specs.Data.{Data}
 use Rattle.serde_json.specs.Find.{get}
+use Rattle.smithy_ids.specs.Traits.{Http}
 use Rattle.smithy_schema.specs.Nodes.{Schema}
+use Rattle.smithy_model.specs.Names.{is}
 use Rattle.smithy_model.specs.Operations.{Operation, operation_at}
 use Rattle.smithy_model.specs.Reached.{reached}
-use Rattle.smithy_model.specs.Nodes.{schema_of}
+use Rattle.smithy_model.specs.Nodes.{Errors, schema_of, errors_of}
 
--- by the shapes that are reached from it
-abbrev pub schema_in : Data → Operation → Option Schema
-schema_in shapes o = option_and_then (λ reached. schema_of reached o.http o.input) (reached shapes o.input)
+-- what has a schema: the input of an operation, its output, or its error of this full name
+pub data Asked : Type 0 where
+  input : Asked
+  output : Asked
+  error : List ℕ → Asked
 
--- of the operation of this name
-abbrev pub schema_at : Data → List ℕ → Option Schema
-schema_at shapes name = option_and_then (schema_in shapes) (operation_at shapes name)
+-- the name of the shape that is asked for; an error is one of the operation's
+abbrev pub name_asked : Asked → Operation → Option (List ℕ)
+name_asked input o = Some o.input
+name_asked output o = Some o.output
+name_asked (error name) o = find (λ e. is e name) o.errors
 
--- The schema of the input of an operation of a model; none where the model has not the form of one as far as it is reached.
-unfoldable pub schema_in_model : Data → List ℕ → Option Schema
-schema_in_model model name = option_and_then (λ shapes. schema_at shapes name) (get (codes "shapes") model)
+-- `@http` passes to the input
+abbrev pub http_asked : Asked → Operation → Option Http
+http_asked input o = o.http
+http_asked _ o = None
+
+-- the schema of the shape of this name, by those that are reached from it
+abbrev pub schema_from : Data → Option Http → List ℕ → Option Schema
+schema_from shapes http name = option_and_then (λ found. schema_of found http name) (reached shapes (name ∷ []))
+
+abbrev pub schema_in : Asked → Data → Operation → Option Schema
+schema_in asked shapes o = option_and_then (schema_from shapes (http_asked asked o)) (name_asked asked o)
+
+abbrev pub errors_in : List (List ℕ) → Data → Operation → Option Errors
+errors_in service shapes o = option_and_then (λ found. errors_of found o.errors service) (reached shapes (o.errors ++ service))
+
+-- what the operation of this name has among a model's shapes
+abbrev pub of_operation : {A : Type 0} → (Data → Operation → Option A) → Data → List ℕ → Option A
+of_operation part model name = option_and_then (λ shapes. option_and_then (part shapes) (operation_at shapes name)) (get (codes "shapes") model)
+
+-- The schema of what is asked of an operation of a model; none where the model has not the form of one as far as it is reached.
+unfoldable pub schema_in_model : Asked → Data → List ℕ → Option Schema
+schema_in_model asked model name = of_operation (schema_in asked) model name
+
+-- The schemas of all errors of an operation and of these of its service, by the shapes that are reached from them.
+unfoldable pub errors_in_model : List (List ℕ) → Data → List ℕ → Option Errors
+errors_in_model service model name = of_operation (errors_in service) model name

@@ -1,6 +1,7 @@
 -- Nodes as the code places them.
 use Rattle.std.specs.Prelude.{◌≡◌, ℕ, ◌+◌, List, ◌++◌, length, map, replicate, Option, Some, None, Result, Ok, Err}
 use Rattle.smithy_schema.specs.Nodes.{Node, Table}
+use Rattle.smithy_model.specs.Shapes.{Shape}
 use Rattle.smithy_model.specs.Nodes as nodes
 use Rattle.smithy_model.specs.SpotView.{spot_view}
 use Rattle.smithy_model.specs.declared.error.JobError.{JobError}
@@ -9,6 +10,11 @@ use Rattle.smithy_model.specs.declared.spots.SpotMap.{SpotMap}
 
 abbrev pub spots_of : SpotMap → List nodes.Spot
 spots_of m = map spot_view m.spots.items
+
+-- the map has the spots of these shapes, and the place of the first of them
+pub record AreSpots (spots : SpotMap) (shapes : List Shape) : Type 0 where
+  pub are : spots_of spots ≡ nodes.spots shapes
+  pub first : spots.first ≡ nodes.member_count shapes
 
 -- these nodes, and places that are only declared
 abbrev pub filled : List Node → ℕ → Table

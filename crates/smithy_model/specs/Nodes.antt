@@ -1,4 +1,4 @@
--- The table of nodes of shapes: the members of all, each shape's behind those of the shape before it, then the shapes, then the input.
+-- The table of nodes of shapes: the members of all, each shape's behind those of the shape before it, then the shapes, then what is asked for.
 use Rattle.std.specs.Prelude.{ℕ, ◌+◌, List, [], ◌∷◌, ◌++◌, length, map, find, Bool, true, false, ◌&&◌, ◌||◌, Option, Some, None, option_map, option_and_then, if◌then◌else◌}
 use Rattle.std.specs.List.{list_all, list_any, range_with_len}
 use Rattle.std.specs.Option.{option_or}
@@ -9,6 +9,7 @@ use Rattle.smithy_ids.specs.declared.payload_hint.PayloadHint.TheVariants.{Unkno
 use Rattle.smithy_ids.specs.declared.traits.TimestampFormat.{TimestampFormat}
 use Rattle.smithy_ids.specs.Traits.{Http}
 use Rattle.smithy_schema.specs.Nodes.{Node, Schema, Traits, bare_node, binding_at, is_outside_body}
+use Rattle.smithy_types.specs.Results.{each}
 use Rattle.smithy_model.specs.Names.{is}
 use Rattle.smithy_model.specs.Shapes.{Member, Shape}
 
@@ -149,17 +150,38 @@ with_http (Some http) node = record node { traits = record node.traits { http = 
 abbrev pub input_node : List Spot → Option Http → Spot → Node
 input_node spots http spot = with_http http (shape_node spots spot)
 
-abbrev pub nodes_with : List Spot → Option Http → Spot → List Node → List Node
-nodes_with spots http input members = members ++ map (shape_node spots) spots ++ input_node spots http input ∷ []
-
--- the nodes of these spots, with an input
-abbrev pub nodes_at : List Shape → List Spot → Option Http → Spot → Option (List Node)
-nodes_at shapes spots http input = option_map (nodes_with spots http input) (member_nodes spots shapes)
+-- the members of all these shapes, then the shapes
+abbrev pub nodes_of : List Shape → Option (List Node)
+nodes_of shapes = option_map (λ members. members ++ map (shape_node (spots shapes)) (spots shapes)) (member_nodes (spots shapes) shapes)
 
 abbrev pub schema_with : List Node → Node → Schema
 schema_with nodes node = record { table = map Some nodes; node = node }
 
--- The schema of an operation's input: the table of these shapes, with `@http` and the name of the input's shape.
+-- a node behind these
+abbrev pub schema_behind : Node → List Node → Schema
+schema_behind node nodes = schema_with (nodes ++ node ∷ []) node
+
+-- The schema of the shape of this name, with the `@http` of an operation whose input it is, on a node of its own behind these shapes.
 unfoldable pub schema_of : List Shape → Option Http → List ℕ → Option Schema
 schema_of shapes http name =
-    option_and_then (λ input. option_map (λ nodes. schema_with nodes (input_node (spots shapes) http input)) (nodes_at shapes (spots shapes) http input)) (spot_named (spots shapes) name)
+    option_and_then (λ spot. option_map (schema_behind (input_node (spots shapes) http spot)) (nodes_of shapes)) (spot_named (spots shapes) name)
+
+-- the place of the shape of this name
+abbrev pub place_named : List Spot → List ℕ → Option ℕ
+place_named spots name = option_map (λ spot. spot.place) (spot_named spots name)
+
+-- the errors of an operation, and those of its service
+pub record Errors : Type 0 where
+  pub operation : List Schema
+  pub service : List Schema
+
+abbrev pub schema_named : List Node → List Spot → List ℕ → Option Schema
+schema_named nodes spots name = option_map (λ spot. schema_with nodes (shape_node spots spot)) (spot_named spots name)
+
+abbrev pub schemas_named : List Shape → List (List ℕ) → List Node → Option (List Schema)
+schemas_named shapes names nodes = each (schema_named nodes (spots shapes)) names
+
+-- The schemas of the shapes of all these names, in one table.
+unfoldable pub errors_of : List Shape → List (List ℕ) → List (List ℕ) → Option Errors
+errors_of shapes operation service =
+    option_and_then (λ nodes. option_and_then (λ os. option_map (λ ss. record { operation = os; service = ss }) (schemas_named shapes service nodes)) (schemas_named shapes operation nodes)) (nodes_of shapes)

@@ -1,10 +1,13 @@
--- The schema of an operation's input, in a table.
-use Rattle.std.specs.Prelude.{◌≡◌, codes, Option, Some, None, Result, Ok, Err}
+-- Schemas of an operation, in a table.
+use Rattle.std.specs.Prelude.{◌≡◌, codes, List, map, Option, Some, None, Result, Ok, Err}
 use Rattle.smithy_ids.specs.declared.shape_type.ShapeType.TheVariants.{Document}
-use Rattle.smithy_schema.specs.Nodes.{Node, Schema, bare_node, node_at, at_place}
+use Rattle.smithy_schema.specs.Nodes.{Node, Table, Schema, bare_node, node_at, at_place}
+use Rattle.smithy_schema.specs.declared.parts.SchemaIndex.{SchemaIndex}
+use Rattle.smithy_model.specs.Nodes.{Errors}
 use Rattle.smithy_model.specs.declared.error.JobError.{JobError}
 use Rattle.smithy_model.specs.declared.error.JobError.TheVariants.{NoJob, OutOfMemory}
 use Rattle.smithy_model.specs.declared.table.Placed.{Placed}
+use Rattle.smithy_model.specs.declared.table.PlacedErrors.{PlacedErrors}
 
 -- the node of natural values: the prelude's document (Smithy, prelude model)
 abbrev pub natural_node : Node
@@ -25,3 +28,21 @@ abbrev pub Places : Option Schema → Result Placed JobError → Type 0
 Places schema (Ok placed) = IsPlacedAt schema placed
 Places schema (Err NoJob) = schema ≡ None
 Places schema (Err OutOfMemory) = Unit {0}
+
+-- the schemas stand at these places of the table
+abbrev pub StandAt : Table → List SchemaIndex → List Schema → Type 0
+StandAt table places schemas = map (λ p. at_place table p.0) places ≡ map Some schemas
+
+pub record ArePlaced (placed : PlacedErrors) (errors : Errors) : Type 0 where
+  pub operation : StandAt placed.table placed.operation.items errors.operation
+  pub service : StandAt placed.table placed.service.items errors.service
+
+abbrev pub ArePlacedAt : Option Errors → PlacedErrors → Type 0
+ArePlacedAt (Some errors) placed = ArePlaced placed errors
+ArePlacedAt None placed = ⊥
+
+-- the same of the errors of an operation and its service
+abbrev pub PlacesErrors : Option Errors → Result PlacedErrors JobError → Type 0
+PlacesErrors errors (Ok placed) = ArePlacedAt errors placed
+PlacesErrors errors (Err NoJob) = errors ≡ None
+PlacesErrors errors (Err OutOfMemory) = Unit {0}

@@ -1,4 +1,4 @@
--- The shapes that are reached from one: its own, and those of the targets of their members, and so on.
+-- The shapes that are reached from some: their own, and those of the targets of their members, and so on.
 use Rattle.std.specs.Prelude.{ℕ, zero, suc, List, [], ◌∷◌, ◌++◌, length, map, slice_get, Bool, Option, Some, None, option_and_then, if◌then◌else◌}
 use Rattle.std.specs.List.{list_any}
 use Rattle.serde_json.specs.Data.{Data}
@@ -37,7 +37,7 @@ reached_in (suc steps) shapes found names =
 abbrev pub names_of : List Shape → List (List ℕ)
 names_of shapes = map (λ s. s.name) shapes
 
--- the prelude's shapes, and those that are reached from this name
-unfoldable pub reached : Data → List ℕ → Option (List Shape)
-reached shapes name =
-    option_and_then (λ entries. reached_in (suc (length entries)) shapes prelude (with_name (with_names [] (names_of prelude)) name)) (members_in shapes)
+-- the prelude's shapes, and those that are reached from these names
+unfoldable pub reached : Data → List (List ℕ) → Option (List Shape)
+reached shapes names =
+    option_and_then (λ entries. reached_in (suc (length entries)) shapes prelude (with_names (with_names [] (names_of prelude)) names)) (members_in shapes)

@@ -22,8 +22,10 @@ mod traits;
 pub use document::document_of;
 pub use error::JobError;
 pub use json_value::{items_of, read_json, text_of};
-pub use model::schema_of_operation;
-pub use table::Placed;
+pub use model::{errors_of_operation, schema_of_operation};
+pub use name::is_full_name;
+pub use shape::Asked;
+pub use table::{Placed, PlacedErrors};
 
 #[cfg(test)]
 mod tests;

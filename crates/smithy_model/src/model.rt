@@ -1,30 +1,72 @@
-// From a model and the name of an operation to the schema of its input.
+// From a model and the name of an operation to its schemas.
+ghost use Rattle.std.specs.Prelude.{◌≡◌};
 ghost use Rattle.serde_json.specs.View.{view};
-ghost use Rattle.smithy_model.specs.Models.{schema_in_model};
-ghost use Rattle.smithy_model.specs.PlacedView.{Places};
+ghost use Rattle.smithy_model.specs.Models.{http_asked, schema_in_model, errors_in_model};
+ghost use Rattle.smithy_model.specs.ModelView.{asked_view, operation_view};
+ghost use Rattle.smithy_model.specs.PlaceView.{texts};
+ghost use Rattle.smithy_model.specs.PlacedView.{Places, PlacesErrors};
 
 use crate::error::JobError;
-use crate::operation::operation_at;
+use crate::operation::{name_asked, operation_at};
 use crate::reached::shapes_from;
-use crate::table::{Placed, table_of};
+use crate::shape::{Asked, Operation};
+use crate::table::{Placed, PlacedErrors, errors_of, table_of};
 use serde_json::Value;
+use smithy_ids::HttpTrait;
 use std::alloc::Global;
 
-/// The schema of the input of an operation of this full name, by the shapes that the operation reaches in a model
-/// (Smithy, JSON AST). Each shape is read once, in time linear in the model up to the logarithm of a map. Takes memory.
+fn http_asked<'v>(operation: Operation<'v>, asked: Asked<'_>) -> Option<HttpTrait<'v>>
+    ensures { result ≡ http_asked (asked_view asked.entry) (operation_view operation.entry) }
+{
+    match asked {
+        Asked::Input => operation.http,
+        _ => None,
+    }
+}
+
+/// The schema of what is asked of an operation of this full name, by the shapes that are reached from it in a model (Smithy,
+/// JSON AST). Each shape is read once, in time linear in the model up to the logarithm of a map. Takes memory.
 ///
-/// No job where the model has no `shapes`, the operation isn't among them, or a shape that is reached from it isn't there
-/// or hasn't its form.
+/// No job where the model has no `shapes`, the operation isn't among them, an error isn't one of the operation's, or a shape
+/// that is reached isn't there or hasn't its form.
 #[tactic(auto, unfolding(crate::specs::Models::schema_in_model))]
-pub fn schema_of_operation(alloc: Global, model: &Value, name: &str) -> Result<Placed, JobError>
-    ensures { Places (schema_in_model (view model.now) name.now) result }
+pub fn schema_of_operation(
+    alloc: Global,
+    model: &Value,
+    name: &str,
+    asked: Asked<'_>,
+) -> Result<Placed, JobError>
+    ensures { Places (schema_in_model (asked_view asked.entry) (view model.now) name.now) result }
 {
     let Some(shapes) = model.get("shapes") else {
         return Err(JobError::NoJob);
     };
-    let Some(operation) = operation_at(shapes, name) else {
+    let operation = operation_at(alloc, shapes, name)?;
+    let Some(root) = name_asked(&operation, asked) else {
         return Err(JobError::NoJob);
     };
-    let reached = shapes_from(alloc, shapes, operation.input)?;
-    table_of(alloc, &reached, operation.http, operation.input)
+    let reached = shapes_from(alloc, shapes, &[root])?;
+    table_of(alloc, &reached, http_asked(operation, asked), root)
+}
+
+/// The schemas of all errors of an operation of this full name, and of these errors of its service, in one table. Takes memory.
+///
+/// No job as for `schema_of_operation`; each error's shape is reached.
+#[tactic(auto, unfolding(crate::specs::Models::errors_in_model))]
+pub fn errors_of_operation<'v>(
+    alloc: Global,
+    model: &'v Value,
+    name: &str,
+    service: &[&'v str],
+) -> Result<PlacedErrors, JobError>
+    ensures { PlacesErrors (errors_in_model (texts service.now) (view model.now) name.now) result }
+{
+    let Some(shapes) = model.get("shapes") else {
+        return Err(JobError::NoJob);
+    };
+    let Operation { errors, .. } = operation_at(alloc, shapes, name)?;
+    let mut names = Vec::from_slice(alloc, errors.as_slice())?;
+    names.extend_from_slice(service)?;
+    let reached = shapes_from(alloc, shapes, names.as_slice())?;
+    errors_of(alloc, &reached, errors.as_slice(), service)
 }

@@ -1,59 +1,55 @@
 // The operations of a model.
-ghost use Rattle.std.specs.Prelude.{◌≡◌, codes, option_map};
+ghost use Rattle.std.specs.Prelude.{◌≡◌, codes, find, map, option_map};
 ghost use Rattle.serde_json.specs.View.{view};
 ghost use Rattle.serde_json.specs.Find.{get};
-ghost use Rattle.smithy_model.specs.Operations.{has_target, are_targets, has_fit_rest, input_given, http_among, http_given, is_operation, operation_in, operation_at as defined_at};
-ghost use Rattle.smithy_model.specs.ModelView.{operation_view};
+ghost use Rattle.smithy_types.specs.Results.{each};
+ghost use Rattle.smithy_model.specs.Operations.{target_in, target_given, targets_given, http_among, http_given, is_operation, operation_with, operation_in, operation_at as defined_at};
+ghost use Rattle.smithy_model.specs.Names.{is};
+ghost use Rattle.smithy_model.specs.Models.{name_asked};
+ghost use Rattle.smithy_model.specs.Reads.{Reads};
+ghost use Rattle.smithy_model.specs.ModelView.{asked_view, operation_view};
+ghost use Rattle.smithy_model.specs.PlaceView.{texts};
 
+use crate::error::JobError;
 use crate::json_value::{items_of, text_of};
-use crate::shape::Operation;
+use crate::shape::{Asked, Operation};
 use crate::shapes::{found_at, has_no_mixins};
 use crate::traits::{are_fit_traits, read_http};
 use serde_json::Value;
 use smithy_ids::HttpTrait;
+use std::alloc::Global;
 
-fn has_target(value: &Value) -> bool
-    ensures { result ≡ has_target (view value.now) }
+fn target_of<'v>(operation: &'v Value, key: &str) -> Option<&'v str>
+    ensures { option_map (λ t. t.now) result ≡ target_given (get key.now (view operation.now)) }
 {
-    text_of(value, "target").is_some()
-}
-
-fn are_targets(value: &Value) -> bool
-    ensures { result ≡ are_targets (view value.now) }
-{
-    let Some(items) = items_of(value) else {
-        return false;
-    };
-    for item in items {
-        if !has_target(item) {
-            return false;
-        }
-    }
-    true
-}
-
-// Whether output and errors have their forms.
-fn has_fit_rest(operation: &Value) -> bool
-    ensures { result ≡ has_fit_rest (view operation.now) }
-{
-    let has_fit_output = match operation.get("output") {
-        Some(output) => has_target(output),
-        None => true,
-    };
-    has_fit_output
-        && match operation.get("errors") {
-            Some(errors) => are_targets(errors),
-            None => true,
-        }
-}
-
-// The full name of the input's shape.
-fn input_of<'v>(operation: &'v Value) -> Option<&'v str>
-    ensures { option_map (λ t. t.now) result ≡ input_given (get (codes "input") (view operation.now)) }
-{
-    match operation.get("input") {
-        Some(input) => text_of(input, "target"),
+    match operation.get(key) {
+        Some(part) => text_of(part, "target"),
         None => Some("smithy.api#Unit"),
+    }
+}
+
+fn targets_in<'v>(alloc: Global, items: &'v [Value]) -> Result<Vec<&'v str>, JobError>
+    ensures { Reads (λ v. texts v.items) (each target_in (map view items.now)) result }
+{
+    let mut found = Vec::new(alloc);
+    for item in items {
+        let Some(target) = text_of(item, "target") else {
+            return Err(JobError::NoJob);
+        };
+        found.push(target)?;
+    }
+    Ok(found)
+}
+
+fn error_names<'v>(alloc: Global, operation: &'v Value) -> Result<Vec<&'v str>, JobError>
+    ensures { Reads (λ v. texts v.items) (targets_given (get (codes "errors") (view operation.now))) result }
+{
+    let Some(errors) = operation.get("errors") else {
+        return Ok(Vec::new(alloc));
+    };
+    match items_of(errors) {
+        Some(items) => targets_in(alloc, items),
+        None => Err(JobError::NoJob),
     }
 }
 
@@ -86,25 +82,78 @@ fn is_operation(shape: &Value) -> bool
         Some(name) => name == "operation",
         None => false,
     };
-    has_type && has_no_mixins(shape) && has_fit_rest(shape)
+    has_type && has_no_mixins(shape)
 }
 
-fn operation_in<'v>(shape: &'v Value) -> Option<Operation<'v>>
-    ensures { option_map operation_view result ≡ operation_in (view shape.now) }
+fn operation_with<'v>(
+    alloc: Global,
+    http: Option<HttpTrait<'v>>,
+    shape: &'v Value,
+) -> Result<Operation<'v>, JobError>
+    ensures { Reads operation_view (operation_with http.entry (view shape.now)) result }
+{
+    let Some(input) = target_of(shape, "input") else {
+        return Err(JobError::NoJob);
+    };
+    let Some(output) = target_of(shape, "output") else {
+        return Err(JobError::NoJob);
+    };
+    let errors = error_names(alloc, shape)?;
+    Ok(Operation {
+        http,
+        input,
+        output,
+        errors,
+    })
+}
+
+fn operation_in<'v>(alloc: Global, shape: &'v Value) -> Result<Operation<'v>, JobError>
+    ensures { Reads operation_view (operation_in (view shape.now)) result }
 {
     if !is_operation(shape) {
-        return None;
+        return Err(JobError::NoJob);
     }
-    let http = http_of(shape)?;
-    let input = input_of(shape)?;
-    Some(Operation { http, input })
+    match http_of(shape) {
+        Some(http) => operation_with(alloc, http, shape),
+        None => Err(JobError::NoJob),
+    }
 }
 
-/// The operation of this name among the shapes of a model (Smithy, operation shape). None where there is none, or one that
-/// hasn't its form. Takes no memory.
+/// The operation of this name among the shapes of a model (Smithy, operation shape). Takes memory for the list of its errors.
+///
+/// No job where there is none, or one that hasn't its form.
 #[tactic(auto, unfolding(crate::specs::Operations::operation_at))]
-pub fn operation_at<'v>(shapes: &'v Value, name: &str) -> Option<Operation<'v>>
-    ensures { option_map operation_view result ≡ defined_at (view shapes.now) name.now }
+pub fn operation_at<'v>(
+    alloc: Global,
+    shapes: &'v Value,
+    name: &str,
+) -> Result<Operation<'v>, JobError>
+    ensures { Reads operation_view (defined_at (view shapes.now) name.now) result }
 {
-    operation_in(found_at(shapes, name)?)
+    match found_at(shapes, name) {
+        Some(shape) => operation_in(alloc, shape),
+        None => Err(JobError::NoJob),
+    }
+}
+
+fn error_named<'v>(errors: &[&'v str], name: &str) -> Option<&'v str>
+    ensures { option_map (λ t. t.now) result ≡ find (λ e. is e name.now) (texts errors.now) }
+{
+    for error in errors {
+        if *error == name {
+            return Some(*error);
+        }
+    }
+    None
+}
+
+/// The full name of the shape of what is asked. None where it is no error of the operation. Takes no memory.
+pub fn name_asked<'v>(operation: &Operation<'v>, asked: Asked<'_>) -> Option<&'v str>
+    ensures { option_map (λ t. t.now) result ≡ name_asked (asked_view asked.entry) (operation_view operation.now) }
+{
+    match asked {
+        Asked::Input => Some(operation.input),
+        Asked::Output => Some(operation.output),
+        Asked::Error(name) => error_named(operation.errors.as_slice(), name),
+    }
 }

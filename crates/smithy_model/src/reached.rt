@@ -1,4 +1,4 @@
-// The shapes that are reached from one.
+// The shapes that are reached from some.
 ghost use Rattle.std.specs.Prelude.{◌≡◌, ◌++◌, ◌∷◌, [], false, map, IfOk, OnOk};
 ghost use Rattle.serde_json.specs.View.{view};
 ghost use Rattle.smithy_model.specs.Reached.{is_among, with_name, with_names, with_targets, names_of, reached};
@@ -89,16 +89,32 @@ fn meet_shapes<'v>(
     Ok(())
 }
 
-/// The shapes of the prelude, and those of a model that are reached from this name, in the order in which they are met.
+// Adds these names.
+fn meet_names<'v>(
+    names: &mut Vec<&'v str>,
+    places: &mut BTreeMap<&'v str, usize>,
+    more: &[&'v str],
+) -> Result<(), AllocError>
+    requires { ArePlaces places.old (texts names.old.items) }
+    ensures names { OnOk result (texts names.new.items ≡ with_names (texts names.old.items) (texts more.now)) }
+    ensures places { OnOk result (ArePlaces places.new (texts names.new.items)) }
+{
+    for name in more {
+        meet(names, places, *name)?;
+    }
+    Ok(())
+}
+
+/// The shapes of the prelude, and those of a model that are reached from these names, in the order in which they are met.
 /// It looks at each shape once. Takes memory.
 ///
 /// No job where a name has no shape, or one that hasn't its form (Smithy, JSON AST).
 pub fn shapes_from<'v>(
     alloc: Global,
     shapes: &'v Value,
-    name: &'v str,
+    roots: &[&'v str],
 ) -> Result<Reached<'v>, JobError>
-    ensures shapes { Reads (λ r. map shape_view r.shapes.items) (reached (view shapes.now) name.now) result }
+    ensures shapes { Reads (λ r. map shape_view r.shapes.items) (reached (view shapes.now) (texts roots.now)) result }
     ensures whole { IfOk result IsWhole }
 {
     let Some(object) = shapes.as_object() else {
@@ -108,7 +124,7 @@ pub fn shapes_from<'v>(
     let mut names = Vec::new(alloc);
     let mut places = BTreeMap::new(alloc);
     meet_shapes(&mut names, &mut places, found.as_slice())?;
-    meet(&mut names, &mut places, name)?;
+    meet_names(&mut names, &mut places, roots)?;
     let mut rest = object.len();
     'walk: while let Some(name) = names.as_slice().get(found.as_slice().len()) {
         let shape = shape_at(alloc, shapes, name)?;

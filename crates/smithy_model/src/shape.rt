@@ -27,9 +27,22 @@ pub struct Shape<'v> {
     pub members: Vec<Member<'v>>,
 }
 
-/// An operation: its `@http`, and the full name of its input's shape.
+/// An operation: its `@http`, and the full names of the shapes of its input, its output and its errors.
 #[derive(Drop)]
 pub struct Operation<'v> {
     pub http: Option<HttpTrait<'v>>,
     pub input: &'v str,
+    pub output: &'v str,
+    pub errors: Vec<&'v str>,
+}
+
+/// A part of an operation that has a schema.
+#[derive(Clone, Copy, Debug, PartialEq, Eq, Drop)]
+pub enum Asked<'a> {
+    /// Its input, with its `@http`.
+    Input,
+    /// Its output.
+    Output,
+    /// The one of its errors that has this full name.
+    Error(&'a str),
 }

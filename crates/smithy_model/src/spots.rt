@@ -21,6 +21,8 @@ pub struct Spot<'v, 's> {
 /// Spots by the names of their shapes.
 #[derive(Drop)]
 pub struct SpotMap<'v, 's> {
+    /// The place of the first shape's node: behind those of all members.
+    pub first: usize,
     pub spots: Vec<Spot<'v, 's>>,
     pub places: &'s BTreeMap<&'v str, usize>,
     ghost located: { ArePlaces places.now (names_at (map spot_view spots.items)) },

@@ -1,12 +1,16 @@
 // The table of the shapes that an operation reaches.
-ghost use Rattle.std.specs.Prelude.{◌≡◌, [], true, map, IfOk, OnOk};
+ghost use Rattle.std.specs.Prelude.{◌≡◌, [], true, map, option_map, IfOk, OnOk};
 ghost use Rattle.std.specs.List.{list_all};
+ghost use Rattle.smithy_types.specs.Results.{each};
 ghost use Rattle.smithy_ids.specs.ShapeIds.{has_hash};
+ghost use Rattle.smithy_schema.specs.Places.{places_of};
 ghost use Rattle.smithy_model.specs.Nodes as defined;
 ghost use Rattle.smithy_model.specs.ModelView.{member_view, shape_view};
 ghost use Rattle.smithy_model.specs.ReachedView.{IsWhole};
-ghost use Rattle.smithy_model.specs.NodeView.{spots_of, filled, Fills, IsFilledBy};
-ghost use Rattle.smithy_model.specs.PlacedView.{Places};
+ghost use Rattle.smithy_model.specs.NodeView.{spots_of, AreSpots, filled, Fills, IsFilledBy};
+ghost use Rattle.smithy_model.specs.PlaceView.{texts};
+ghost use Rattle.smithy_model.specs.PlacedView.{Places, PlacesErrors};
+ghost use Rattle.smithy_model.specs.Reads.{Reads};
 
 use crate::error::JobError;
 use crate::nodes::{define_member, define_shape};
@@ -19,15 +23,23 @@ use smithy_schema::{SchemaIndex, Schemas};
 use smithy_types::OutOfMemory;
 use std::alloc::Global;
 
-/// The schema of an operation's input in a table of nodes: the members of all shapes that it reaches, each shape's behind
-/// those of the shape before it, then the shapes, then the input with the operation's `@http`.
+/// A schema of an operation in a table of nodes: the members of all shapes that it reaches, each shape's behind those of the
+/// shape before it, then the shapes, then the schema's own node, an input's with the operation's `@http`.
 #[derive(Drop)]
 pub struct Placed {
     pub table: Schemas,
-    /// The input's place, the last one.
+    /// The schema's place, the last one.
     pub place: SchemaIndex,
     /// The place of the prelude's document, the node of values without a node of their own.
     pub natural: SchemaIndex,
+}
+
+/// The errors of an operation and of its service, by their places in a table of the shapes that they reach.
+#[derive(Drop)]
+pub struct PlacedErrors {
+    pub table: Schemas,
+    pub operation: Vec<SchemaIndex>,
+    pub service: Vec<SchemaIndex>,
 }
 
 // A table with this many places that are only declared.
@@ -105,37 +117,110 @@ fn define_shapes<'v, 's>(
     Ok(())
 }
 
-/// The table of these shapes, with the input of an operation at its last place. Takes memory.
+// The spots of these shapes.
+fn spots_in<'v, 's>(alloc: Global, reached: &'s Reached<'v>) -> Result<SpotMap<'v, 's>, OutOfMemory>
+    requires { IsWhole reached.now }
+    ensures { IfOk result (λ m. AreSpots m (map shape_view reached.now.shapes.items)) }
+{
+    let shapes = reached.shapes.as_slice();
+    let first = member_count(shapes)?;
+    let spots = SpotMap {
+        first,
+        spots: spots_from(alloc, shapes, first)?,
+        places: &reached.places,
+    };
+    Ok(spots)
+}
+
+// The table of these shapes, with further places that are only declared. No job where a target isn't there.
+fn shapes_table<'v, 's>(
+    alloc: Global,
+    reached: &'s Reached<'v>,
+    spots: &SpotMap<'v, 's>,
+    further: usize,
+) -> Result<Schemas, JobError>
+    requires whole { IsWhole reached.now }
+    requires spots { AreSpots spots.now (map shape_view reached.now.shapes.items) }
+    ensures { Reads (λ t. t) (option_map (λ ns. filled ns further)
+        (defined.nodes_of (map shape_view reached.now.shapes.items))) result }
+{
+    let shapes = reached.shapes.as_slice();
+    let place = place_behind(spots.first, shapes.len())?;
+    let mut table = declared(alloc, place_behind(place, further)?)?;
+    define_all_members(alloc, &mut table, spots, shapes)?;
+    define_shapes(alloc, &mut table, spots, spots.first)?;
+    Ok(table)
+}
+
+/// The table of these shapes, with the schema of the shape of this name at its last place. Takes memory.
 ///
-/// No job where a target, or the input itself, isn't among the shapes.
+/// No job where a target, or the shape itself, isn't among the shapes.
 #[tactic(auto, unfolding(crate::specs::Nodes::schema_of))]
 pub fn table_of<'v>(
     alloc: Global,
     reached: &Reached<'v>,
     http: Option<HttpTrait<'v>>,
-    input: &str,
+    name: &str,
 ) -> Result<Placed, JobError>
     requires { IsWhole reached.now }
     ensures { Places
-        (defined.schema_of (map shape_view reached.now.shapes.items) http.entry input.now) result }
+        (defined.schema_of (map shape_view reached.now.shapes.items) http.entry name.now) result }
 {
     let shapes = reached.shapes.as_slice();
-    let count = member_count(shapes)?;
-    let place = place_behind(count, shapes.len())?;
-    let spots = SpotMap {
-        spots: spots_from(alloc, shapes, count)?,
-        places: &reached.places,
-    };
-    let Some(spot) = spot_named(&spots, input) else {
+    let spots = spots_in(alloc, reached)?;
+    let Some(spot) = spot_named(&spots, name) else {
         return Err(JobError::NoJob);
     };
-    let mut table = declared(alloc, place_behind(place, 1)?)?;
-    define_all_members(alloc, &mut table, &spots, shapes)?;
-    define_shapes(alloc, &mut table, &spots, count)?;
+    let mut table = shapes_table(alloc, reached, &spots, 1)?;
+    let place = place_behind(spots.first, shapes.len())?;
     define_shape(alloc, &mut table, &spots, place, spot, http)?;
     Ok(Placed {
         table,
         place: SchemaIndex(place),
-        natural: SchemaIndex(count),
+        natural: SchemaIndex(spots.first),
+    })
+}
+
+// The places of the shapes of these names. No job where one isn't there.
+fn places_named(
+    alloc: Global,
+    spots: &SpotMap<'_, '_>,
+    names: &[&str],
+) -> Result<Vec<SchemaIndex>, JobError>
+    ensures { Reads (λ v. places_of v.items)
+        (each (defined.place_named (spots_of spots.now)) (texts names.now)) result }
+{
+    let mut places = Vec::new(alloc);
+    for name in names {
+        let Some(spot) = spot_named(spots, name) else {
+            return Err(JobError::NoJob);
+        };
+        places.push(SchemaIndex(spot.place))?;
+    }
+    Ok(places)
+}
+
+/// The table of these shapes, with the places of the errors of an operation and of its service. Takes memory.
+///
+/// No job where a target, or an error, isn't among the shapes.
+#[tactic(auto, unfolding(crate::specs::Nodes::errors_of))]
+pub fn errors_of(
+    alloc: Global,
+    reached: &Reached<'_>,
+    operation: &[&str],
+    service: &[&str],
+) -> Result<PlacedErrors, JobError>
+    requires { IsWhole reached.now }
+    ensures { PlacesErrors (defined.errors_of (map shape_view reached.now.shapes.items)
+        (texts operation.now) (texts service.now)) result }
+{
+    let spots = spots_in(alloc, reached)?;
+    let table = shapes_table(alloc, reached, &spots, 0)?;
+    let operation = places_named(alloc, &spots, operation)?;
+    let service = places_named(alloc, &spots, service)?;
+    Ok(PlacedErrors {
+        table,
+        operation,
+        service,
     })
 }

@@ -1,7 +1,9 @@
 // Models that are read, and those that are refused.
-use crate::{JobError, Placed, read_json, schema_of_operation};
+use crate::{
+    Asked, JobError, Placed, errors_of_operation, read_json, schema_of_operation, text_of,
+};
 use smithy_ids::{PayloadHint, TimestampFormat};
-use smithy_schema::SchemaRef;
+use smithy_schema::{SchemaIndex, SchemaRef, Schemas};
 use std::alloc::Global;
 use std::process::Abort;
 
@@ -9,7 +11,7 @@ use std::process::Abort;
 fn placed(alloc: Global, shapes: &str) -> Result<Placed, JobError> {
     let text = format!(in alloc; "{{\"shapes\":{{{shapes}}}}}")?;
     let model = read_json(alloc, text.as_bytes())?;
-    schema_of_operation(alloc, &model, "ex#Op")
+    schema_of_operation(alloc, &model, "ex#Op", Asked::Input)
 }
 
 // Shapes, and how many places the table has: members, the prelude's 21 shapes with those that are reached, and the input.
@@ -84,6 +86,24 @@ const PASSED: &str = r#""ex#Op":{"type":"operation","input":{"target":"ex#In"},
         "traits":{"smithy.api#timestampFormat":"epoch-seconds"}}},
     "ex#Title":{"type":"string","traits":{"smithy.api#mediaType":"text/css","smithy.api#sensitive":{}}}"#;
 
+const PARTS: &str =
+    r#""ex#Op":{"type":"operation","input":{"target":"ex#In"},"output":{"target":"ex#Out"},
+        "errors":[{"target":"ex#First"},{"target":"ex#Second"}],
+        "traits":{"smithy.api#http":{"method":"PUT","uri":"/x"}}},
+    "ex#Out":{"type":"structure","members":{"first":{"target":"ex#First"}}},
+    "ex#First":{"type":"structure","members":{"out":{"target":"ex#Out"}}},
+    "ex#Second":{"type":"structure","members":{}},
+    "ex#Third":{"type":"structure","members":{"kind":{"target":"smithy.api#String"}}}"#;
+
+// What is asked, and the full name of the shape that is placed; none where it is no job.
+const ASKED: [(Asked, Option<&str>); 5] = [
+    (Asked::Input, None),
+    (Asked::Output, Some("ex#Out")),
+    (Asked::Error("ex#Second"), Some("ex#Second")),
+    (Asked::Error("ex#Third"), None),
+    (Asked::Error("ex#Gone"), None),
+];
+
 fn member<'t>(rt: &impl Abort, schema: SchemaRef<'t>, index: usize) -> SchemaRef<'t> {
     schema.member_schema_by_index(index).expect(rt, "no member")
 }
@@ -123,4 +143,48 @@ fn traits_pass_from_targets(rt: HostRuntime) {
         .get(found.natural)
         .expect(&rt, "no natural node");
     assert_eq!(rt; natural.full_name(), "smithy.api#Document");
+}
+
+fn name_at<'t>(rt: &impl Abort, table: &'t Schemas, place: SchemaIndex) -> &'t str {
+    table.get(place).expect(rt, "no node").full_name()
+}
+
+#[test]
+fn parts_are_placed(rt: HostRuntime) {
+    let alloc = rt.alloc();
+    let text = format!(in alloc;
+        "{{\"third\":\"ex#Third\",\"gone\":\"ex#Gone\",\"shapes\":{{{PARTS}}}}}"
+    ).expect(&rt, "no memory");
+    let model = read_json(alloc, text.as_bytes()).expect(&rt, "no model");
+    for (asked, name) in ASKED {
+        match schema_of_operation(alloc, &model, "ex#Op", asked) {
+            Ok(found) => {
+                assert_eq!(rt; Some(name_at(&rt, &found.table, found.place)), name);
+                let schema = found.table.get(found.place).expect(&rt, "no node");
+                assert!(rt; schema.http().is_none());
+            }
+            Err(error) => {
+                assert_eq!(rt; error, JobError::NoJob);
+                assert!(rt; name.is_none());
+            }
+        }
+    }
+    let third = text_of(&model, "third").expect(&rt, "no name");
+    let found = errors_of_operation(alloc, &model, "ex#Op", &[third]).expect(&rt, "no errors");
+    let [first, second] = found.operation.as_slice() else {
+        panic!(rt; "not two errors")
+    };
+    let [service] = found.service.as_slice() else {
+        panic!(rt; "not one error")
+    };
+    for (place, name) in [
+        (first, "ex#First"),
+        (second, "ex#Second"),
+        (service, "ex#Third"),
+    ] {
+        assert_eq!(rt; name_at(&rt, &found.table, *place), name);
+    }
+    let gone = text_of(&model, "gone").expect(&rt, "no name");
+    let gone = errors_of_operation(alloc, &model, "ex#Op", &[gone]);
+    assert!(rt; matches!(gone, Err(JobError::NoJob)));
 }

@@ -11,10 +11,10 @@ use Rattle.smithy_ids.specs.declared.shape_type.ShapeType.TheVariants as kind
 use Rattle.smithy_schema.specs.Nodes.{Table, Schema, at_place, node_at, shape, cited, element_of, key_of, value_of, member_at, member_named, position_of_name}
 use Rattle.smithy_schema.specs.declared.parts.SchemaIndex.{SchemaIndex}
 use Rattle.smithy_serde.specs.Values as value
-use Rattle.smithy_serde.specs.Values.{Scalar, Value, Write, Writes, no_writes, write, writes_of, list_of, label_of}
+use Rattle.smithy_serde.specs.Values.{Scalar, Value, Write, Writes, no_writes, write, writes_of, list_of}
 use Rattle.smithy_serde.specs.Told.{appended, one_write}
 use Rattle.smithy_serde.specs.IndexOrder.{in_order, in_index_order}
-use Rattle.smithy_serde.specs.StoredValues.{label_at, HasNode, value_in, writes_in, IsDefined, AreDefined}
+use Rattle.smithy_serde.specs.StoredValues.{HasNode, value_in, writes_in, IsDefined, AreDefined}
 use Rattle.smithy_serde.specs.StructValues.{members_of}
 use Rattle.smithy_serde.specs.declared.value.ShapeValue.TheVariants as stored
 use Rattle.smithy_serde.specs.declared.value.WriteList.{WriteList}
@@ -30,9 +30,9 @@ use Rattle.smithy_serde.specs.declared.builders.MapBuilder.{MapBuilder}
 use Rattle.smithy_serde.specs.declared.builders.StructBuilder.{StructBuilder}
 use Rattle.smithy_serde.specs.declared.builders.ValueReader.{ValueReader}
 use Rattle.smithy_serde.specs.declared.read_plan.Plan.TheVariants as plan
-use Rattle.smithy_serde.specs.ValueBuilding.{add_write, add_entry, list_nodes, map_nodes, struct_table, TakesElement, TakesEntry, TakesMember, IsPlan, ReadsValue}
-use Rattle.smithy_serde.specs.Collecting.{Collects, Built, all_added}
-use Rattle.smithy_serde.specs.Handing.{Same, Takes, IsAbove, HandsAll, HandsOut, AllHanded, settled_in, at_elements, at_entries, at_members}
+use Rattle.smithy_serde.specs.ValueBuilding.{add_write, add_entry, BuildsList, BuildsMap, BuildsStructure, TakesElement, TakesEntry, TakesMember, IsPlan, ReadsValue}
+use Rattle.smithy_serde.specs.Collecting.{Built, all_added}
+use Rattle.smithy_serde.specs.Handing.{IsAbove, HandsOut, AllHanded, settled_in, at_elements, at_entries, at_members}
 use Rattle.smithy_serde.specs.Held as held
 use Rattle.smithy_serde.specs.Held.{Held, Answer, is_null_held}
 use Rattle.smithy_serde.specs.HeldReads.{elements, entries, fields, known}
@@ -55,7 +55,7 @@ gives_memory f (Some (Err x)) e m = inr m
 pub at_the_place : (P : Schema → Type 0) (t : Table) (place : ℕ) (m : Schema) → Some m ≡ at_place t place → P m → (n : Schema) → at_place t place ≡ Some n → P n
 at_the_place P t place m there p n is = let same : m ≡ n = (let both : Some m ≡ Some n = there ∙ is in cc) in subst P same p
 
-at_place_table : (t : Table) (place : ℕ) (n : Schema) → at_place t place ≡ Some n → n.table ≡ t
+pub at_place_table : (t : Table) (place : ℕ) (n : Schema) → at_place t place ≡ Some n → n.table ≡ t
 at_place_table t place n is = placed (node_at t place) is
   where
     placed : (o : Option _) → option_map (λ m. record { table = t; node = m }) o ≡ Some n → n.table ≡ t
@@ -148,7 +148,7 @@ abbrev pub structure_total : List Write → Value
 structure_total ws = value.structure (writes_of (in_order ws))
 
 pub list_read : (held : Option Held) (n : Schema) (k : ShapeType) (null reads : Bool) (e : SchemaIndex) (s t : ListBuilder) (old new : AtHand) (answer : Answer) → old.held ≡ held → AtNode n held k null reads → reads ≡ false
-    → IsPlan k n (plan.List e) → s.table.now ≡ n.table → s.element.0 ≡ e.0 → writes_in s.table.now s.writes ≡ no_writes → HandsAll (at_elements TakesElement) (Same list_nodes) group.List n s t old new answer
+    → IsPlan k n (plan.List e) → s.table.now ≡ n.table → s.element.0 ≡ e.0 → writes_in s.table.now s.writes ≡ no_writes → BuildsList n s t old new answer
     → IfSome held (λ h. IsRead add_write list_total (value_read n h) (writes_in t.table.now t.writes) answer)
 list_read None n k null reads e s t old new answer is a other p table place none all = tt
 list_read (Some h) n k null reads e s t old new answer is a other p table place none all = record {
@@ -161,7 +161,7 @@ list_read (Some h) n k null reads e s t old new answer is a other p table place 
 }
 
 pub map_read : (held : Option Held) (n : Schema) (k : ShapeType) (null reads : Bool) (key e : SchemaIndex) (s t : MapBuilder) (old new : AtHand) (answer : Answer) → old.held ≡ held → AtNode n held k null reads → reads ≡ false
-    → IsPlan k n (plan.Map key e) → s.table.now ≡ n.table → s.key.0 ≡ key.0 → s.value.0 ≡ e.0 → writes_in s.table.now s.writes ≡ no_writes → HandsAll (at_entries TakesEntry) (Same map_nodes) group.Map n s t old new answer
+    → IsPlan k n (plan.Map key e) → s.table.now ≡ n.table → s.key.0 ≡ key.0 → s.value.0 ≡ e.0 → writes_in s.table.now s.writes ≡ no_writes → BuildsMap n s t old new answer
     → IfSome held (λ h. IsRead add_entry map_total (value_read n h) (writes_in t.table.now t.writes) answer)
 map_read None n k null reads key e s t old new answer is a other p table place place_2 none all = tt
 map_read (Some h) n k null reads key e s t old new answer is a other p table place place_2 none all = record {
@@ -232,7 +232,7 @@ members_built n h s t answer table handed =
     group.Structure (fields n h) s t answer (fields_placed n h) table handed
 
 pub structure_read : (held : Option Held) (n : Schema) (k : ShapeType) (null reads : Bool) (s t : StructBuilder) (old new : AtHand) (answer : Answer) → old.held ≡ held → AtNode n held k null reads → reads ≡ false
-    → IsPlan k n plan.Structure → s.table.now ≡ n.table → writes_in s.table.now s.writes ≡ no_writes → HandsAll (at_members TakesMember) (Same struct_table) group.Structure (shape n) s t old new answer
+    → IsPlan k n plan.Structure → s.table.now ≡ n.table → writes_in s.table.now s.writes ≡ no_writes → BuildsStructure (shape n) s t old new answer
     → IfSome held (λ h. IsRead add_write structure_total (value_read n h) (writes_in t.table.now t.writes) answer)
 structure_read None n k null reads s t old new answer is a other p table none all = tt
 structure_read (Some h) n k null reads s t old new answer is a other p table none all = record {
@@ -266,132 +266,6 @@ is_map new now v is same bs e = is ∙ ap value.map (same ∙ e ∙ added_entrie
 pub is_structure : (new now sorted : Writes) (v : Value) → v ≡ value.structure sorted → sorted ≡ in_index_order now → now ≡ new → (bs : List Write) → new ≡ all_added add_write no_writes bs → v ≡ structure_total bs
 is_structure new now sorted v is order same bs e =
     is ∙ ap value.structure (order ∙ ap (λ ws. writes_of (in_order ws)) (ap list_of (same ∙ e ∙ added_writes no_writes bs) ∙ list_of_writes bs))
-
--- one item is taken
-add_ok : (t : Table) (i : ℕ) (n : Schema) (r : Result Value SerdeError) (v : ShapeValue) (old new : Writes) → at_place t i ≡ Some n → Gives (value_in t) (Some r) (Ok v)
-    → new ≡ appended old (one_write (label_at t i) (value_in t v)) → Collects add_write (then_give r (write_by n)) old new (Ok tt)
-add_ok t i n (Ok x) v old new there g e =
-    let label : label_at t i ≡ label_of n = rw there refl in
-    inl (refl, e ∙ rw (label, g) refl)
-add_ok t i n (Err x) v old new there g e = absurd g
-
-add_err : {B V : Type 0} (add : V → B → V) (f : ShapeValue → Value) (w : Value → B) (r : Result Value SerdeError) (e : SerdeError) (old new : V) → Gives f (Some r) (Err e) → Collects add (then_give r w) old new (Err e)
-add_err add f w (Ok x) e old new g = inr (ap Err g)
-add_err add f w (Err x) e old new (inl g) = inl (ap Err g)
-add_err add f w (Err x) e old new (inr g) = inr (ap Err g)
-
-add_memory : {B V : Type 0} (add : V → B → V) (r : Result B SerdeError) (e : SerdeError) (old new : V) → e ≡ OutOfMemory → Collects add r old new (Err e)
-add_memory add (Ok x) e old new m = inr (ap Err m)
-add_memory add (Err x) e old new m = inr (ap Err m)
-
-pub element_ok : (held : Option Held) (s t : ListBuilder) (v : ShapeValue) → ((n : Schema) → at_place s.table.now s.element.0 ≡ Some n → Gives (value_in s.table.now) (option_map (value_read n) held) (Ok v))
-    → writes_in t.table.now t.writes ≡ appended (writes_in s.table.now s.writes) (one_write (label_at s.table.now s.element.0) (value_in s.table.now v)) → list_nodes t ≡ list_nodes s → IfSome held (λ h. TakesElement s h t (Ok tt))
-element_ok None s t v g e same = tt
-element_ok (Some h) s t v g e same = record { adds = λ n there. add_ok s.table.now s.element.0 n (value_read n h) v _ _ there (g n there) e; same = same }
-
-pub element_err : (held : Option Held) (s t : ListBuilder) (e : SerdeError) → ((n : Schema) → at_place s.table.now s.element.0 ≡ Some n → Gives (value_in s.table.now) (option_map (value_read n) held) (Err e))
-    → list_nodes t ≡ list_nodes s → IfSome held (λ h. TakesElement s h t (Err e))
-element_err None s t e g same = tt
-element_err (Some h) s t e g same = record { adds = λ n there. add_err add_write (value_in s.table.now) (write_by n) (value_read n h) e _ _ (g n there); same = same }
-
-pub element_memory : (held : Option Held) (s t : ListBuilder) (e : SerdeError) → e ≡ OutOfMemory → list_nodes t ≡ list_nodes s → IfSome held (λ h. TakesElement s h t (Err e))
-element_memory None s t e m same = tt
-element_memory (Some h) s t e m same = record { adds = λ n there. add_memory add_write (then_give (value_read n h) (write_by n)) e _ _ m; same = same }
-
-here_too : (t : Table) (i : ℕ) (m : Schema) → at_place m.table i ≡ Some m → IsPlaced t m → at_place t i ≡ Some m
-here_too t i m there p = subst (λ u. at_place u i ≡ Some m) (at_place_table t p.0 m p.1) there
-
-pub member_ok : (held : Option Held) (s t : StructBuilder) (m : Schema) (i : ℕ) (v : ShapeValue) → at_place m.table i ≡ Some m
-    → ((n : Schema) → at_place s.table.now i ≡ Some n → Gives (value_in s.table.now) (option_map (value_read n) held) (Ok v))
-    → writes_in t.table.now t.writes ≡ appended (writes_in s.table.now s.writes) (one_write (label_at s.table.now i) (value_in s.table.now v)) → t.table.now ≡ s.table.now → IfSome held (λ h. TakesMember s m h t (Ok tt))
-member_ok None s t m i v there g e same = tt
-member_ok (Some h) s t m i v there g e same = record {
-  adds = λ p. let here = here_too s.table.now i m there p in add_ok s.table.now i m (value_read m h) v _ _ here (g m here) e;
-  same = same;
-}
-
-pub member_err : (held : Option Held) (s t : StructBuilder) (m : Schema) (i : ℕ) (e : SerdeError) → at_place m.table i ≡ Some m
-    → ((n : Schema) → at_place s.table.now i ≡ Some n → Gives (value_in s.table.now) (option_map (value_read n) held) (Err e)) → t.table.now ≡ s.table.now → IfSome held (λ h. TakesMember s m h t (Err e))
-member_err None s t m i e there g same = tt
-member_err (Some h) s t m i e there g same = record {
-  adds = λ p. add_err add_write (value_in s.table.now) (write_by m) (value_read m h) e _ _ (g m (here_too s.table.now i m there p));
-  same = same;
-}
-
-pub member_memory : (held : Option Held) (s t : StructBuilder) (m : Schema) (e : SerdeError) → e ≡ OutOfMemory → t.table.now ≡ s.table.now → IfSome held (λ h. TakesMember s m h t (Err e))
-member_memory None s t m e mem same = tt
-member_memory (Some h) s t m e mem same = record { adds = λ p. add_memory add_write (then_give (value_read m h) (write_by m)) e _ _ mem; same = same }
-
-entry_added : (t : Table) (k n : Schema) (i j : ℕ) (key : List ℕ) (r : Result Value SerdeError) (v : ShapeValue) (old new : Writes) → at_place t i ≡ Some k → at_place t j ≡ Some n → Gives (value_in t) (Some r) (Ok v)
-    → new ≡ appended (appended old (one_write (label_at t i) (value.scalar (value.text key)))) (one_write (label_at t j) (value_in t v))
-    → Collects add_entry (then_give r (entry_by k n key)) old new (Ok tt)
-entry_added t k n i j key (Ok x) v old new there there_2 g e =
-    let label : label_at t i ≡ label_of k = rw there refl in
-    let label_2 : label_at t j ≡ label_of n = rw there_2 refl in
-    inl (refl, e ∙ rw (label, label_2, g) refl)
-entry_added t k n i j key (Err x) v old new there there_2 g e = absurd g
-
-pub entry_ok : (held : Option Held) (s t : MapBuilder) (key : List ℕ) (v : ShapeValue) → ((n : Schema) → at_place s.table.now s.value.0 ≡ Some n → Gives (value_in s.table.now) (option_map (value_read n) held) (Ok v))
-    → writes_in t.table.now t.writes ≡ appended (appended (writes_in s.table.now s.writes) (one_write (label_at s.table.now s.key.0) (value.scalar (value.text key)))) (one_write (label_at s.table.now s.value.0) (value_in s.table.now v))
-    → map_nodes t ≡ map_nodes s → IfSome held (λ h. TakesEntry s key h t (Ok tt))
-entry_ok None s t key v g e same = tt
-entry_ok (Some h) s t key v g e same = record {
-  adds = λ k n there there_2. entry_added s.table.now k n s.key.0 s.value.0 key (value_read n h) v _ _ there there_2 (g n there_2) e;
-  same = same;
-}
-
-pub entry_err : (held : Option Held) (s t : MapBuilder) (key : List ℕ) (e : SerdeError) → ((n : Schema) → at_place s.table.now s.value.0 ≡ Some n → Gives (value_in s.table.now) (option_map (value_read n) held) (Err e))
-    → map_nodes t ≡ map_nodes s → IfSome held (λ h. TakesEntry s key h t (Err e))
-entry_err None s t key e g same = tt
-entry_err (Some h) s t key e g same = record {
-  adds = λ k n there there_2. add_err add_entry (value_in s.table.now) (entry_by k n key) (value_read n h) e _ _ (g n there_2);
-  same = same;
-}
-
-pub entry_memory : (held : Option Held) (s t : MapBuilder) (key : List ℕ) (e : SerdeError) → e ≡ OutOfMemory → map_nodes t ≡ map_nodes s → IfSome held (λ h. TakesEntry s key h t (Err e))
-entry_memory None s t key e m same = tt
-entry_memory (Some h) s t key e m same = record {
-  adds = λ k n there there_2. add_memory add_entry (then_give (value_read n h) (entry_by k n key)) e _ _ m;
-  same = same;
-}
-
-pub element_taken : (s t : ListBuilder) (v : ShapeValue) (old new : AtHand) → ReadsValue s.table.now s.element.0 old new (Ok v)
-    → writes_in t.table.now t.writes ≡ appended (writes_in s.table.now s.writes) (one_write (label_at s.table.now s.element.0) (value_in s.table.now v)) → list_nodes t ≡ list_nodes s → Takes (at_elements TakesElement) (Same list_nodes) at_element s t old new (Ok tt)
-element_taken s t v old new r e same = record { taken = element_ok old.held s t v r.gives e same; kept = same; leaves = r.leaves }
-
-pub element_refused : (s t : ListBuilder) (e : SerdeError) (old new : AtHand) → ReadsValue s.table.now s.element.0 old new (Err e) → list_nodes t ≡ list_nodes s → Takes (at_elements TakesElement) (Same list_nodes) at_element s t old new (Err e)
-element_refused s t e old new r same = record { taken = element_err old.held s t e r.gives same; kept = same; leaves = r.leaves }
-
-pub element_full : (s t : ListBuilder) (e : SerdeError) (old new : AtHand) → new.opened ≡ old.opened → e ≡ OutOfMemory → list_nodes t ≡ list_nodes s → Takes (at_elements TakesElement) (Same list_nodes) at_element s t old new (Err e)
-element_full s t e old new kept m same = record { taken = element_memory old.held s t e m same; kept = same; leaves = ([], kept) }
-
-pub entry_taken : (s t : MapBuilder) (key : List ℕ) (v : ShapeValue) (old new : AtHand) → ReadsValue s.table.now s.value.0 old new (Ok v)
-    → writes_in t.table.now t.writes ≡ appended (appended (writes_in s.table.now s.writes) (one_write (label_at s.table.now s.key.0) (value.scalar (value.text key)))) (one_write (label_at s.table.now s.value.0) (value_in s.table.now v)) → map_nodes t ≡ map_nodes s → Takes (at_entries TakesEntry) (Same map_nodes) (at_key key) s t old new (Ok tt)
-entry_taken s t key v old new r e same = record { taken = entry_ok old.held s t key v r.gives e same; kept = same; leaves = r.leaves }
-
-pub entry_refused : (s t : MapBuilder) (key : List ℕ) (e : SerdeError) (old new : AtHand) → ReadsValue s.table.now s.value.0 old new (Err e) → map_nodes t ≡ map_nodes s → Takes (at_entries TakesEntry) (Same map_nodes) (at_key key) s t old new (Err e)
-entry_refused s t key e old new r same = record { taken = entry_err old.held s t key e r.gives same; kept = same; leaves = r.leaves }
-
-pub entry_full : (s t : MapBuilder) (key : List ℕ) (e : SerdeError) (old new : AtHand) → new.opened ≡ old.opened → e ≡ OutOfMemory → map_nodes t ≡ map_nodes s → Takes (at_entries TakesEntry) (Same map_nodes) (at_key key) s t old new (Err e)
-entry_full s t key e old new kept m same = record { taken = entry_memory old.held s t key e m same; kept = same; leaves = ([], kept) }
-
-pub member_taken : (s t : StructBuilder) (m : Schema) (i : ℕ) (v : ShapeValue) (old new : AtHand) → at_place m.table i ≡ Some m → ReadsValue s.table.now i old new (Ok v)
-    → writes_in t.table.now t.writes ≡ appended (writes_in s.table.now s.writes) (one_write (label_at s.table.now i) (value_in s.table.now v)) → t.table.now ≡ s.table.now → Takes (at_members TakesMember) (Same struct_table) (at_member m) s t old new (Ok tt)
-member_taken s t m i v old new there r e same = record { taken = member_ok old.held s t m i v there r.gives e same; kept = same; leaves = r.leaves }
-
-pub member_refused : (s t : StructBuilder) (m : Schema) (i : ℕ) (e : SerdeError) (old new : AtHand) → at_place m.table i ≡ Some m → ReadsValue s.table.now i old new (Err e) → t.table.now ≡ s.table.now → Takes (at_members TakesMember) (Same struct_table) (at_member m) s t old new (Err e)
-member_refused s t m i e old new there r same = record { taken = member_err old.held s t m i e there r.gives same; kept = same; leaves = r.leaves }
-
-pub member_full : (s t : StructBuilder) (m : Schema) (e : SerdeError) (old new : AtHand) → new.opened ≡ old.opened → e ≡ OutOfMemory → t.table.now ≡ s.table.now → Takes (at_members TakesMember) (Same struct_table) (at_member m) s t old new (Err e)
-member_full s t m e old new kept mem same = record { taken = member_memory old.held s t m e mem same; kept = same; leaves = ([], kept) }
-
--- a member of another table
-unknown_taken : (held : Option Held) (s : StructBuilder) (m : Schema) (e : SerdeError) → (IsPlaced s.table.now m → ⊥) → IfSome held (λ h. TakesMember s m h s (Err e))
-unknown_taken None s m e another = tt
-unknown_taken (Some h) s m e another = record { adds = λ p. absurd (another p); same = refl }
-
-pub member_unknown : (s : StructBuilder) (m : Schema) (e : SerdeError) (old : AtHand) → (IsPlaced s.table.now m → ⊥) → Takes (at_members TakesMember) (Same struct_table) (at_member m) s s old old (Err e)
-member_unknown s m e old another = record { taken = unknown_taken old.held s m e another; kept = refl; leaves = ([], refl) }
 
 -- the exits of `read_value`
 null_is : (t : Table) → value_in t stored.Null ≡ value.scalar value.null
@@ -455,7 +329,7 @@ value_scalar_err t place n k null reads s e old new there a other p reads_it = r
 }
 
 pub value_list : (t : Table) (place : ℕ) (n : Schema) (k : ShapeType) (null reads : Bool) (e : SchemaIndex) (b c : ListBuilder) (old new : AtHand) → Some n ≡ at_place t place → AtNode n old.held k null reads → reads ≡ false → IsPlan k n (plan.List e)
-    → HandsAll (at_elements TakesElement) (Same list_nodes) group.List n b c old new (Ok tt) → b.table.now ≡ t → b.element.0 ≡ e.0 → writes_in b.table.now b.writes ≡ no_writes → AreDefined t c.writes → ReadsValue t place old new (Ok (stored.List c.writes))
+    → BuildsList n b c old new (Ok tt) → b.table.now ≡ t → b.element.0 ≡ e.0 → writes_in b.table.now b.writes ≡ no_writes → AreDefined t c.writes → ReadsValue t place old new (Ok (stored.List c.writes))
 value_list t place n k null reads e b c old new there a other p all table place_is none defined = record {
   gives = at_the_place (λ m. Gives (value_in t) (option_map (value_read m) old.held) (Ok (stored.List c.writes))) t place n there
       (read_ok (value_in t) add_write list_total n old.held (writes_in c.table.now c.writes) (stored.List c.writes)
@@ -466,7 +340,7 @@ value_list t place n k null reads e b c old new there a other p all table place_
 }
 
 pub value_list_err : (t : Table) (place : ℕ) (n : Schema) (k : ShapeType) (null reads : Bool) (i : SchemaIndex) (b c : ListBuilder) (e : SerdeError) (old new : AtHand) → Some n ≡ at_place t place → AtNode n old.held k null reads → reads ≡ false → IsPlan k n (plan.List i)
-    → HandsAll (at_elements TakesElement) (Same list_nodes) group.List n b c old new (Err e) → b.table.now ≡ t → b.element.0 ≡ i.0 → writes_in b.table.now b.writes ≡ no_writes → ReadsValue t place old new (Err e)
+    → BuildsList n b c old new (Err e) → b.table.now ≡ t → b.element.0 ≡ i.0 → writes_in b.table.now b.writes ≡ no_writes → ReadsValue t place old new (Err e)
 value_list_err t place n k null reads i b c e old new there a other p all table place_is none = record {
   gives = at_the_place (λ m. Gives (value_in t) (option_map (value_read m) old.held) (Err e)) t place n there
       (read_err (value_in t) add_write list_total n old.held (writes_in c.table.now c.writes) e
@@ -476,7 +350,7 @@ value_list_err t place n k null reads i b c e old new there a other p all table 
 }
 
 pub value_map : (t : Table) (place : ℕ) (n : Schema) (k : ShapeType) (null reads : Bool) (key i : SchemaIndex) (b c : MapBuilder) (old new : AtHand) → Some n ≡ at_place t place → AtNode n old.held k null reads → reads ≡ false → IsPlan k n (plan.Map key i)
-    → HandsAll (at_entries TakesEntry) (Same map_nodes) group.Map n b c old new (Ok tt) → b.table.now ≡ t → b.key.0 ≡ key.0 → b.value.0 ≡ i.0 → writes_in b.table.now b.writes ≡ no_writes → AreDefined t c.writes → ReadsValue t place old new (Ok (stored.Map c.writes))
+    → BuildsMap n b c old new (Ok tt) → b.table.now ≡ t → b.key.0 ≡ key.0 → b.value.0 ≡ i.0 → writes_in b.table.now b.writes ≡ no_writes → AreDefined t c.writes → ReadsValue t place old new (Ok (stored.Map c.writes))
 value_map t place n k null reads key i b c old new there a other p all table key_is value_is none defined = record {
   gives = at_the_place (λ m. Gives (value_in t) (option_map (value_read m) old.held) (Ok (stored.Map c.writes))) t place n there
       (read_ok (value_in t) add_entry map_total n old.held (writes_in c.table.now c.writes) (stored.Map c.writes)
@@ -487,7 +361,7 @@ value_map t place n k null reads key i b c old new there a other p all table key
 }
 
 pub value_map_err : (t : Table) (place : ℕ) (n : Schema) (k : ShapeType) (null reads : Bool) (key i : SchemaIndex) (b c : MapBuilder) (e : SerdeError) (old new : AtHand) → Some n ≡ at_place t place → AtNode n old.held k null reads → reads ≡ false → IsPlan k n (plan.Map key i)
-    → HandsAll (at_entries TakesEntry) (Same map_nodes) group.Map n b c old new (Err e) → b.table.now ≡ t → b.key.0 ≡ key.0 → b.value.0 ≡ i.0 → writes_in b.table.now b.writes ≡ no_writes → ReadsValue t place old new (Err e)
+    → BuildsMap n b c old new (Err e) → b.table.now ≡ t → b.key.0 ≡ key.0 → b.value.0 ≡ i.0 → writes_in b.table.now b.writes ≡ no_writes → ReadsValue t place old new (Err e)
 value_map_err t place n k null reads key i b c e old new there a other p all table key_is value_is none = record {
   gives = at_the_place (λ m. Gives (value_in t) (option_map (value_read m) old.held) (Err e)) t place n there
       (read_err (value_in t) add_entry map_total n old.held (writes_in c.table.now c.writes) e
@@ -497,7 +371,7 @@ value_map_err t place n k null reads key i b c e old new there a other p all tab
 }
 
 pub value_structure : (t : Table) (place : ℕ) (n : Schema) (k : ShapeType) (null reads : Bool) (b c : StructBuilder) (sorted : WriteList) (old new : AtHand) → Some n ≡ at_place t place → AtNode n old.held k null reads → reads ≡ false → IsPlan k n plan.Structure
-    → HandsAll (at_members TakesMember) (Same struct_table) group.Structure (shape n) b c old new (Ok tt) → b.table.now ≡ t → writes_in b.table.now b.writes ≡ no_writes → writes_in t sorted ≡ in_index_order (writes_in t c.writes) → AreDefined t sorted → ReadsValue t place old new (Ok (stored.Struct sorted))
+    → BuildsStructure (shape n) b c old new (Ok tt) → b.table.now ≡ t → writes_in b.table.now b.writes ≡ no_writes → writes_in t sorted ≡ in_index_order (writes_in t c.writes) → AreDefined t sorted → ReadsValue t place old new (Ok (stored.Struct sorted))
 value_structure t place n k null reads b c sorted old new there a other p all table none order defined = record {
   gives = at_the_place (λ m. Gives (value_in t) (option_map (value_read m) old.held) (Ok (stored.Struct sorted))) t place n there
       (read_ok (value_in t) add_write structure_total n old.held (writes_in c.table.now c.writes) (stored.Struct sorted)
@@ -508,7 +382,7 @@ value_structure t place n k null reads b c sorted old new there a other p all ta
 }
 
 pub value_structure_err : (t : Table) (place : ℕ) (n : Schema) (k : ShapeType) (null reads : Bool) (b c : StructBuilder) (e : SerdeError) (old new : AtHand) → Some n ≡ at_place t place → AtNode n old.held k null reads → reads ≡ false → IsPlan k n plan.Structure
-    → HandsAll (at_members TakesMember) (Same struct_table) group.Structure (shape n) b c old new (Err e) → b.table.now ≡ t → writes_in b.table.now b.writes ≡ no_writes → ReadsValue t place old new (Err e)
+    → BuildsStructure (shape n) b c old new (Err e) → b.table.now ≡ t → writes_in b.table.now b.writes ≡ no_writes → ReadsValue t place old new (Err e)
 value_structure_err t place n k null reads b c e old new there a other p all table none = record {
   gives = at_the_place (λ m. Gives (value_in t) (option_map (value_read m) old.held) (Err e)) t place n there
       (read_err (value_in t) add_write structure_total n old.held (writes_in c.table.now c.writes) e
@@ -537,7 +411,7 @@ has_node_at t place n m i there is =
 
 -- a structure read at the top, where the null is refused
 structure_opened : (held : Option Held) (n : Schema) (s t : StructBuilder) (old new : AtHand) (answer : Answer) → old.held ≡ held → s.table.now ≡ n.table → writes_in s.table.now s.writes ≡ no_writes
-    → HandsAll (at_members TakesMember) (Same struct_table) group.Structure (shape n) s t old new answer → IfSome held (λ h. IsRead add_write structure_total (value_of_structure value_read (shape n) h) (writes_in t.table.now t.writes) answer)
+    → BuildsStructure (shape n) s t old new answer → IfSome held (λ h. IsRead add_write structure_total (value_of_structure value_read (shape n) h) (writes_in t.table.now t.writes) answer)
 structure_opened None n s t old new answer is table none all = tt
 structure_opened (Some h) n s t old new answer is table none all = record {
   all = then_try (fields (shape n) h) (all_read (λ x. then_give (value_read x.0 x.1) (write_by x.0)));
@@ -562,14 +436,14 @@ by_node : (held : Option Held) (r : ValueReader) (n : Schema) (answer : Result S
 by_node None r n answer there g = tt
 by_node (Some h) r n answer there g = at_the_place (λ m. Gives structure_of (Some (value_of_structure value_read (shape m) h)) answer) r.table.now r.schema.0 n there g
 
-pub reader_err : (r : ValueReader) (n : Schema) (s t : StructBuilder) (e : SerdeError) (old new : AtHand) → Some n ≡ at_place r.table.now r.schema.0 → HandsAll (at_members TakesMember) (Same struct_table) group.Structure (shape n) s t old new (Err e)
+pub reader_err : (r : ValueReader) (n : Schema) (s t : StructBuilder) (e : SerdeError) (old new : AtHand) → Some n ≡ at_place r.table.now r.schema.0 → BuildsStructure (shape n) s t old new (Err e)
     → s.table.now ≡ r.table.now → writes_in s.table.now s.writes ≡ no_writes → ReadsBy (gives_structure r) old new (Err e)
 reader_err r n s t e old new there all table none = record {
   gives = by_node old.held r n (Err e) there (opened_err old.held n (writes_in t.table.now t.writes) e (structure_opened old.held n s t old new (Err e) refl (table ∙ sym (at_place_table r.table.now r.schema.0 n (sym there))) none all));
   leaves = all.leaves;
 }
 
-pub reader_ok : (r : ValueReader) (n : Schema) (s t : StructBuilder) (sorted : WriteList) (v : StructValue) (old new : AtHand) → Some n ≡ at_place r.table.now r.schema.0 → HandsAll (at_members TakesMember) (Same struct_table) group.Structure (shape n) s t old new (Ok tt)
+pub reader_ok : (r : ValueReader) (n : Schema) (s t : StructBuilder) (sorted : WriteList) (v : StructValue) (old new : AtHand) → Some n ≡ at_place r.table.now r.schema.0 → BuildsStructure (shape n) s t old new (Ok tt)
     → s.table.now ≡ r.table.now → writes_in s.table.now s.writes ≡ no_writes → writes_in r.table.now sorted ≡ in_index_order (writes_in r.table.now t.writes)
     → members_of v ≡ writes_in r.table.now sorted → ReadsBy (gives_structure r) old new (Ok v)
 reader_ok r n s t sorted v old new there all table none order is = record {

@@ -1,12 +1,12 @@
 -- How far a loop over the items of a container has come.
-use Rattle.std.proofs.Common.{◌≡◌, ℕ, List, [], ◌∷◌, ◌++◌, Option, Some, None, Ok, Err, IfSome, ◌⊎◌, inl, inr, refl, sym, ap, subst, ◌∙◌, append_assoc}
+use Rattle.std.proofs.Common.{◌≡◌, ℕ, List, [], ◌∷◌, ◌++◌, Option, Some, None, option_map, Ok, Err, IfSome, ◌⊎◌, inl, inr, refl, sym, ap, subst, ◌∙◌, append_assoc}
 use Rattle.smithy_schema.specs.Nodes.{Schema}
 use Rattle.smithy_serde.specs.declared.error.SerdeError.{SerdeError}
 use Rattle.smithy_serde.specs.declared.error.SerdeError.TheVariants.{OutOfMemory}
 use Rattle.smithy_serde.specs.declared.scalar.Group.{Group}
 use Rattle.smithy_serde.specs.declared.scalar.Group.TheVariants as group
 use Rattle.smithy_serde.specs.Handing.{IsKept, HandsOut, settled_by, settled_in, AllHanded, HandsAll, Takes, IsAbove}
-use Rattle.smithy_serde.specs.Held.{Held, Answer, IsAnswer}
+use Rattle.smithy_serde.specs.Held.{Held, Answer, IsAnswer, walked}
 use Rattle.smithy_serde.specs.Listings.{Slot, Listing, asked}
 use Rattle.smithy_serde.specs.ReadCalls.{Frame, AtHand, Hands, SettlesBy, Opened, NotOpened, Advanced, Closed, Halted, Hidden, Answered, IsRefused, IsRefusedAt}
 
@@ -21,7 +21,7 @@ pub record Walking {S : Type 0} (takes : S → Slot → Held → S → Answer �
   pub frame : Frame
   pub stack : now.opened ≡ frame ∷ before.opened
   pub form : frame.form ≡ g
-  pub container : frame.container ≡ before.held
+  pub container : frame.container ≡ option_map walked before.held
   pub depth : frame.depth ≡ before.levels
   pub follows : Follows takes g (before.listing g node) (frame.to_come (asked g node)) start state
   pub kept : keeps start state
@@ -119,7 +119,7 @@ module _ {S : Type 0} {takes : S → Slot → Held → S → Answer → Type 0} 
   -- no item came to hand
   pub halted : (start state : S) (before now after : AtHand) (e : SerdeError) → Walking takes keeps g node start state before now → Halted (asked g node) now after e → HandsAll takes keeps g node start state before after (Err e)
   halted start state before now after e w h =
-      let still : (next : Frame) × (after.opened ≡ next ∷ before.opened) = h.still w.frame before.opened w.stack in
+      let still = h.still w.frame before.opened w.stack in
       record {
         handed = follows_refused S takes g (before.listing g node) (w.frame.to_come (asked g node)) start state e w.follows (h.refused w.frame before.opened w.stack);
         kept = w.kept;

@@ -1,12 +1,12 @@
 -- How the items of a container go to a consumer.
-use Rattle.std.specs.Prelude.{◌≡◌, ◌++◌, ℕ, List, [], ◌∷◌, Option, Some, None, Result, Ok, Err, IfSome, ◌⊎◌, MatchResult}
+use Rattle.std.specs.Prelude.{◌≡◌, ◌++◌, ℕ, List, [], ◌∷◌, Option, Some, None, option_map, Result, Ok, Err, IfSome, ◌⊎◌, MatchResult}
 use Rattle.std.proofs.Common.{refl, ◌∙◌}
 use Rattle.smithy_schema.specs.Nodes.{Schema}
 use Rattle.smithy_serde.specs.declared.error.SerdeError.{SerdeError}
 use Rattle.smithy_serde.specs.declared.error.SerdeError.TheVariants.{OutOfMemory}
 use Rattle.smithy_serde.specs.declared.scalar.Group.{Group}
 use Rattle.smithy_serde.specs.declared.scalar.Group.TheVariants as group
-use Rattle.smithy_serde.specs.Held.{Held, Answer, IsAnswer}
+use Rattle.smithy_serde.specs.Held.{Held, Answer, IsAnswer, walked}
 use Rattle.smithy_serde.specs.Listings.{Slot, at_member, at_element, at_key, Listing, as_it_is}
 use Rattle.smithy_serde.specs.ReadCalls.{Frame, AtHand}
 
@@ -82,7 +82,7 @@ pub record Takes {S : Type 0} (takes : S → Slot → Held → S → Answer → 
 -- the container is closed, and at hand again
 pub record Again (old new : AtHand) : Type 0 where
   pub opened : new.opened ≡ old.opened
-  pub held : new.held ≡ old.held
+  pub held : new.held ≡ option_map walked old.held
   pub levels : new.levels ≡ old.levels
 
 abbrev pub LeavesAll : {U : Type 0} → AtHand → AtHand → Result U SerdeError → Type 0

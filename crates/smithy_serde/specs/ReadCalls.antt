@@ -18,7 +18,7 @@ use Rattle.smithy_serde.specs.declared.read_scalar.ScalarKind.{ScalarKind}
 use Rattle.smithy_serde.specs.declared.read_scalar.ScalarKind.TheVariants as of
 use Rattle.smithy_serde.specs.declared.read_scalar.ReadScalar.{ReadScalar}
 use Rattle.smithy_serde.specs.declared.read_scalar.ReadScalar.TheVariants as given
-use Rattle.smithy_serde.specs.Held.{Held, Answer, IsAnswer, is_null_held}
+use Rattle.smithy_serde.specs.Held.{Held, Answer, IsAnswer, is_null_held, walked}
 use Rattle.smithy_serde.specs.HeldReads.{read_scalar}
 use Rattle.smithy_serde.specs.Listings.{Slot, at_member, at_element, at_key, Listing, contents, asked}
 
@@ -46,6 +46,11 @@ pub record AtHand : Type 0 where
   pub opened : List Frame
   -- where the value at hand is told, so is what opening it hands out
   pub told : (g : Group) (node : Schema) (h : Held) → held ≡ Some h → listing g node ≡ Some (contents g node h)
+
+-- A reader that begins: this is at hand, where it is told, and nothing is open.
+pub record Begins (held : Option Held) (seen : AtHand) : Type 0 where
+  pub has : seen.held ≡ held
+  pub none_open : seen.opened ≡ []
 
 -- the innermost open container was opened in this way
 abbrev pub IsIn : Group → AtHand → Type 0
@@ -139,7 +144,7 @@ pub record Opened (g : Group) (node : Schema) (old new : AtHand) : Type 0 where
   pub frame : Frame
   pub now_is : new.opened ≡ frame ∷ old.opened
   pub form : frame.form ≡ g
-  pub container : frame.container ≡ old.held
+  pub container : frame.container ≡ option_map walked old.held
   pub depth : frame.depth ≡ old.levels
   pub within : frame.left (asked g node) ≤ old.size g node
   pub to_come : frame.to_come (asked g node) ≡ old.listing g node
@@ -147,6 +152,7 @@ pub record Opened (g : Group) (node : Schema) (old new : AtHand) : Type 0 where
 -- it was not
 pub record NotOpened (g : Group) (node : Schema) (old new : AtHand) (e : SerdeError) : Type 0 where
   pub opened : new.opened ≡ old.opened
+  pub levels : new.levels ≡ old.levels
   pub refused : IsRefused (old.listing g node) e
 
 abbrev pub OpensAt : {U : Type 0} → Group → Schema → AtHand → AtHand → Result U SerdeError → Type 0
@@ -189,9 +195,9 @@ pub record Closed (by : Option Schema) (old new : AtHand) : Type 0 where
   pub none_left : IfSome (top.to_come by) (λ xs. xs.items ≡ [])
   pub not_refused : IfSome (top.to_come by) (λ xs. xs.ends ≡ None)
 
--- no item came to hand; what is open around the container is as it was
+-- no item came to hand; what is open around the container is as it was, and so are the levels of the container
 pub record Halted (by : Option Schema) (old new : AtHand) (e : SerdeError) : Type 0 where
-  pub still : (top : Frame) (below : List Frame) → old.opened ≡ top ∷ below → (next : Frame) × (new.opened ≡ next ∷ below)
+  pub still : (top : Frame) (below : List Frame) → old.opened ≡ top ∷ below → (next : Frame) × (new.opened ≡ next ∷ below) × (next.depth ≡ top.depth)
   pub refused : (top : Frame) (below : List Frame) → old.opened ≡ top ∷ below → IsRefused (top.to_come by) e
 
 -- one of the schema's members

@@ -9,13 +9,14 @@ use Rattle.smithy_serde.specs.Told.{appended, one_write}
 use Rattle.smithy_serde.specs.StoredValues.{label_at, value_in, writes_in, IsDefined}
 use Rattle.smithy_serde.specs.declared.value.ShapeValue.{ShapeValue}
 use Rattle.smithy_serde.specs.declared.error.SerdeError.{SerdeError}
+use Rattle.smithy_serde.specs.declared.scalar.Group.TheVariants as group
 use Rattle.smithy_serde.specs.declared.builders.ListBuilder.{ListBuilder}
 use Rattle.smithy_serde.specs.declared.builders.MapBuilder.{MapBuilder}
 use Rattle.smithy_serde.specs.declared.builders.StructBuilder.{StructBuilder}
 use Rattle.smithy_serde.specs.declared.read_plan.Plan.{Plan}
 use Rattle.smithy_serde.specs.declared.read_plan.Plan.TheVariants as plan
 use Rattle.smithy_serde.specs.Collecting.{Collects}
-use Rattle.smithy_serde.specs.Handing.{Leaves}
+use Rattle.smithy_serde.specs.Handing.{Leaves, Same, HandsAll, at_elements, at_entries, at_members}
 use Rattle.smithy_serde.specs.Held.{Held, Answer}
 use Rattle.smithy_serde.specs.HeldReads.{read_scalar}
 use Rattle.smithy_serde.specs.ReadCalls.{AtHand, Gives, type_of}
@@ -59,6 +60,16 @@ pub record TakesMember (old : StructBuilder) (node : Schema) (held : Held) (new 
   pub adds : IsPlaced old.table.now node
       → Collects add_write (then_give (value_read node held) (write_by node)) (writes_in old.table.now old.writes) (writes_in new.table.now new.writes) answer
   pub same : struct_table new ≡ struct_table old
+
+-- what is at hand is opened, and its items go to the builder of a list, of a map, of a structure
+abbrev pub BuildsList : Schema → ListBuilder → ListBuilder → AtHand → AtHand → Answer → Type 0
+BuildsList node start last old new answer = HandsAll (at_elements TakesElement) (Same list_nodes) group.List node start last old new answer
+
+abbrev pub BuildsMap : Schema → MapBuilder → MapBuilder → AtHand → AtHand → Answer → Type 0
+BuildsMap node start last old new answer = HandsAll (at_entries TakesEntry) (Same map_nodes) group.Map node start last old new answer
+
+abbrev pub BuildsStructure : Schema → StructBuilder → StructBuilder → AtHand → AtHand → Answer → Type 0
+BuildsStructure node start last old new answer = HandsAll (at_members TakesMember) (Same struct_table) group.Structure node start last old new answer
 
 -- how a node of the kind is read
 abbrev pub IsPlan : ShapeType → Schema → Plan → Type 0

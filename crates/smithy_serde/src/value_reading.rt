@@ -7,9 +7,9 @@ ghost use Rattle.smithy_schema.specs.Nodes.{Table};
 ghost use Rattle.smithy_schema.specs.References.{schema_of};
 ghost use Rattle.smithy_serde.specs.Values.{scalar as made};
 ghost use Rattle.smithy_serde.specs.StoredValues.{HasNode, IsDefined, value_in, writes_in};
-ghost use Rattle.smithy_serde.specs.declared.scalar.Group.TheVariants as group;
 ghost use Rattle.smithy_serde.specs.ValueBuilding.{list_nodes, map_nodes, struct_table, TakesElement, TakesEntry, TakesMember, ReadsValue};
-ghost use Rattle.smithy_serde.specs.Handing.{Same, same_kept, at_members, at_elements, at_entries, HandsAll};
+ghost use Rattle.smithy_serde.specs.ValueBuilding.{BuildsList, BuildsMap, BuildsStructure};
+ghost use Rattle.smithy_serde.specs.Handing.{Same, same_kept};
 ghost use Rattle.smithy_serde.specs.ReadCalls.{scalar_of_read, is_of_kind};
 
 use crate::builders::{ListBuilder, MapBuilder, StructBuilder};
@@ -37,7 +37,8 @@ fn reads_null(is_null: bool, shape_type: ShapeType) -> bool
 #[tactic(auto, unfolding(crate::specs::StoredValues::value_in, crate::specs::StoredValues::IsDefined))]
 fn stored(scalar: ReadScalar) -> ShapeValue
     ensures value { (t : Table) → value_in t result ≡ made (scalar_of_read scalar) }
-    ensures defined { (k : _) → is_of_kind k (scalar_of_read scalar) ≡ true → (t : Table) → IsDefined t result }
+    ensures defined { (k : _) → is_of_kind k (scalar_of_read scalar) ≡ true
+        → (t : Table) → IsDefined t result }
 {
     match scalar {
         ReadScalar::Boolean(value) => ShapeValue::Boolean(value),
@@ -131,7 +132,8 @@ fn read_elements<D: ShapeDeserializer>(
     schema: SchemaRef<'_>,
     consumer: &mut ListBuilder<'_>,
 ) -> Result<(), SerdeError>
-    ensures { HandsAll (at_elements TakesElement) (Same list_nodes) group.List (schema_of schema.entry) consumer.old consumer.new (D.at_hand reader.old) (D.at_hand reader.new) result }
+    ensures { BuildsList (schema_of schema.entry) consumer.old consumer.new
+        (D.at_hand reader.old) (D.at_hand reader.new) result }
 {
     reader.open_list(alloc, schema)?;
     while reader.next_element(alloc)? {
@@ -148,7 +150,8 @@ fn read_entries<D: ShapeDeserializer>(
     schema: SchemaRef<'_>,
     consumer: &mut MapBuilder<'_>,
 ) -> Result<(), SerdeError>
-    ensures { HandsAll (at_entries TakesEntry) (Same map_nodes) group.Map (schema_of schema.entry) consumer.old consumer.new (D.at_hand reader.old) (D.at_hand reader.new) result }
+    ensures { BuildsMap (schema_of schema.entry) consumer.old consumer.new
+        (D.at_hand reader.old) (D.at_hand reader.new) result }
 {
     reader.open_map(alloc, schema)?;
     while let Some(key) = reader.next_entry(alloc)? {
@@ -165,7 +168,8 @@ pub(crate) fn read_members<D: ShapeDeserializer>(
     schema: SchemaRef<'_>,
     consumer: &mut StructBuilder<'_>,
 ) -> Result<(), SerdeError>
-    ensures { HandsAll (at_members TakesMember) (Same struct_table) group.Structure (schema_of schema.entry) consumer.old consumer.new (D.at_hand reader.old) (D.at_hand reader.new) result }
+    ensures { BuildsStructure (schema_of schema.entry) consumer.old consumer.new
+        (D.at_hand reader.old) (D.at_hand reader.new) result }
 {
     reader.open_struct(alloc, schema)?;
     while let Some(member) = reader.next_member(alloc, schema)? {

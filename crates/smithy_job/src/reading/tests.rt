@@ -1,5 +1,5 @@
-// Jobs, from their bytes to the values of their writes.
-use crate::read_job;
+// Jobs, from their bytes to the values of their writes, and to what a response is read as.
+use crate::{Expected, read_job, read_received};
 use smithy_model::{JobError, read_json};
 use smithy_serde::ShapeValue;
 use smithy_types::OutOfMemory;
@@ -48,9 +48,53 @@ const ASKED: [(&str, Option<bool>); 9] = [
     (r#""input":[],"omit":{"contentLength":0}"#, None),
 ];
 
+// What a response is read as; none where it is no job.
+const RECEIVED: [(&str, Option<&str>); 17] = [
+    (r#""response":{"status":100}"#, Some("output")),
+    (
+        r#""response":{"status":999,"headers":[["A","b"],["a",{"base64":"/w=="}]],"body":{"base64":"/w=="}},"policy":"skip""#,
+        Some("output"),
+    ),
+    (
+        r#""response":{"status":400,"body":null},"error":"ex#Bad","policy":"reject""#,
+        Some("error"),
+    ),
+    (
+        r#""response":{"status":400,"body":"{}"},"code":"Bad","serviceErrors":["ex#In"]"#,
+        Some("code"),
+    ),
+    (
+        r#""response":{"status":200},"serviceErrors":["ex#Gone"]"#,
+        Some("output"),
+    ),
+    (r#""input":{}"#, None),
+    (r#""response":{"status":99}"#, None),
+    (r#""response":{"status":1000}"#, None),
+    (r#""response":{"headers":[]}"#, None),
+    (r#""response":{"status":200,"headers":[["a b","1"]]}"#, None),
+    (
+        r#""response":{"status":200,"headers":[["a","
+"]]}"#,
+        None,
+    ),
+    (r#""response":{"status":200,"headers":[["a"]]}"#, None),
+    (r#""response":{"status":200,"body":{"base64":"/w"}}"#, None),
+    (r#""response":{"status":200},"policy":"none""#, None),
+    (r#""response":{"status":200},"error":"ex#In""#, None),
+    (
+        r#""response":{"status":200},"error":"ex#Bad","serviceErrors":[]"#,
+        None,
+    ),
+    (
+        r#""response":{"status":200},"code":"Bad","serviceErrors":["ex#Gone"]"#,
+        None,
+    ),
+];
+
 fn job_of(alloc: Global, target: &str, asked: &str) -> Result<String, OutOfMemory> {
     Ok(format!(in alloc;
-        "{{\"model\":{{\"shapes\":{{\"ex#Do\":{{\"type\":\"operation\",\"input\":{{\"target\":\"ex#In\"}}}},\
+        "{{\"model\":{{\"shapes\":{{\"ex#Do\":{{\"type\":\"operation\",\"input\":{{\"target\":\"ex#In\"}},\"errors\":[{{\"target\":\"ex#Bad\"}}]}},\
+        \"ex#Bad\":{{\"type\":\"structure\",\"members\":{{}}}},\
         \"ex#List\":{{\"type\":\"list\",\"member\":{{\"target\":\"ex#In\"}}}},\
         \"ex#Map\":{{\"type\":\"map\",\"key\":{{\"target\":\"smithy.api#Blob\"}},\"value\":{{\"target\":\"ex#List\"}}}},\
         \"ex#In\":{{\"type\":\"structure\",\"members\":{{\"M\":{{\"target\":\"{target}\"}}}}}}}}}},\
@@ -91,6 +135,31 @@ fn first_word(alloc: Global, text: &str) -> Result<&'static str, JobError> {
 fn has_further(alloc: Global, text: &str) -> Result<bool, JobError> {
     let value = read_json(alloc, text.as_bytes())?;
     Ok(read_job(alloc, &value)?.further.is_some())
+}
+
+fn expected_word(alloc: Global, text: &str) -> Result<&'static str, JobError> {
+    let value = read_json(alloc, text.as_bytes())?;
+    let received = read_received(alloc, &value)?;
+    match received.expected {
+        Expected::Output(_) => Ok("output"),
+        Expected::Error(_) => Ok("error"),
+        Expected::Coded(_) => Ok("code"),
+    }
+}
+
+#[test]
+fn reads_received_jobs(rt: HostRuntime) -> Result<(), Fail> {
+    let alloc = rt.alloc();
+    for (asked, word) in RECEIVED {
+        let job = job_of(alloc, "smithy.api#Integer", asked)?;
+        let found = match expected_word(alloc, job.as_str()) {
+            Ok(found) => Some(found),
+            Err(JobError::NoJob) => None,
+            Err(JobError::OutOfMemory) => return Err(OutOfMemory.into()),
+        };
+        assert_eq!(rt; found, word, "{asked}");
+    }
+    Ok(())
 }
 
 #[test]

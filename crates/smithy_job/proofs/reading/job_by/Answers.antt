@@ -1,6 +1,7 @@
 use Rattle.std.proofs.Common.{◌∙◌, rules, Some, sym, ap, option_and_then}
 use Rattle.serde_json.specs.View.{view}
 use Rattle.smithy_schema.specs.References.{schema_of}
+use Rattle.smithy_model.specs.Models as models
 use Rattle.smithy_job.specs.Inputs.{input}
 use Rattle.smithy_job.specs.JobView.{IsJob}
 use Rattle.smithy_job.specs.Jobs.{schema}
@@ -11,29 +12,29 @@ use Rattle.smithy_job.proofs.reading.job_by.Goals as goal
 
 pub returns-in_default-get : goal.returns-in_default-get
 returns-in_default-get c =
-    let placed = placed_schema (schema (view c.args.value.now)) c.args.model c.requires in
+    let placed = placed_schema (schema models.input (view c.args.value.now)) c.args.model c.requires in
     no_writes (view c.args.value.now) placed.0 placed.1 (ap (option_and_then (input placed.0)) (sym c.in_default-get.ensures))
 
 pub returns-in_default-endpoint_of : goal.returns-in_default-endpoint_of
 returns-in_default-endpoint_of c =
-    let placed = placed_schema (schema (view c.args.value.now)) c.args.model c.requires in
+    let placed = placed_schema (schema models.input (view c.args.value.now)) c.args.model c.requires in
     no_endpoint (view c.args.value.now) placed.0 placed.1 (sym c.in_default-endpoint_of.ensures)
 
 pub returns-in_default-omit_of : goal.returns-in_default-omit_of
 returns-in_default-omit_of c =
-    let placed = placed_schema (schema (view c.args.value.now)) c.args.model c.requires in
+    let placed = placed_schema (schema models.input (view c.args.value.now)) c.args.model c.requires in
     no_omit (view c.args.value.now) placed.0 placed.1 (sym c.in_default-omit_of.ensures)
 
 pub returns-in_err-writes : goal.returns-in_err-writes
 returns-in_err-writes c =
-    let placed = placed_schema (schema (view c.args.value.now)) c.args.model c.requires in
+    let placed = placed_schema (schema models.input (view c.args.value.now)) c.args.model c.requires in
     let same = schema_there c.args.model placed.0 (schema_of c.in-Some.schema) placed.2 c.in-Some.ensures.node in
     refuses (AreWrites (nodes_with c.args.model.table c.read_input.new.names.items)) IsJob (input (schema_of c.in-Some.schema) (view c.in-Some-get.input.now)) _ c.in_err-writes.field-0.0 c.from_residual.result (search rules)
     (λ none. no_writes (view c.args.value.now) placed.0 placed.1 (ap (option_and_then (input placed.0)) (sym c.in-Some-get.ensures) ∙ ap (λ s. input s (view c.in-Some-get.input.now)) (sym same) ∙ none)) c.in_err-writes.ensures.writes
 
 pub returns : goal.returns
 returns c =
-    let placed = placed_schema (schema (view c.args.value.now)) c.args.model c.requires in
+    let placed = placed_schema (schema models.input (view c.args.value.now)) c.args.model c.requires in
     let same = schema_there c.args.model placed.0 (schema_of c.in-Some.schema) placed.2 c.in-Some.ensures.node in
     job_read (view c.args.value.now) placed.0 placed.1 _ c.read_input.new.names.items (view c.in-Some-get.input.now) (rw same at c.in_ok-writes.ensures.writes)
     (sym c.in-Some.ensures.node ∙ ap (λ s. Some s) same) (sym c.in-Some-get.ensures) (rw c.as_slice.ensures.value at c.in_ok-further.ensures) (sym c.in-Some-endpoint_of.ensures) (sym c.in-Some-omit_of.ensures)

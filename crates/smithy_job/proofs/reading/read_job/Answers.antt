@@ -3,5 +3,5 @@ use Rattle.serde_json.specs.View.{view}
 use Rattle.smithy_job.proofs.JobLemmas.{job_refused}
 use Rattle.smithy_job.proofs.reading.read_job.Goals as goal
 
-pub returns-in_err-model_of : goal.returns-in_err-model_of
-returns-in_err-model_of c = job_refused (view c.args.value.now) c.in_err-model_of.field-0.0 c.from_residual.result (search rules) c.in_err-model_of.ensures
+pub returns-in_err-schema_asked : goal.returns-in_err-schema_asked
+returns-in_err-schema_asked c = job_refused (view c.args.value.now) c.in_err-schema_asked.field-0.0 c.from_residual.result (search rules) c.in_err-schema_asked.ensures

@@ -2,7 +2,7 @@ use Rattle.std.proofs.Common.{◌≡◌, ◌∙◌, sym, ap, subst, rules, arith
 use Rattle.std.proofs.lemmas.List.{map-append, length-map}
 use Rattle.serde_json.specs.View.{view}
 use Rattle.smithy_model.specs.Seen.{entry_view}
-use Rattle.smithy_model.specs.Reached.{reached, names_of, with_name, with_names, with_targets}
+use Rattle.smithy_model.specs.Reached.{reached, names_of, with_names, with_targets}
 use Rattle.smithy_model.specs.Prelude.{prelude}
 use Rattle.smithy_model.specs.Shapes.{shape_at}
 use Rattle.smithy_model.specs.ModelView.{shape_view, member_view}
@@ -15,19 +15,19 @@ use Rattle.smithy_model.proofs.ReachedLemmas.{walked-start, walked-more, walked-
 use Rattle.smithy_model.proofs.reached.shapes_from.Goals as goal
 
 pub returns-in_default-clause-shapes : goal.returns-in_default-clause-shapes
-returns-in_default-clause-shapes c = not-reached (view c.args.shapes.now) c.args.name.now (members_in_none _ c.in_default.ensures)
+returns-in_default-clause-shapes c = not-reached (view c.args.shapes.now) (texts c.args.roots.now) (members_in_none _ c.in_default.ensures)
 
 pub walk-init : goal.walk-init
 walk-init c =
     let entries = map entry_view c.in-Some.object.now.entries in
-    let names : texts c.meet.new.names.items ≡ with_name (with_names [] (names_of prelude)) c.args.name.now =
-    c.in_ok-meet.ensures.names ∙ ap (λ ns. with_name ns c.args.name.now)
+    let names : texts c.meet_names.new.names.items ≡ with_names (with_names [] (names_of prelude)) (texts c.args.roots.now) =
+    c.in_ok-meet_names.ensures.names ∙ ap (λ ns. with_names ns (texts c.args.roots.now))
     (c.in_ok-meet_shapes.ensures.names ∙ ap (λ xs. with_names (texts xs) (names_of (map shape_view c.as_slice.result.now))) c.new-names.ensures.items
     ∙ ap (λ xs. with_names [] (names_of (map shape_view xs))) c.as_slice.ensures.value ∙ ap (λ ss. with_names [] (names_of ss)) c.in_ok-found.ensures) in
     let steps : c.len-rest.result ≡ length entries = c.len-rest.ensures.len ∙ sym (length-map c.in-Some.object.now.entries entry_view) in
     record {
-      so_far = walked-start (view c.args.shapes.now) entries c.args.name.now c.len-rest.result _ _ (members_in_view _ _ c.in-Some.ensures) steps c.in_ok-found.ensures names;
-      located = c.in_ok-meet.ensures.places;
+      so_far = walked-start (view c.args.shapes.now) entries (texts c.args.roots.now) c.len-rest.result _ _ (members_in_view _ _ c.in-Some.ensures) steps c.in_ok-found.ensures names;
+      located = c.in_ok-meet_names.ensures.places;
     }
 
 pub returns-in_err-shape-clause-shapes : goal.returns-in_err-shape-clause-shapes
@@ -35,8 +35,8 @@ returns-in_err-shape-clause-shapes c =
     let d = view c.args.shapes.now in
     let found = map shape_view c.walk.found.items in
     let at = rw c.in-Some-get.is at (next_name c.walk.names.items _ c.walk.found.items _ c.get.result c.as_slice-in-walk.ensures.value c.as_slice-in-walk-2.ensures.value c.get.ensures.lookup) in
-    let refused = refused_by {B = Reached} shape_view (λ r. map shape_view r.shapes.items) (shape_at d c.in-Some-get.name.now.now) (reached d c.args.name.now) c.in_err-shape.field-0.0
-    (λ none. walk-refused c.walk.rest d found (texts c.walk.names.items) c.in-Some-get.name.now.now (reached d c.args.name.now) at none c.walk.invariant.so_far.walked) c.in_err-shape.ensures in
+    let refused = refused_by {B = Reached} shape_view (λ r. map shape_view r.shapes.items) (shape_at d c.in-Some-get.name.now.now) (reached d (texts c.args.roots.now)) c.in_err-shape.field-0.0
+    (λ none. walk-refused c.walk.rest d found (texts c.walk.names.items) c.in-Some-get.name.now.now (reached d (texts c.args.roots.now)) at none c.walk.invariant.so_far.walked) c.in_err-shape.ensures in
     search rules
 
 pub returns-then-rest-eq0-clause-shapes : goal.returns-then-rest-eq0-clause-shapes

@@ -7,7 +7,7 @@ use Rattle.smithy_model.proofs.reached.shapes_from.Given as goal
 
 abbrev pub invariant-walk : goal.invariant-walk
 invariant-walk l = record {
-  so_far : IsWalked (view l.shapes) l.initial.name l.rest (map shape_view l.found.items) (texts l.names.items);
+  so_far : IsWalked (view l.shapes) (texts l.roots) l.rest (map shape_view l.found.items) (texts l.names.items);
   located : ArePlaces l.places (texts l.names.items);
 }
 

@@ -3,7 +3,8 @@ use Rattle.smithy_schema.specs.References.{schema_of}
 use Rattle.smithy_serde.specs.Handing.{same_kept, at_elements, at_entries, at_members}
 use Rattle.smithy_serde.specs.StoredValues.{AreDefined}
 use Rattle.smithy_serde.specs.ValueBuilding.{list_nodes, map_nodes, struct_table, TakesElement, TakesEntry, TakesMember}
-use Rattle.smithy_serde.proofs.ReadValue.{AtNode, element_taken, element_refused, entry_taken, entry_refused, member_taken, member_refused, value_null, value_scalar, value_scalar_err, value_list, value_list_err, value_map, value_map_err, value_structure, value_structure_err, has_node_at}
+use Rattle.smithy_serde.proofs.BuilderItems.{element_taken, element_refused, entry_taken, entry_refused, member_taken, member_refused}
+use Rattle.smithy_serde.proofs.ReadValue.{AtNode, value_null, value_scalar, value_scalar_err, value_list, value_list_err, value_map, value_map_err, value_structure, value_structure_err, has_node_at}
 use Rattle.smithy_serde.proofs.ReadWalk.{not_opened, begins, halted, stopped, taken, hidden, answered}
 use Rattle.smithy_serde.proofs.value_reading.+read_value.Goals as goal
 

@@ -1,0 +1,73 @@
+-- Texts read as big numbers.
+use Rattle.std.proofs.Common.{◌≡◌, ℕ, List, Bool, true, false, Some, None, Result, Ok, Err, inr, refl, ap, subst, codes}
+use Rattle.smithy_types.specs.BigNumbers.{is_big_integer_in_range, is_big_decimal_in_range}
+use Rattle.smithy_ids.specs.declared.shape_type.ShapeType.TheVariants as kind
+use Rattle.smithy_types.specs.Documents as doc
+use Rattle.smithy_types.specs.Documents.{Document, Number, string_in, number_in}
+use Rattle.smithy_serde.specs.DocumentReads.{big_integer_of_text, big_decimal_of_text, truncated, scalar_of_document, number_text, mismatch}
+use Rattle.smithy_serde.specs.declared.error.SerdeError.{SerdeError}
+use Rattle.smithy_serde.specs.declared.error.SerdeError.TheVariants.{OutOfMemory}
+use Rattle.smithy_serde.specs.ReadCalls.{Gives}
+use Rattle.smithy_serde.specs.Refusals.{IsRefusal}
+use Rattle.smithy_serde.specs.Values.{Scalar, big_integer, big_decimal}
+use Rattle.smithy_serde.specs.Writes.{only_if}
+use Rattle.smithy_document.specs.BigReads.{not_parsed}
+
+pub gives_memory : {A : Type 0} (see : A → Scalar) (r : Result Scalar SerdeError) (e : SerdeError) → e ≡ OutOfMemory → Gives see (Some r) (Err e)
+gives_memory see (Ok v) e h = h
+gives_memory see (Err x) e h = inr h
+
+pub none_passes : (b : Bool) (text : List ℕ) → None ≡ only_if b text → b ≡ false
+none_passes true text h = absurd (cc h)
+none_passes false text h = refl
+
+passed : (b : Bool) (text n : List ℕ) → Some n ≡ only_if b text → (b ≡ true) × (n ≡ text)
+passed true text n h = (refl, cc h)
+passed false text n h = absurd (cc h)
+
+pub integer_given : (text n : List ℕ) → Some n ≡ only_if (is_big_integer_in_range text) text → Gives {A = List ℕ} big_integer (Some (big_integer_of_text text)) (Ok n)
+integer_given text n h = let p = passed (is_big_integer_in_range text) text n h in rw p.0 (ap big_integer p.1)
+
+pub decimal_given : (text n : List ℕ) → Some n ≡ only_if (is_big_decimal_in_range text) text → Gives {A = List ℕ} big_decimal (Some (big_decimal_of_text text)) (Ok n)
+decimal_given text n h = let p = passed (is_big_decimal_in_range text) text n h in rw p.0 (ap big_decimal p.1)
+
+pub decimal_none : (text : List ℕ) (e : SerdeError) → None ≡ only_if (is_big_decimal_in_range text) text → IsRefusal (not_parsed text (codes " as bigDecimal")) e → Gives {A = List ℕ} big_decimal (Some (big_decimal_of_text text)) (Err e)
+decimal_none text e h refusal = rw (none_passes (is_big_decimal_in_range text) text h) refusal
+
+pub part_none : (text : List ℕ) (e : SerdeError) → is_big_integer_in_range text ≡ false → None ≡ only_if (is_big_decimal_in_range text) text → IsRefusal (not_parsed text (codes " as bigInteger")) e
+    → Gives {A = List ℕ} big_integer (Some (big_integer_of_text text)) (Err e)
+part_none text e wide h refusal = rw (wide, none_passes (is_big_decimal_in_range text) text h) refusal
+
+pub part_given : (text n : List ℕ) (r : Result (List ℕ) SerdeError) → is_big_integer_in_range text ≡ false → Some n ≡ only_if (is_big_decimal_in_range text) text → Gives {A = List ℕ} big_integer (Some (truncated n)) r
+    → Gives {A = List ℕ} big_integer (Some (big_integer_of_text text)) r
+part_given text n r wide h gives = let p = passed (is_big_decimal_in_range text) text n h in rw (wide, p.0, ← p.1) gives
+
+-- ---- a document, as what it is
+
+pub integer_of_string : (d : Document) (t : List ℕ) (r : Result (List ℕ) SerdeError) → Some t ≡ string_in d → Gives {A = List ℕ} big_integer (Some (big_integer_of_text t)) r → Gives {A = List ℕ} big_integer (Some (scalar_of_document kind.BigInteger d)) r
+integer_of_string (doc.string s) t r is given = let same : t ≡ s = cc is in subst (λ x. Gives {A = List ℕ} big_integer (Some (big_integer_of_text x)) r) same given
+integer_of_string _ t r is given = absurd (cc is)
+
+pub integer_of_number : (d : Document) (n : Number) (r : Result (List ℕ) SerdeError) → Some n ≡ number_in d → Gives {A = List ℕ} big_integer (Some (Ok (big_integer (number_text n)))) r → Gives {A = List ℕ} big_integer (Some (scalar_of_document kind.BigInteger d)) r
+integer_of_number (doc.number m) n r is given = let same : n ≡ m = cc is in subst (λ x. Gives {A = List ℕ} big_integer (Some (Ok (big_integer (number_text x)))) r) same given
+integer_of_number _ n r is given = absurd (cc is)
+
+pub integer_of_none : (d : Document) (e : SerdeError) → string_in d ≡ None → None ≡ number_in d → IsRefusal (mismatch kind.BigInteger d) e → Gives {A = List ℕ} big_integer (Some (scalar_of_document kind.BigInteger d)) (Err e)
+integer_of_none (doc.string s) e no_text no_number refusal = absurd (cc no_text)
+integer_of_none (doc.number n) e no_text no_number refusal = absurd (cc no_number)
+integer_of_none _ e no_text no_number refusal = refusal
+
+-- ---- a document, as what it is
+
+pub decimal_of_string : (d : Document) (t : List ℕ) (r : Result (List ℕ) SerdeError) → Some t ≡ string_in d → Gives {A = List ℕ} big_decimal (Some (big_decimal_of_text t)) r → Gives {A = List ℕ} big_decimal (Some (scalar_of_document kind.BigDecimal d)) r
+decimal_of_string (doc.string s) t r is given = let same : t ≡ s = cc is in subst (λ x. Gives {A = List ℕ} big_decimal (Some (big_decimal_of_text x)) r) same given
+decimal_of_string _ t r is given = absurd (cc is)
+
+pub decimal_of_number : (d : Document) (n : Number) (r : Result (List ℕ) SerdeError) → Some n ≡ number_in d → Gives {A = List ℕ} big_decimal (Some (Ok (big_decimal (number_text n)))) r → Gives {A = List ℕ} big_decimal (Some (scalar_of_document kind.BigDecimal d)) r
+decimal_of_number (doc.number m) n r is given = let same : n ≡ m = cc is in subst (λ x. Gives {A = List ℕ} big_decimal (Some (Ok (big_decimal (number_text x)))) r) same given
+decimal_of_number _ n r is given = absurd (cc is)
+
+pub decimal_of_none : (d : Document) (e : SerdeError) → string_in d ≡ None → None ≡ number_in d → IsRefusal (mismatch kind.BigDecimal d) e → Gives {A = List ℕ} big_decimal (Some (scalar_of_document kind.BigDecimal d)) (Err e)
+decimal_of_none (doc.string s) e no_text no_number refusal = absurd (cc no_text)
+decimal_of_none (doc.number n) e no_text no_number refusal = absurd (cc no_number)
+decimal_of_none _ e no_text no_number refusal = refusal

@@ -1,0 +1,72 @@
+-- Readers of documents, as they are seen.
+use Rattle.std.proofs.Common.{◌≡◌, Bool, true, false, List, [], ◌∷◌, ◌++◌, map, Option, Some, None, Result, Err, inl, inr, refl, sym, ap}
+use Rattle.std.specs.Prelude.{IfNone, IfSome, is_none}
+use Rattle.smithy_types.specs.Documents.{Document}
+use Rattle.smithy_schema.specs.Nodes.{Schema}
+use Rattle.smithy_serde.specs.DocumentReads.{scalar_of_document}
+use Rattle.smithy_serde.specs.declared.error.SerdeError.{SerdeError}
+use Rattle.smithy_serde.specs.declared.scalar.Group.{Group}
+use Rattle.smithy_serde.specs.declared.scalar.Group.TheVariants as group
+use Rattle.smithy_serde.specs.declared.read_scalar.ScalarKind.{ScalarKind}
+use Rattle.smithy_serde.specs.declared.read_scalar.ReadScalar.{ReadScalar}
+use Rattle.smithy_serde.specs.Held as held
+use Rattle.smithy_serde.specs.Held.{Held, Answer, IsAnswer, is_null_document, is_null_held}
+use Rattle.smithy_serde.specs.HeldReads.{read_scalar, elements, entries, fields}
+use Rattle.smithy_serde.specs.ReadCalls.{Frame, Gives, Answered, NotOpened, Reads, scalar_of_read, read_at, type_of}
+use Rattle.smithy_serde.specs.Refusals.{IsRefusal}
+use Rattle.smithy_serde.specs.Writes.{only_if}
+use Rattle.smithy_document.specs.JsonHand.{refusing}
+use Rattle.smithy_document.specs.JsonHeld.{not_json}
+use Rattle.smithy_document.specs.OpenDocuments.{Opened, frame_of, reading}
+
+pub read_gives : {X : Type 0} (settings : Option X) (k : ScalarKind) (node : Schema) (d : Document) (r : Result ReadScalar SerdeError)
+    → IfNone settings (Gives scalar_of_read (Some (scalar_of_document (type_of k) d)) r) → Gives scalar_of_read (read_at k node (only_if (is_none settings) (held.document d))) r
+unfolding read_scalar
+read_gives None k node d r h = h
+read_gives (Some s) k node d r h = tt
+
+settled_first : Frame → List Frame → Option (SerdeError → Answer)
+settled_first f [] = f.settled
+settled_first f (g ∷ fs) = g.settled
+
+rest_of : List Frame → List Frame
+rest_of [] = []
+rest_of (f ∷ fs) = fs
+
+settled_in : (tells : Bool) (os : List Opened) (above below : List Frame) (frame : Frame) → map (frame_of tells) os ≡ above ++ (frame ∷ below) → frame.settled ≡ Some (λ e. Err e)
+unfolding settled_first rest_of
+settled_in tells [] [] below frame is = absurd (cc is)
+settled_in tells [] (f ∷ above) below frame is = absurd (cc is)
+settled_in tells (o ∷ os) [] below frame is = sym (ap (settled_first frame) is)
+settled_in tells (o ∷ os) (f ∷ above) below frame is = settled_in tells os above below frame (ap rest_of is)
+
+-- a refusal is answered as it is
+pub answered : (tells : Bool) (d : Document) (os : List Opened) (refusal : SerdeError) → Answered refusal (reading tells d os) (reading tells d os) refusal
+answered tells d os refusal = record {
+  opened = refl;
+  settled = λ above below frame form is. rw (settled_in tells os above below frame is) (inl refl);
+}
+
+pub null_told : (tells : Bool) (d : Document) (b : Bool) → b ≡ is_null_document d → IfSome (only_if tells (held.document d)) (λ h. b ≡ is_null_held h)
+null_told true d b h = h
+null_told false d b h = tt
+
+-- ---- over what is no JSON
+
+pub refused_read : (k : ScalarKind) (node : Schema) (e : SerdeError) → IsRefusal not_json e → Reads {A = ReadScalar} scalar_of_read k node refusing refusing (Err e)
+unfolding read_scalar
+refused_read k node e h = record { opened = refl; levels = refl; of_kind = tt; gives = h }
+
+pub refused_open : (g : Group) (node : Schema) (e : SerdeError) → IsRefusal not_json e → NotOpened g node refusing refusing e
+unfolding elements entries fields
+refused_open g node e (inr memory) = record { opened = refl; levels = refl; refused = inl memory }
+refused_open group.List node e (inl is) = record { opened = refl; levels = refl; refused = inr record { none_left = refl; ended = ap (λ (x : SerdeError). Some x) (sym is) } }
+refused_open group.Map node e (inl is) = record { opened = refl; levels = refl; refused = inr record { none_left = refl; ended = ap (λ (x : SerdeError). Some x) (sym is) } }
+refused_open group.Structure node e (inl is) = record { opened = refl; levels = refl; refused = inr record { none_left = refl; ended = ap (λ (x : SerdeError). Some x) (sym is) } }
+
+none_before : (frame : Frame) (below above : List Frame) → [] ≡ above ++ (frame ∷ below) → ⊥
+none_before frame below [] is = cc is
+none_before frame below (f ∷ above) is = cc is
+
+pub refused_answered : (refusal : SerdeError) → Answered refusal refusing refusing refusal
+refused_answered refusal = record { opened = refl; settled = λ above below frame form is. absurd (none_before frame below above is) }

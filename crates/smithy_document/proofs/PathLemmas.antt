@@ -1,0 +1,202 @@
+-- Paths, a place at a time.
+use Rattle.std.proofs.Common.{◌≡◌, ℕ, suc, zero, ◌+◌, ◌<◌, ◌≤◌, max, List, [], ◌∷◌, ◌++◌, length, drop, get_or, slice_get, Bool, cond, Option, Some, None, IsTrue, true, false, ◌-◌, ◌==◌, ◌&&◌, ◌⊎◌, inl, inr, Less, nat_cmp, eq-eqb, refl, sym, ap, ◌∙◌, subst, arith}
+use Rattle.std.specs.Prelude.{if◌then◌else◌}
+use Rattle.std.specs.Option.{option_map_or, option_and_then, unwrap_or}
+use Rattle.std.specs.Ordering.{ordering_reverse, is_eq}
+use Rattle.std.specs.Cmp.Lexicographic.{slice_cmp}
+use Rattle.std.specs.Global.{Vec}
+use Rattle.std.specs.List.{AllByRecursion}
+use Rattle.std.specs.List.Sorted.{IsStrictlySortedBy}
+use Rattle.std.specs.Map.{keys_of, lookup}
+use Rattle.std.proofs.lemmas.Bool.{and_parts}
+use Rattle.std.proofs.lemmas.Cmp.{nat_list_cmp_total}
+use Rattle.std.proofs.lemmas.List.{drop_more, length-append}
+use Rattle.std.proofs.lemmas.Map.Text.{is_eq-slice_cmp}
+use Rattle.std.proofs.lemmas.Option.{slice_get_within, get_or_from_slice_get, slice_get_cases, slice_get_past}
+use Rattle.std.proofs.Math.ListN.{drop_of_length-le}
+use Rattle.smithy_types.specs.Documents as doc
+use Rattle.smithy_types.specs.Documents.{Document, nesting, items_nesting, members_nesting, list_of_items, list_of_members, object_in}
+use Rattle.smithy_types.specs.Maps.{IsOrdered}
+use Rattle.smithy_types.specs.Texts.{same_text}
+use Rattle.smithy_serde.specs.Lawful.{is_canonical, are_items_canonical, are_members_canonical}
+use Rattle.smithy_document.specs.declared.place.Place.{Place}
+use Rattle.smithy_document.specs.OpenDocuments.{Part, nameless, parts_of}
+use Rattle.smithy_document.specs.Paths.{Names, name_at, part_in, named, rest_in, step_in, at_path, opened_at, opened_along}
+
+pub path_last : (d : Document) (ps : List Place) (p : Place) → at_path d (ps ++ p ∷ []) ≡ step_in (at_path d ps) p
+path_last d [] p = refl
+path_last d (q ∷ ps) p = path_last (step_in d q) ps p
+
+pub along_last : (d : Document) (ps : List Place) (p : Place) → opened_along d (ps ++ p ∷ []) ≡ opened_at (at_path d ps) p ∷ opened_along d ps
+along_last d [] p = refl
+along_last d (q ∷ ps) p = ap (λ os. os ++ opened_at d q ∷ []) (along_last (step_in d q) ps p)
+
+pub path_more : (d : Document) (ps : List Place) (i : ℕ) (p : Place) → i < length ps → p ≡ get_or ps i p → at_path d (drop i ps) ≡ at_path (step_in d p) (drop (i + 1) ps)
+path_more d ps i p l is = ap (at_path d) (drop_more ps i p l ∙ ap (λ q. q ∷ drop (i + 1) ps) (sym is))
+
+pub path_end : (d : Document) (ps : List Place) (i : ℕ) → length ps ≤ i → at_path d (drop i ps) ≡ d
+path_end d ps i l = ap (at_path d) (drop_of_length-le ps l)
+
+-- ---- the part at a place
+
+pub count_nameless : (ds : doc.Items) → length (nameless ds) ≡ length (list_of_items ds)
+count_nameless doc.no_items = refl
+count_nameless (doc.item d ds) = ap suc (count_nameless ds)
+
+pub drop_first : {X : Type 0} (xs : List X) (i : ℕ) (x : X) → slice_get xs i ≡ Some x → drop i xs ≡ x ∷ drop (i + 1) xs
+drop_first xs i x h = drop_more xs i x (slice_get_within xs i x h) ∙ ap (λ y. y ∷ drop (i + 1) xs) (get_or_from_slice_get xs i x x h)
+
+pub drop_none : {X : Type 0} (xs : List X) (i : ℕ) → slice_get xs i ≡ None → drop i xs ≡ []
+drop_none {X} xs i h = go (slice_get_cases xs i).1
+  where
+    go : ((x : X) × (i < length xs) × (slice_get xs i ≡ Some x) × (get_or xs i x ≡ x)) ⊎ ((length xs ≤ i) × (slice_get xs i ≡ None)) → drop i xs ≡ []
+    go (inl c) = let no : None ≡ Some c.0 = sym h ∙ c.2 in absurd (cc no)
+    go (inr c) = drop_of_length-le xs c.0
+
+item_nested : (ds : doc.Items) (i : ℕ) (d : Document) → slice_get (list_of_items ds) i ≡ Some d → nesting d ≤ items_nesting ds
+item_nested doc.no_items i d h = absurd (cc h)
+item_nested (doc.item e ds) zero d h = let is : e ≡ d = cc h in let same : nesting e ≡ nesting d = ap nesting is in omega arith
+item_nested (doc.item e ds) (suc i) d h = let inside : nesting d ≤ items_nesting ds = item_nested ds i d h in omega arith
+
+found_nested : (test : List ℕ → Bool) (ms : doc.Members) (d : Document) → lookup test (list_of_members ms) ≡ Some d → nesting d ≤ members_nesting ms
+found_nested test doc.no_members d h = absurd (cc h)
+found_nested test (doc.member k e ms) d h = go (test k) h (found_nested test ms d)
+  where
+    go : (b : Bool) → cond b (Some e) (lookup test (list_of_members ms)) ≡ Some d → (lookup test (list_of_members ms) ≡ Some d → nesting d ≤ members_nesting ms) → nesting d ≤ max (nesting e) (members_nesting ms)
+    go true same inside = let is : e ≡ d = cc same in let n : nesting e ≡ nesting d = ap nesting is in omega arith
+    go false found inside = omega (arith, inside found)
+
+named_nested : (ms : doc.Members) (o : Option (List ℕ)) (d : Document) → option_and_then (λ name. lookup (same_text name) (list_of_members ms)) o ≡ Some d → nesting d ≤ members_nesting ms
+named_nested ms None d h = absurd (cc h)
+named_nested ms (Some name) d h = found_nested (same_text name) ms d h
+
+pub part_within : (c : Document) (names : Names) (i : ℕ) (d : Document) → part_in c names i ≡ Some d → nesting d < nesting c
+part_within (doc.array ds) None i d h = omega (arith, item_nested ds i d h)
+part_within (doc.object ms) (Some names) i d h = omega (arith, named_nested ms (slice_get names.items i) d h)
+part_within _ None i d h = absurd (cc h)
+part_within _ (Some names) i d h = absurd (cc h)
+
+item_canonical : (ds : doc.Items) (i : ℕ) (d : Document) → IsTrue (are_items_canonical ds) → slice_get (list_of_items ds) i ≡ Some d → IsTrue (is_canonical d)
+item_canonical doc.no_items i d all h = absurd (cc h)
+item_canonical (doc.item e ds) zero d all h =
+    let is : e ≡ d = cc h in subst (λ x. IsTrue (is_canonical x)) is (and_parts (is_canonical e) (are_items_canonical ds) all).0
+item_canonical (doc.item e ds) (suc i) d all h = item_canonical ds i d (and_parts (is_canonical e) (are_items_canonical ds) all).1 h
+
+found_canonical : (test : List ℕ → Bool) (ms : doc.Members) (d : Document) → IsTrue (are_members_canonical ms) → lookup test (list_of_members ms) ≡ Some d → IsTrue (is_canonical d)
+found_canonical test doc.no_members d all h = absurd (cc h)
+found_canonical test (doc.member k e ms) d all h = go (test k) h (found_canonical test ms d (and_parts (is_canonical e) (are_members_canonical ms) all).1)
+  where
+    go : (b : Bool) → cond b (Some e) (lookup test (list_of_members ms)) ≡ Some d → (lookup test (list_of_members ms) ≡ Some d → IsTrue (is_canonical d)) → IsTrue (is_canonical d)
+    go true same inside = let is : e ≡ d = cc same in subst (λ x. IsTrue (is_canonical x)) is (and_parts (is_canonical e) (are_members_canonical ms) all).0
+    go false found inside = inside found
+
+named_canonical : (ms : doc.Members) (o : Option (List ℕ)) (d : Document) → IsTrue (are_members_canonical ms) → option_and_then (λ name. lookup (same_text name) (list_of_members ms)) o ≡ Some d → IsTrue (is_canonical d)
+named_canonical ms None d all h = absurd (cc h)
+named_canonical ms (Some name) d all h = found_canonical (same_text name) ms d all h
+
+part_canonical : (c : Document) (names : Names) (i : ℕ) (d : Document) → IsTrue (is_canonical c) → part_in c names i ≡ Some d → IsTrue (is_canonical d)
+part_canonical (doc.array ds) None i d all h = item_canonical ds i d all h
+part_canonical (doc.object ms) (Some names) i d all h = named_canonical ms (slice_get names.items i) d all h
+part_canonical _ None i d all h = absurd (cc h)
+part_canonical _ (Some names) i d all h = absurd (cc h)
+
+step_canonical : (d : Document) (p : Place) → IsTrue (is_canonical d) → IsTrue (is_canonical (step_in d p))
+step_canonical d p h = go (p.next == 0) (part_in d p.names (p.next - 1)) refl
+  where
+    go : (b : Bool) (o : Option Document) → part_in d p.names (p.next - 1) ≡ o → IsTrue (is_canonical (if b then d else unwrap_or o d))
+    go true o is = h
+    go false None is = h
+    go false (Some part) is = part_canonical d p.names (p.next - 1) part h is
+
+pub path_canonical : (d : Document) (ps : List Place) → IsTrue (is_canonical d) → IsTrue (is_canonical (at_path d ps))
+path_canonical d [] h = h
+path_canonical d (p ∷ ps) h = path_canonical (step_in d p) ps (step_canonical d p h)
+
+-- ---- the parts that are left
+
+item_first : (ds : doc.Items) (i : ℕ) (d : Document) → slice_get (list_of_items ds) i ≡ Some d → slice_get (nameless ds) i ≡ Some ([], d)
+item_first doc.no_items i d h = absurd (cc h)
+item_first (doc.item e ds) zero d h = let is : e ≡ d = cc h in ap (λ x. Some ([], x)) is
+item_first (doc.item e ds) (suc i) d h = item_first ds i d h
+
+item_none : (ds : doc.Items) (i : ℕ) → slice_get (list_of_items ds) i ≡ None → slice_get (nameless ds) i ≡ None
+item_none doc.no_items i h = refl
+item_none (doc.item e ds) zero h = absurd (cc h)
+item_none (doc.item e ds) (suc i) h = item_none ds i h
+
+named_first : (ps : List Part) (names : List (List ℕ)) (i : ℕ) (o : Option (List ℕ)) (d : Document) → slice_get names i ≡ o → option_and_then (λ name. lookup (same_text name) ps) o ≡ Some d
+    → named ps (drop i names) ≡ (unwrap_or o [], d) ∷ named ps (drop (i + 1) names)
+named_first ps names i None d is h = absurd (cc h)
+named_first ps names i (Some name) d is h =
+    ap (named ps) (drop_first names i name is) ∙ ap (λ o. option_map_or (λ x. (name, x) ∷ named ps (drop (i + 1) names)) o []) h
+
+named_none : (ps : List Part) (names : List (List ℕ)) (i : ℕ) (o : Option (List ℕ)) → slice_get names i ≡ o → option_and_then (λ name. lookup (same_text name) ps) o ≡ None → named ps (drop i names) ≡ []
+named_none ps names i None is h = ap (named ps) (drop_none names i is)
+named_none ps names i (Some name) is h =
+    ap (named ps) (drop_first names i name is) ∙ ap (λ o. option_map_or (λ x. (name, x) ∷ named ps (drop (i + 1) names)) o []) h
+
+pub rest_first : (c : Document) (names : Names) (i : ℕ) (d : Document) → part_in c names i ≡ Some d → rest_in c names i ≡ (name_at names i, d) ∷ rest_in c names (i + 1)
+rest_first (doc.array ds) None i d h = drop_first (nameless ds) i ([], d) (item_first ds i d h)
+rest_first (doc.object ms) (Some names) i d h = named_first (list_of_members ms) names.items i (slice_get names.items i) d refl h
+rest_first _ None i d h = absurd (cc h)
+rest_first _ (Some names) i d h = absurd (cc h)
+
+pub rest_none : (c : Document) (names : Names) (i : ℕ) → part_in c names i ≡ None → rest_in c names i ≡ []
+rest_none (doc.array ds) None i h = drop_none (nameless ds) i (item_none ds i h)
+rest_none (doc.object ms) (Some names) i h = named_none (list_of_members ms) names.items i (slice_get names.items i) refl h
+rest_none _ None i h = refl
+rest_none _ (Some names) i h = refl
+
+-- ---- all names of an object
+
+apart : (k name : List ℕ) → slice_cmp nat_cmp k name ≡ Less → same_text name k ≡ false
+apart k name h = sym (is_eq-slice_cmp name k) ∙ ap is_eq (nat_list_cmp_total.antisymm name k ∙ ap ordering_reverse h)
+
+named_past : (p : Part) (ps : List Part) (names : List (List ℕ)) → AllByRecursion (λ y. slice_cmp nat_cmp p.0 y ≡ Less) names → named (p ∷ ps) names ≡ named ps names
+named_past p ps [] h = refl
+named_past p ps (name ∷ names) h =
+    rw (apart p.0 name h.0) (ap (λ rest. option_map_or (λ d. (name, d) ∷ rest) (lookup (same_text name) ps) []) (named_past p ps names h.1))
+
+same_self : (text : List ℕ) → same_text text text ≡ true
+same_self [] = refl
+same_self (b ∷ text) = λ i. eq-eqb b b refl i && same_self text i
+
+pub all_named : (ps : List Part) → IsOrdered ps → named ps (keys_of ps) ≡ ps
+unfolding IsStrictlySortedBy
+all_named [] h = refl
+all_named (p ∷ ps) h = rw (same_self p.0) (ap (λ rest. (p.0, p.1) ∷ rest) (named_past p ps (keys_of ps) h.0 ∙ all_named ps h.1))
+
+pub all_members : (d : Document) (ms : doc.Members) (names : Vec (List ℕ)) → Some ms ≡ object_in d → names.items ≡ keys_of (list_of_members ms) → IsOrdered (list_of_members ms) → rest_in d (Some names) 0 ≡ parts_of d
+all_members (doc.object ns) ms names is keys ordered =
+    let same : ms ≡ ns = cc is in
+    ap (λ x. named (list_of_members x) names.items) (sym same) ∙ ap (named (list_of_members ms)) keys ∙ all_named (list_of_members ms) ordered ∙ ap list_of_members same
+all_members _ ms names is keys ordered = absurd (cc is)
+
+pub no_members_named : (d : Document) → None ≡ object_in d → rest_in d None 0 ≡ parts_of d
+no_members_named (doc.object ms) is = absurd (cc is)
+no_members_named (doc.array ds) is = refl
+no_members_named _ is = refl
+
+pub past_items : (d : Document) (i : ℕ) → length (parts_of d) ≤ i → part_in d None i ≡ None
+past_items (doc.array ds) i h = slice_get_past (list_of_items ds) i (subst (λ n. n ≤ i) (count_nameless ds) h)
+past_items _ i h = refl
+
+pub past_names : (d : Document) (names : Vec (List ℕ)) (i : ℕ) → length names.items ≤ i → part_in d (Some names) i ≡ None
+past_names (doc.object ms) names i h = ap (option_and_then (λ name. lookup (same_text name) (list_of_members ms))) (slice_get_past names.items i h)
+past_names _ names i h = refl
+
+-- ---- the last place
+
+pub last_place : (ps : List Place) (p : Place) → slice_get (ps ++ p ∷ []) (length (ps ++ p ∷ []) - 1) ≡ Some p
+last_place ps p =
+    let l : length (ps ++ p ∷ []) ≡ length ps + 1 = length-append ps (p ∷ []) in
+    let i : length (ps ++ p ∷ []) - 1 ≡ length ps = omega arith in
+    ap (slice_get (ps ++ p ∷ [])) i ∙ at_end ps
+  where
+    at_end : (xs : List Place) → slice_get (xs ++ p ∷ []) (length xs) ≡ Some p
+    at_end [] = refl
+    at_end (x ∷ xs) = at_end xs
+
+pub last_open : (ps : List Place) (p : Place) → 0 < length (ps ++ p ∷ [])
+last_open [] p = omega arith
+last_open (q ∷ ps) p = omega arith

@@ -1,0 +1,14 @@
+use Rattle.std.specs.Prelude.{is_none}
+use Rattle.smithy_types.specs.DocumentView.{view}
+use Rattle.smithy_serde.specs.declared.scalar.Group.TheVariants as group
+use Rattle.smithy_document.specs.CursorView.{document_in, opened_in}
+use Rattle.smithy_document.proofs.CursorLemmas.{in_told}
+use Rattle.smithy_document.proofs.deserializer.DocumentShapeDeserializerShapeDeserializer.next_entry.Goals as goal
+
+pub next_entry-requires : goal.next_entry-requires
+next_entry-requires g c =
+    let r = c.args.self.now in
+    in_told (is_none r.settings) group.Map (document_in (view r.root.now) r.cursor) (opened_in (view r.root.now) r.cursor) c.requires
+
+pub returns : goal.returns
+returns g c = c.next_entry.ensures (is_none c.args.self.now.settings)

@@ -1,0 +1,10 @@
+use Rattle.std.specs.Prelude.{is_none}
+use Rattle.smithy_types.specs.DocumentView.{view}
+use Rattle.smithy_document.specs.CursorView.{document_in, opened_in}
+use Rattle.smithy_document.proofs.HandLemmas.{answered}
+use Rattle.smithy_document.proofs.deserializer.DocumentShapeDeserializerShapeDeserializer.settle.Goals as goal
+
+pub returns : goal.returns
+returns g c =
+    let r = c.args.self.now in
+    answered (is_none r.settings) (document_in (view r.root.now) r.cursor) (opened_in (view r.root.now) r.cursor) c.args.refusal

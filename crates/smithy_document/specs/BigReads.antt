@@ -1,0 +1,8 @@
+-- Texts that are no big numbers.
+use Rattle.std.specs.Prelude.{ℕ, codes, List, ◌++◌}
+use Rattle.smithy_serde.specs.declared.error.SerdeError.{SerdeError}
+use Rattle.smithy_serde.specs.declared.error.SerdeError.TheVariants.{InvalidInput}
+
+-- with what stands behind the text in the message
+abbrev pub not_parsed : List ℕ → List ℕ → SerdeError
+not_parsed text ending = InvalidInput (codes "cannot parse " ++ text ++ ending)

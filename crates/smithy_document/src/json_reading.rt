@@ -1,0 +1,95 @@
+// The document of a JSON text.
+ghost use Rattle.std.specs.Prelude.{◌≡◌, IfOk, IfErr, IsTrue, option_map};
+ghost use Rattle.smithy_types.specs.Documents.{members_of};
+ghost use Rattle.serde_json.specs.View.{view, items_view, members_view, number_view as json_number_view};
+ghost use Rattle.smithy_types.specs.DocumentView.{number_view, view as document_view, items_view as documents_view, members_view as fields_view};
+ghost use Rattle.smithy_document.specs.FromData.{number_of_data, of_data, items_of_data, pairs_of_data};
+ghost use Rattle.smithy_document.specs.JsonHeld.{document_of_text};
+ghost use Rattle.smithy_document.specs.JsonFaults.{Reads};
+ghost use Rattle.smithy_document.specs.Roots.{is_root_canonical};
+
+use crate::json_fault::JsonFault;
+use serde_json::{Map, Number as JsonNumber, Value};
+use smithy_serde::SerdeError;
+use smithy_types::{Document, Documents, Members, Number, Text};
+use std::alloc::Global;
+
+fn number_of(number: &JsonNumber) -> Option<Number>
+    ensures { option_map number_view result ≡ number_of_data (json_number_view number.now) }
+{
+    match number.as_u64() {
+        Some(value) => Some(Number::PosInt(value)),
+        None => Some(Number::from_i64(number.as_i64()?)),
+    }
+}
+
+// The document that a JSON value is, which has no float in it.
+#[cycle(document)]
+fn document_of(alloc: Global, value: &Value) -> Result<Document, JsonFault>
+    ensures { Reads document_view (of_data (view value.now)) result }
+{
+    match value {
+        Value::Null => Ok(Document::Null),
+        Value::Bool(truth) => Ok(Document::Bool(*truth)),
+        Value::Number(number) => match number_of(number) {
+            Some(number) => Ok(Document::Number(number)),
+            None => Err(JsonFault::NoDocument),
+        },
+        Value::String(text) => Ok(Document::String(Text::from_str(alloc, text.as_str())?)),
+        Value::Array(items) => Ok(Document::Array(documents_of(alloc, items)?)),
+        Value::Object(members) => Ok(Document::Object(fields_of(alloc, members)?)),
+    }
+}
+
+#[cycle(document)]
+fn documents_of(alloc: Global, items: &Vec<Value>) -> Result<Documents, JsonFault>
+    ensures { Reads documents_view (items_of_data (items_view items.now.items)) result }
+{
+    let mut found = Documents::new(alloc);
+    for item in items {
+        found.push(document_of(alloc, item)?)?;
+    }
+    Ok(found)
+}
+
+#[cycle(document)]
+fn fields_of(alloc: Global, members: &Map<String, Value>) -> Result<Members, JsonFault>
+    ensures { Reads fields_view
+        (option_map members_of (pairs_of_data (members_view members.now.entries))) result }
+{
+    let mut found = Members::new(alloc);
+    for (name, member) in members.iter() {
+        let document = document_of(alloc, member)?;
+        let name = Text::from_str(alloc, name.as_str())?;
+        found.insert(name, document)?;
+    }
+    Ok(found)
+}
+
+/// The document of a JSON text (RFC 8259) in UTF-8, none where it is no JSON or has a float in it. Takes memory.
+pub(crate) fn read_document(alloc: Global, text: &[u8]) -> Result<Option<Document>, SerdeError>
+    ensures document { IfOk result (λ o. option_map document_view o ≡ document_of_text text.now) }
+    ensures canonical { IfOk result (λ o. IsTrue (is_root_canonical o)) }
+    ensures memory { IfErr result (λ e. e ≡ SerdeError.OutOfMemory) }
+{
+    match read_value(alloc, text) {
+        Ok(document) => Ok(Some(document)),
+        Err(JsonFault::NoDocument) => Ok(None),
+        Err(JsonFault::OutOfMemory) => Err(SerdeError::OutOfMemory),
+    }
+}
+
+fn read_value(alloc: Global, text: &[u8]) -> Result<Document, JsonFault>
+    ensures { Reads document_view (document_of_text text.now) result }
+{
+    match Value::from_slice(alloc, text) {
+        Ok(value) => document_of(alloc, &value),
+        Err(error) => {
+            if error.is_memory() {
+                Err(JsonFault::OutOfMemory)
+            } else {
+                Err(JsonFault::NoDocument)
+            }
+        }
+    }
+}

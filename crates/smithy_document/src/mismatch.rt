@@ -1,0 +1,48 @@
+// The refusals of reads over documents.
+ghost use Rattle.std.specs.Prelude.{◌≡◌};
+ghost use Rattle.smithy_types.specs.DocumentView.{view};
+ghost use Rattle.smithy_serde.specs.DocumentReads.{mismatch as mismatch_lem};
+ghost use Rattle.smithy_serde.specs.Refusals.{IsRefusal};
+ghost use Rattle.smithy_serde.specs.Requests.{document_word as document_word_lem, word_of_document as word_of_document_lem};
+
+use smithy_ids::ShapeType;
+use smithy_serde::{SerdeError, kind_word};
+use smithy_types::{Document, Text};
+use std::alloc::Global;
+
+/// What the read of a kind asks for where a document is at hand.
+pub(crate) fn document_word(kind: ShapeType) -> &'static str
+    ensures { result.now ≡ document_word_lem kind }
+{
+    match kind {
+        ShapeType::Structure => "struct (map)",
+        _ => kind_word(kind),
+    }
+}
+
+// What a document is.
+fn word_of_document(document: &Document) -> &'static str
+    ensures { result.now ≡ word_of_document_lem (view document.now) }
+{
+    match document {
+        Document::Null => "null",
+        Document::Bool(_) => "boolean",
+        Document::Number(_) => "number",
+        Document::String(_) => "string",
+        Document::Array(_) => "list",
+        Document::Object(_) => "map",
+    }
+}
+
+/// The refusal of a document that is of another kind than the one that is asked for.
+pub(crate) fn mismatch(alloc: Global, kind: ShapeType, document: &Document) -> SerdeError
+    ensures { IsRefusal (mismatch_lem kind (view document.now)) result }
+{
+    let (expected, found) = (document_word(kind), word_of_document(document));
+    match format!(in alloc; "expected {expected} document, got {found}") {
+        Ok(message) => SerdeError::TypeMismatch {
+            message: Text::from_string(message),
+        },
+        Err(_) => SerdeError::OutOfMemory,
+    }
+}

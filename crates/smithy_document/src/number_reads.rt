@@ -1,0 +1,116 @@
+// Documents read as whole numbers.
+ghost use Rattle.std.specs.Prelude.{◌≡◌, Some, IsTrue, IfOk, string_bytes};
+ghost use Rattle.smithy_types.specs.DocumentView.{view, number_view};
+ghost use Rattle.smithy_serde.specs.DocumentReads.{integer_of_number, number_text as number_text_lem, scalar_of_document};
+ghost use Rattle.smithy_serde.specs.ReadCalls.{Gives};
+ghost use Rattle.smithy_serde.specs.Refusals.{IsRefusal};
+ghost use Rattle.smithy_serde.specs.Values as value;
+ghost use Rattle.smithy_serde.specs.DocumentReads.{mismatch as mismatch_lem};
+ghost use Rattle.smithy_document.specs.WholeReads.{is_within, overflow as overflow_lem, whole_of_document};
+
+use crate::mismatch::{document_word, mismatch};
+use smithy_ids::ShapeType;
+use smithy_serde::SerdeError;
+use smithy_types::{Document, Number, OutOfMemory};
+use std::alloc::Global;
+
+// The number as it is.
+fn integer_of(number: Number) -> i128
+    ensures { result ≡ integer_of_number (number_view number) }
+{
+    match number {
+        Number::PosInt(value) => value as i128,
+        Number::NegInt(value) => value as i128,
+    }
+}
+
+/// The decimal text of a number. Takes memory.
+pub(crate) fn number_text(alloc: Global, number: Number) -> Result<String, OutOfMemory>
+    ensures { IfOk result (λ t. string_bytes t ≡ number_text_lem (number_view number)) }
+{
+    match number {
+        Number::PosInt(value) => format!(in alloc; "{value}"),
+        Number::NegInt(value) => format!(in alloc; "{value}"),
+    }
+}
+
+fn overflow(alloc: Global, kind: ShapeType, number: Number) -> SerdeError
+    ensures { IsRefusal (overflow_lem kind (number_view number)) result }
+{
+    match number_text(alloc, number) {
+        Ok(text) => SerdeError::numeric_coercion_overflow(
+            alloc,
+            document_word(kind),
+            text.as_str(),
+        ),
+        Err(_) => SerdeError::OutOfMemory,
+    }
+}
+
+// A number of at least `least` and less than `limit`.
+fn whole(
+    alloc: Global,
+    document: &Document,
+    kind: ShapeType,
+    least: i128,
+    limit: i128,
+) -> Result<i128, SerdeError>
+    ensures within { IfOk result (λ z. IsTrue (is_within least limit z)) }
+    ensures gives { Gives (λ z. z) (Some (whole_of_document kind least limit (view document.now))) result }
+{
+    match document {
+        Document::Number(number) => {
+            let value = integer_of(*number);
+            if least <= value && value < limit {
+                Ok(value)
+            } else {
+                Err(overflow(alloc, kind, *number))
+            }
+        }
+        Document::Null => Err(mismatch(alloc, kind, document)),
+        Document::Bool(_) => Err(mismatch(alloc, kind, document)),
+        Document::String(_) => Err(mismatch(alloc, kind, document)),
+        Document::Array(_) => Err(mismatch(alloc, kind, document)),
+        Document::Object(_) => Err(mismatch(alloc, kind, document)),
+    }
+}
+
+/// A number of 8 bits.
+pub(crate) fn byte(alloc: Global, document: &Document) -> Result<i8, SerdeError>
+    ensures { Gives (value.whole value.byte) (Some (scalar_of_document ShapeType.Byte (view document.now))) result }
+{
+    Ok(whole(alloc, document, ShapeType::Byte, -0x80, 0x80)? as i8)
+}
+
+/// A number of 16 bits.
+pub(crate) fn short(alloc: Global, document: &Document) -> Result<i16, SerdeError>
+    ensures { Gives (value.whole value.short) (Some (scalar_of_document ShapeType.Short (view document.now))) result }
+{
+    Ok(whole(alloc, document, ShapeType::Short, -0x8000, 0x8000)? as i16)
+}
+
+/// A number of 32 bits.
+pub(crate) fn integer(alloc: Global, document: &Document) -> Result<i32, SerdeError>
+    ensures { Gives (value.whole value.integer) (Some (scalar_of_document ShapeType.Integer (view document.now))) result }
+{
+    Ok(whole(
+        alloc,
+        document,
+        ShapeType::Integer,
+        -0x8000_0000,
+        0x8000_0000,
+    )? as i32)
+}
+
+/// A number of 64 bits.
+pub(crate) fn long(alloc: Global, document: &Document) -> Result<i64, SerdeError>
+    ensures { Gives (value.whole value.long) (Some (scalar_of_document ShapeType.Long (view document.now))) result }
+{
+    Ok(whole(
+        alloc,
+        document,
+        ShapeType::Long,
+        -0x8000_0000_0000_0000,
+        0x8000_0000_0000_0000,
+    )? as i64)
+}

@@ -1,0 +1,10 @@
+use Rattle.std.proofs.Common.{rules}
+use Rattle.smithy_job.specs.Jobs as jobs
+use Rattle.smithy_job.proofs.ReceivedLemmas.{output-stands, schema-refused}
+use Rattle.smithy_job.proofs.received.expected_output.Goals as goal
+
+pub returns-in_err-placed : goal.returns-in_err-placed
+returns-in_err-placed c = schema-refused jobs.output _ c.in_err-placed.field-0.0 c.from_residual.result (search rules) c.in_err-placed.ensures
+
+pub returns : goal.returns
+returns c = output-stands _ c.in_ok-placed.placed c.in_ok-placed.ensures

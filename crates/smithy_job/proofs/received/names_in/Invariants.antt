@@ -1,0 +1,10 @@
+use Rattle.std.proofs.Common.{◌≡◌, map, drop}
+use Rattle.serde_json.specs.View.{view}
+use Rattle.smithy_types.specs.Results.{each}
+use Rattle.smithy_model.specs.PlaceView.{texts}
+use Rattle.smithy_model.proofs.Each.{and_rest}
+use Rattle.smithy_job.specs.Jobs.{full_name_in}
+use Rattle.smithy_job.proofs.received.names_in.Given as goal
+
+abbrev pub invariant-loop-item : goal.invariant-loop-item
+invariant-loop-item l = and_rest (texts l.names.items) (each full_name_in (map view (drop l.item-index l.items))) ≡ each full_name_in (map view l.items)

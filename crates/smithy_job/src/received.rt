@@ -1,0 +1,198 @@
+// The job of a response.
+ghost use Rattle.std.specs.Prelude.{◌≡◌, codes, map, Some, option_map};
+ghost use Rattle.serde_json.specs.View.{view};
+ghost use Rattle.serde_json.specs.Find.{get};
+ghost use Rattle.smithy_types.specs.Results.{each};
+ghost use Rattle.smithy_model.specs.PlaceView.{texts};
+ghost use Rattle.smithy_model.specs.Reads.{Reads};
+ghost use Rattle.smithy_model.specs.Models as models;
+ghost use Rattle.smithy_job.specs.Jobs.{output, error, coded, full_name_in, names_given, schema, errors, by_code, expected_by, expected, received};
+ghost use Rattle.smithy_job.specs.ReceivedView.{IsExpectedIn, IsReceived};
+ghost use Rattle.smithy_job.specs.Tables.{ReadsAs};
+
+use crate::reading::{errors_asked, schema_asked};
+use crate::response::{policy_of, read_response};
+use serde_json::Value;
+use smithy_http::{NonUtf8HeaderHandling, Response};
+use smithy_model::{Asked, JobError, is_full_name, items_of};
+use smithy_schema::{SchemaIndex, Schemas};
+use std::alloc::Global;
+
+/// An error that a response names by its code: one of the operation's, or else of the service's.
+#[derive(Drop)]
+pub struct CodedError<'v> {
+    pub code: &'v str,
+    pub operation: Vec<SchemaIndex>,
+    pub service: Vec<SchemaIndex>,
+}
+
+/// What a response is read as, by places in a table.
+#[derive(Drop)]
+pub enum Expected<'v> {
+    /// The output of the operation.
+    Output(SchemaIndex),
+    /// This error.
+    Error(SchemaIndex),
+    /// The error of a code.
+    Coded(CodedError<'v>),
+}
+
+/// What was received: a response, and what it is read as.
+#[derive(Drop)]
+pub struct Received<'v> {
+    pub response: Response,
+    pub policy: NonUtf8HeaderHandling,
+    pub table: Schemas,
+    pub expected: Expected<'v>,
+}
+
+// What a response is read as, over its table.
+struct ExpectedIn<'v> {
+    table: Schemas,
+    expected: Expected<'v>,
+}
+
+fn full_name(value: &Value) -> Option<&str>
+    ensures { option_map (λ t. t.now) result ≡ full_name_in (view value.now) }
+{
+    let name = value.as_str()?;
+    if is_full_name(name) { Some(name) } else { None }
+}
+
+fn names_in<'v>(alloc: Global, items: &'v [Value]) -> Result<Vec<&'v str>, JobError>
+    ensures { Reads (λ v. texts v.items) (each full_name_in (map view items.now)) result }
+{
+    let mut names = Vec::new(alloc);
+    for item in items {
+        let Some(name) = full_name(item) else {
+            return Err(JobError::NoJob);
+        };
+        names.push(name)?;
+    }
+    Ok(names)
+}
+
+// The full names of the service's errors.
+fn service_errors<'v>(alloc: Global, job: &'v Value) -> Result<Vec<&'v str>, JobError>
+    ensures { Reads (λ v. texts v.items) (names_given (get (codes "serviceErrors") (view job.now))) result }
+{
+    let Some(names) = job.get("serviceErrors") else {
+        return Ok(Vec::new(alloc));
+    };
+    match items_of(names) {
+        Some(items) => names_in(alloc, items),
+        None => Err(JobError::NoJob),
+    }
+}
+
+fn expected_output<'v>(alloc: Global, job: &'v Value) -> Result<ExpectedIn<'v>, JobError>
+    ensures { ReadsAs IsExpectedIn (option_map output (schema models.output (view job.now))) result }
+{
+    let placed = schema_asked(alloc, job, Asked::Output)?;
+    Ok(ExpectedIn {
+        table: placed.table,
+        expected: Expected::Output(placed.place),
+    })
+}
+
+fn expected_error<'v>(
+    alloc: Global,
+    job: &'v Value,
+    name: &'v str,
+) -> Result<ExpectedIn<'v>, JobError>
+    ensures { ReadsAs IsExpectedIn (option_map error (schema (models.error name.now) (view job.now))) result }
+{
+    let placed = schema_asked(alloc, job, Asked::Error(name))?;
+    Ok(ExpectedIn {
+        table: placed.table,
+        expected: Expected::Error(placed.place),
+    })
+}
+
+fn expected_coded<'v>(
+    alloc: Global,
+    job: &'v Value,
+    code: &'v str,
+    service: &[&'v str],
+) -> Result<ExpectedIn<'v>, JobError>
+    ensures { ReadsAs IsExpectedIn (option_map (coded code.now) (errors (texts service.now) (view job.now))) result }
+{
+    let placed = errors_asked(alloc, job, service)?;
+    Ok(ExpectedIn {
+        table: placed.table,
+        expected: Expected::Coded(CodedError {
+            code,
+            operation: placed.operation,
+            service: placed.service,
+        }),
+    })
+}
+
+// As the error of the code, where there is one, and else as the output.
+fn expected_by_code<'v>(
+    alloc: Global,
+    job: &'v Value,
+    service: &[&'v str],
+) -> Result<ExpectedIn<'v>, JobError>
+    ensures { ReadsAs IsExpectedIn
+        (by_code (view job.now) (texts service.now) (get (codes "code") (view job.now))) result }
+{
+    let Some(code) = job.get("code") else {
+        return expected_output(alloc, job);
+    };
+    match code.as_str() {
+        Some(code) => expected_coded(alloc, job, code, service),
+        None => Err(JobError::NoJob),
+    }
+}
+
+// As the error of this name, beside which there is neither a code nor an error of the service.
+fn expected_by_name<'v>(
+    alloc: Global,
+    job: &'v Value,
+    name: &'v Value,
+) -> Result<ExpectedIn<'v>, JobError>
+    ensures { ReadsAs IsExpectedIn
+        (expected_by (view job.now) (Some (view name.now)) (get (codes "code") (view job.now)) (get (codes "serviceErrors") (view job.now))) result }
+{
+    match (job.get("code"), job.get("serviceErrors")) {
+        (None, None) => match name.as_str() {
+            Some(name) => expected_error(alloc, job, name),
+            None => Err(JobError::NoJob),
+        },
+        _ => Err(JobError::NoJob),
+    }
+}
+
+fn expected_of<'v>(alloc: Global, job: &'v Value) -> Result<ExpectedIn<'v>, JobError>
+    ensures { ReadsAs IsExpectedIn (expected (view job.now)) result }
+{
+    match job.get("error") {
+        Some(name) => expected_by_name(alloc, job, name),
+        None => {
+            let service = service_errors(alloc, job)?;
+            expected_by_code(alloc, job, service.as_slice())
+        }
+    }
+}
+
+/// The job of a response that a JSON value is. Takes memory. What hasn't the form of one is no job.
+#[tactic(auto, unfolding(crate::specs::Jobs::received))]
+pub fn read_received(alloc: Global, job: &Value) -> Result<Received<'_>, JobError>
+    ensures { ReadsAs IsReceived (received (view job.now)) result }
+{
+    let Some(response) = job.get("response") else {
+        return Err(JobError::NoJob);
+    };
+    let response = read_response(alloc, response)?;
+    let Some(policy) = policy_of(job) else {
+        return Err(JobError::NoJob);
+    };
+    let ExpectedIn { table, expected } = expected_of(alloc, job)?;
+    Ok(Received {
+        response,
+        policy,
+        table,
+        expected,
+    })
+}

@@ -1,0 +1,239 @@
+-- Tables of shapes, and the schemas that stand in them.
+use Rattle.std.proofs.Common.{◌≡◌, Vec, Global, refl, sym, ap, ◌∙◌, subst, cond, ℕ, ◌+◌, Bool, true, false, List, [], ◌∷◌, ◌++◌, append_assoc, length, length-append, map, find, arith, Option, Some, None, option_map, option_and_then, Result, Err}
+use Rattle.std.specs.List.{slice_get}
+use Rattle.std.proofs.lemmas.List.{append-nil, length-map}
+use Rattle.smithy_types.specs.Results.{each}
+use Rattle.smithy_ids.specs.Traits.{Http}
+use Rattle.smithy_schema.specs.Nodes.{Node, Table, Schema, node_at, at_place}
+use Rattle.smithy_model.specs.Names.{is}
+use Rattle.smithy_model.specs.Shapes.{Shape}
+use Rattle.smithy_model.specs.Nodes.{Spot, Errors, spots, spots_from, spot_named, member_count, member_nodes, shape_node, input_node, nodes_of, schema_with, schema_behind, schema_of, place_named, schema_named, errors_of}
+use Rattle.smithy_model.specs.ReachedView.{document_shape}
+use Rattle.smithy_model.specs.NodeView.{filled, IsFilledBy, IsFilled}
+use Rattle.smithy_model.specs.PlacedView.{natural_node, IsPlacedAt, StandAt, PlacesErrors}
+use Rattle.smithy_model.specs.Reads.{Reads}
+use Rattle.smithy_model.specs.declared.error.JobError.{JobError}
+use Rattle.smithy_model.specs.declared.error.JobError.TheVariants.{NoJob, OutOfMemory}
+use Rattle.smithy_schema.specs.Places.{places_of}
+use Rattle.smithy_schema.specs.declared.parts.SchemaIndex.{SchemaIndex}
+use Rattle.smithy_model.specs.declared.table.Placed.{Placed}
+use Rattle.smithy_model.specs.declared.table.PlacedErrors.{PlacedErrors}
+use Rattle.smithy_model.proofs.FilledLemmas.{filled-both}
+use Rattle.smithy_model.proofs.SpotLemmas.{spots-length}
+use Rattle.smithy_model.proofs.NodeLemmas.{all-nodes-length}
+
+-- the nodes of these shapes with places that are only declared, where there are such nodes
+abbrev pub made : List Shape → ℕ → Option Table
+made xs further = option_map (λ ns. filled ns further) (nodes_of xs)
+
+-- members and shapes fill a table
+pub table-filled : (xs : List Shape) (ss : List Spot) (count place further : ℕ) (t0 t1 t2 : Table) → ss ≡ spots xs → count ≡ member_count xs → place ≡ count + length xs → t0 ≡ filled [] (place + further)
+    → IsFilled 0 t0 t1 (member_nodes ss xs) → IsFilledBy count (map (shape_node ss) ss) t1 t2 → made xs further ≡ Some t2
+table-filled xs ss count place further t0 t1 t2 are c q start members k = go (member_nodes (spots xs) xs) refl (rw are at members)
+  where
+    go : (o : Option (List Node)) → member_nodes (spots xs) xs ≡ o → IsFilled 0 t0 t1 o → made xs further ≡ Some t2
+    go None f none = absurd none
+    go (Some ms) f some =
+        let ns = map (shape_node (spots xs)) (spots xs) in
+        let long : length ms ≡ count = all-nodes-length (spots xs) xs ms f ∙ sym c in
+        let many : length ns ≡ length xs = length-map (spots xs) (shape_node (spots xs)) ∙ spots-length 0 (member_count xs) xs in
+        let both = filled-both 0 count ms ns t0 t1 t2 (omega (arith, long)) some (rw are at k) in
+        let places : place + further ≡ length (ms ++ ns) + further = rw (length-append ms ns) (omega (arith, q, long, many)) in
+        rw f (ap (λ (t : Table). Some t) (sym (both [] further refl (start ∙ ap (filled []) places))))
+
+-- none where a target is not there
+pub table-absent : (xs : List Shape) (ss : List Spot) (further : ℕ) → ss ≡ spots xs → member_nodes ss xs ≡ None → made xs further ≡ None
+table-absent xs ss further are e = let none : member_nodes (spots xs) xs ≡ None = rw are at e in rw none refl
+
+pub nodes-absent : (xs : List Shape) (further : ℕ) → made xs further ≡ None → nodes_of xs ≡ None
+nodes-absent xs further e = go (nodes_of xs) e
+  where
+    go : (o : Option (List Node)) → option_map (λ ns. filled ns further) o ≡ None → o ≡ None
+    go None h = refl
+    go (Some ns) h = absurd (cc h)
+
+-- The nodes of a table: those of members, then those of the shapes.
+pub record AreNodes (xs : List Shape) (ns : List Node) : Type 0 where
+  pub members : List Node
+  pub count : length members ≡ member_count xs
+  pub are : ns ≡ members ++ map (shape_node (spots xs)) (spots xs)
+
+pub nodes-are : (xs : List Shape) (ns : List Node) → nodes_of xs ≡ Some ns → AreNodes xs ns
+nodes-are xs ns e = go (member_nodes (spots xs) xs) refl e
+  where
+    go : (o : Option (List Node)) → member_nodes (spots xs) xs ≡ o → option_map (λ ms. ms ++ map (shape_node (spots xs)) (spots xs)) o ≡ Some ns → AreNodes xs ns
+    go None f h = absurd (cc h)
+    go (Some ms) f h =
+        let same : ms ++ map (shape_node (spots xs)) (spots xs) ≡ ns = cc in
+        record { members = ms; count = all-nodes-length (spots xs) xs ms f; are = sym same }
+
+-- the nodes of a table that was made
+pub record IsMade (xs : List Shape) (further : ℕ) (table : Table) : Type 0 where
+  pub nodes : List Node
+  pub of : nodes_of xs ≡ Some nodes
+  pub filled_so : table ≡ filled nodes further
+
+pub made-so : (xs : List Shape) (further : ℕ) (t : Table) → made xs further ≡ Some t → IsMade xs further t
+made-so xs further t e = go (nodes_of xs) refl e
+  where
+    go : (o : Option (List Node)) → nodes_of xs ≡ o → option_map (λ ns. filled ns further) o ≡ Some t → IsMade xs further t
+    go None f h = absurd (cc h)
+    go (Some ns) f h = let same : filled ns further ≡ t = cc in record { nodes = ns; of = f; filled_so = sym same }
+
+nodes-count : (xs : List Shape) (ns : List Node) → AreNodes xs ns → length ns ≡ member_count xs + length xs
+nodes-count xs ns h =
+    let shapes = map (shape_node (spots xs)) (spots xs) in
+    let count = h.count in
+    let many : length shapes ≡ length xs = length-map (spots xs) (shape_node (spots xs)) ∙ spots-length 0 (member_count xs) xs in
+    ap length h.are ∙ length-append h.members shapes ∙ omega (arith, count, many)
+
+-- the node behind some
+node_behind : (xs : List Node) (n : Node) (ys : List Node) → node_at (map Some (xs ++ n ∷ ys)) (length xs) ≡ Some n
+node_behind [] n ys = refl
+node_behind (x ∷ xs) n ys = node_behind xs n ys
+
+-- the node of a spot stands at its place
+spot-node : (f : Spot → Node) (before : List Node) (first place : ℕ) (xs : List Shape) (name : List ℕ) (spot : Spot) → length before ≡ place → find (λ s. is s.shape.name name) (spots_from first place xs) ≡ Some spot
+    → node_at (map Some (before ++ map f (spots_from first place xs))) spot.place ≡ Some (f spot)
+spot-node f before first place [] name spot p e = absurd (cc e)
+spot-node f before first place (x ∷ xs) name spot p e =
+    go (is x.name name) (spot-node f (before ++ f (record { place = place; first = first; shape = x }) ∷ []) (first + length x.members) (place + 1) xs name spot (length-append before _ ∙ ap (λ n. n + 1) p)) e
+  where
+    here : Spot
+    here = record { place = place; first = first; shape = x }
+
+    rest : List Spot
+    rest = spots_from (first + length x.members) (place + 1) xs
+
+    go : (b : Bool) → (find (λ s. is s.shape.name name) rest ≡ Some spot → node_at (map Some ((before ++ f here ∷ []) ++ map f rest)) spot.place ≡ Some (f spot)) → cond b (Some here) (find (λ s. is s.shape.name name) rest) ≡ Some spot → node_at (map Some (before ++ f here ∷ map f rest)) spot.place ≡ Some (f spot)
+    go true more h =
+        let same : here ≡ spot = cc in
+        subst (λ s. node_at (map Some (before ++ f here ∷ map f rest)) s.place ≡ Some (f s)) same (subst (λ i. node_at (map Some (before ++ f here ∷ map f rest)) i ≡ Some (f here)) p (node_behind before (f here) (map f rest)))
+    go false more h = subst (λ ns. node_at (map Some ns) spot.place ≡ Some (f spot)) (append_assoc before (f here ∷ []) (map f rest)) (more h)
+
+-- the first node of the shapes is that of natural values
+natural-first : (ss : List Spot) (first place : ℕ) (xs : List Shape) → slice_get xs 0 ≡ Some document_shape → (more : List Node) × (map (shape_node ss) (spots_from first place xs) ≡ natural_node ∷ more)
+natural-first ss first place [] e = absurd (cc e)
+natural-first ss first place (x ∷ xs) e =
+    let same : x ≡ document_shape = cc in
+    let more = map (shape_node ss) (spots_from (first + length x.members) (place + 1) xs) in
+    (more, subst (λ y. shape_node ss (record { place = place; first = first; shape = y }) ∷ more ≡ natural_node ∷ more) (sym same) refl)
+
+pub natural-there : (xs : List Shape) (ns more : List Node) → slice_get xs 0 ≡ Some document_shape → AreNodes xs ns → node_at (map Some (ns ++ more)) (member_count xs) ≡ Some natural_node
+natural-there xs ns more document h =
+    let first = natural-first (spots xs) 0 (member_count xs) xs document in
+    let are : ns ++ more ≡ h.members ++ natural_node ∷ (first.0 ++ more) =
+    ap (λ (zs : List Node). zs ++ more) (h.are ∙ ap (λ (zs : List Node). h.members ++ zs) first.1) ∙ append_assoc h.members (natural_node ∷ first.0) more in
+    subst (λ zs. node_at (map Some zs) (member_count xs) ≡ Some natural_node) (sym are)
+    (subst (λ i. node_at (map Some (h.members ++ natural_node ∷ (first.0 ++ more))) i ≡ Some natural_node) h.count (node_behind h.members natural_node (first.0 ++ more)))
+
+schema-is : (xs : List Shape) (http : Option Http) (name : List ℕ) (spot : Spot) (ns : List Node) → spot_named (spots xs) name ≡ Some spot → nodes_of xs ≡ Some ns
+    → schema_of xs http name ≡ Some (schema_behind (input_node (spots xs) http spot) ns)
+unfolding schema_of
+schema-is xs http name spot ns e f = rw (e, f) refl
+
+pub schema-placed : (xs : List Shape) (http : Option Http) (name : List ℕ) (ss : List Spot) (spot : Spot) (count place : ℕ) (t0 : Table) (p : Placed) → slice_get xs 0 ≡ Some document_shape
+    → ss ≡ spots xs → spot_named ss name ≡ Some spot → count ≡ member_count xs → place ≡ count + length xs → made xs 1 ≡ Some t0
+    → IsFilledBy place (input_node ss http spot ∷ []) t0 p.table → p.place.0 ≡ place → p.natural.0 ≡ count → IsPlacedAt (schema_of xs http name) p
+schema-placed xs http name ss spot count place t0 p document are e c q m last at natural =
+    let table = made-so xs 1 t0 m in
+    let ns = table.nodes in
+    let nodes = nodes-are xs ns table.of in
+    let input = input_node (spots xs) http spot in
+    let long : length ns ≡ place = nodes-count xs ns nodes ∙ ap (λ n. n + length xs) (sym c) ∙ sym q in
+    let filled_last : IsFilledBy place (input ∷ []) t0 p.table = rw are at last in
+    let whole : p.table ≡ map Some (ns ++ input ∷ []) = filled_last ns 0 long table.filled_so ∙ append-nil (map Some (ns ++ input ∷ [])) in
+    let there : node_at (map Some (ns ++ input ∷ [])) p.place.0 ≡ Some input = subst (λ i. node_at (map Some (ns ++ input ∷ [])) i ≡ Some input) (long ∙ sym at) (node_behind ns input []) in
+    let of_values : node_at (map Some (ns ++ input ∷ [])) p.natural.0 ≡ Some natural_node =
+    subst (λ i. node_at (map Some (ns ++ input ∷ [])) i ≡ Some natural_node) (sym c ∙ sym natural) (natural-there xs ns (input ∷ []) document nodes) in
+    rw (schema-is xs http name spot ns (rw are at e) table.of) (record { nodes = whole; node = rw there refl; natural = of_values })
+
+pub schema-absent : (xs : List Shape) (http : Option Http) (name : List ℕ) (ss : List Spot) → ss ≡ spots xs → spot_named ss name ≡ None → schema_of xs http name ≡ None
+unfolding schema_of
+schema-absent xs http name ss are e = let none : spot_named (spots xs) name ≡ None = rw are at e in rw none refl
+
+pub schema-without : (xs : List Shape) (http : Option Http) (name : List ℕ) → nodes_of xs ≡ None → schema_of xs http name ≡ None
+unfolding schema_of
+schema-without xs http name none = go (spot_named (spots xs) name)
+  where
+    go : (o : Option Spot) → option_and_then (λ spot. option_map (schema_behind (input_node (spots xs) http spot)) (nodes_of xs)) o ≡ None
+    go None = refl
+    go (Some spot) = rw none refl
+
+-- the schemas of these names stand at these places
+pub record AreThere (ns : List Node) (ss : List Spot) (names : List (List ℕ)) (places : List ℕ) : Type 0 where
+  pub schemas : List Schema
+  pub named : each (schema_named ns ss) names ≡ Some schemas
+  pub there : map (at_place (map Some ns)) places ≡ map Some schemas
+
+there-first : (xs : List Shape) (ns : List Node) → AreNodes xs ns → (names : List (List ℕ)) (places : List ℕ) → each (place_named (spots xs)) names ≡ Some places → AreThere ns (spots xs) names places
+unfolding spot_named
+there-first xs ns h [] places e = let none : [] ≡ places = cc in subst (λ ps. AreThere ns (spots xs) [] ps) none (record { schemas = []; named = refl; there = refl })
+there-first xs ns h (name ∷ names) places e = go (spot_named (spots xs) name) refl (each (place_named (spots xs)) names) (there-first xs ns h names) e
+  where
+    go : (o : Option Spot) → spot_named (spots xs) name ≡ o → (p : Option (List ℕ)) → ((ps : List ℕ) → p ≡ Some ps → AreThere ns (spots xs) names ps)
+        → option_and_then (λ i. option_map (λ ps. i ∷ ps) p) (option_map (λ s. s.place) o) ≡ Some places → AreThere ns (spots xs) (name ∷ names) places
+    go None f p k g = absurd (cc g)
+    go (Some spot) f None k g = absurd (cc g)
+    go (Some spot) f (Some ps) k g =
+        let more = k ps refl in
+        let all : spot.place ∷ ps ≡ places = cc in
+        let node : node_at (map Some ns) spot.place ≡ Some (shape_node (spots xs) spot) =
+        subst (λ zs. node_at (map Some zs) spot.place ≡ Some (shape_node (spots xs) spot)) (sym h.are) (spot-node (shape_node (spots xs)) h.members 0 (member_count xs) xs name spot h.count f) in
+        subst (λ qs. AreThere ns (spots xs) (name ∷ names) qs) all (record {
+          schemas = schema_with ns (shape_node (spots xs) spot) ∷ more.schemas;
+          named = rw (f, more.named) refl;
+          there = rw (node, more.there) refl;
+        })
+
+pub are-there : (xs : List Shape) (ns : List Node) (names : List (List ℕ)) (places : List ℕ) → nodes_of xs ≡ Some ns → each (place_named (spots xs)) names ≡ Some places → AreThere ns (spots xs) names places
+are-there xs ns names places e f = there-first xs ns (nodes-are xs ns e) names places f
+
+-- without a place there is no schema
+not-there : (ns : List Node) (ss : List Spot) (names : List (List ℕ)) → each (place_named ss) names ≡ None → each (schema_named ns ss) names ≡ None
+not-there ns ss [] e = absurd (cc e)
+not-there ns ss (name ∷ names) e = go (spot_named ss name) (each (place_named ss) names) (not-there ns ss names) e
+  where
+    go : (o : Option Spot) (p : Option (List ℕ)) → (p ≡ None → each (schema_named ns ss) names ≡ None) → option_and_then (λ i. option_map (λ ps. i ∷ ps) p) (option_map (λ s. s.place) o) ≡ None
+        → option_and_then (λ s. option_map (λ more. s ∷ more) (each (schema_named ns ss) names)) (option_map (λ spot. schema_with ns (shape_node ss spot)) o) ≡ None
+    go None p k e = refl
+    go (Some spot) None k e = rw (k refl) refl
+    go (Some spot) (Some ps) k e = absurd (cc e)
+
+pub errors-without : (xs : List Shape) (operation service : List (List ℕ)) → nodes_of xs ≡ None → errors_of xs operation service ≡ None
+unfolding errors_of
+errors-without xs operation service e = rw e refl
+
+pub first-absent : (xs : List Shape) (ns : List Node) (operation service : List (List ℕ)) → nodes_of xs ≡ Some ns → each (place_named (spots xs)) operation ≡ None → errors_of xs operation service ≡ None
+unfolding errors_of
+first-absent xs ns operation service e f = rw (e, not-there ns (spots xs) operation f) refl
+
+pub second-absent : (xs : List Shape) (ns : List Node) (operation service : List (List ℕ)) → nodes_of xs ≡ Some ns → each (place_named (spots xs)) service ≡ None → errors_of xs operation service ≡ None
+unfolding errors_of
+second-absent xs ns operation service e f = rw (e, not-there ns (spots xs) service f) (go (each (schema_named ns (spots xs)) operation))
+  where
+    none : Option Errors
+    none = None
+
+    go : (o : Option (List Schema)) → option_and_then (λ os. none) o ≡ None
+    go None = refl
+    go (Some os) = refl
+
+pub errors-are : (xs : List Shape) (ns : List Node) (operation service : List (List ℕ)) (os ss : List Schema) → nodes_of xs ≡ Some ns → each (schema_named ns (spots xs)) operation ≡ Some os
+    → each (schema_named ns (spots xs)) service ≡ Some ss → errors_of xs operation service ≡ Some (record { operation = os; service = ss })
+unfolding errors_of
+errors-are xs ns operation service os ss e f g = rw (e, f, g) refl
+
+-- a refusal that is passed on
+pub errors-refused : (part : Option (List ℕ)) (whole : Option Errors) (e : JobError) (r : Result PlacedErrors JobError) → r ≡ Err e → (part ≡ None → whole ≡ None) → Reads {A = Vec SchemaIndex Global} (λ v. places_of v.items) part (Err e)
+    → PlacesErrors whole r
+errors-refused part whole NoJob r is h k = rw is (h k)
+errors-refused part whole OutOfMemory r is h k = rw is tt
+
+-- the schemas that stand at places of a table without further places
+pub stand-there : (t : Table) (ns : List Node) (places : List SchemaIndex) (schemas : List Schema) → t ≡ filled ns 0 → map (at_place (map Some ns)) (places_of places) ≡ map Some schemas → StandAt t places schemas
+stand-there t ns places schemas e h = rw (e, append-nil) (all places ∙ h)
+  where
+    all : (places : List SchemaIndex) → map (λ p. at_place (map Some ns) p.0) places ≡ map (at_place (map Some ns)) (places_of places)
+    all [] = refl
+    all (p ∷ ps) = ap (λ (o : List (Option Schema)). at_place (map Some ns) p.0 ∷ o) (all ps)

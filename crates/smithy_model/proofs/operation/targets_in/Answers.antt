@@ -1,0 +1,12 @@
+use Rattle.std.proofs.Common.{◌∙◌, sym}
+use Rattle.std.proofs.lemmas.List.{map-append}
+use Rattle.serde_json.specs.View.{view}
+use Rattle.smithy_model.specs.Operations.{target_in}
+use Rattle.smithy_model.specs.PlaceView.{texts}
+use Rattle.smithy_model.proofs.Each.{each_item}
+use Rattle.smithy_model.proofs.operation.targets_in.Goals as goal
+
+pub loop-item-preserved : goal.loop-item-preserved
+loop-item-preserved c =
+    rw (c.in_ok-push.ensures.items, map-append)
+    (sym (each_item view target_in (texts c.loop-item.found.items) c.in-Some.target.now c.args.items.now c.loop-item.item-index c.item-item.result c.loop-item-test.true c.item-item.is (sym c.in-Some.ensures)) ∙ c.loop-item.invariant)

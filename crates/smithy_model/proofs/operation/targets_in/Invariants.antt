@@ -1,0 +1,10 @@
+use Rattle.std.proofs.Common.{◌≡◌, map, drop}
+use Rattle.serde_json.specs.View.{view}
+use Rattle.smithy_types.specs.Results.{each}
+use Rattle.smithy_model.specs.Operations.{target_in}
+use Rattle.smithy_model.specs.PlaceView.{texts}
+use Rattle.smithy_model.proofs.Each.{and_rest}
+use Rattle.smithy_model.proofs.operation.targets_in.Given as goal
+
+abbrev pub invariant-loop-item : goal.invariant-loop-item
+invariant-loop-item l = and_rest (texts l.found.items) (each target_in (map view (drop l.item-index l.items))) ≡ each target_in (map view l.items)

@@ -1,0 +1,6 @@
+pub mod ErrorCodes
+pub mod Registries
+pub mod Kept
+pub mod Layers
+pub mod Shapes
+pub mod Reading

@@ -1,0 +1,147 @@
+// Look-ups in registries of the structures of one table.
+ghost use Rattle.std.specs.Prelude.{◌≡◌, true, is_some};
+ghost use Rattle.smithy_schema.specs.References.{index_of};
+
+use crate::*;
+use smithy_http::Headers;
+use smithy_ids::{ShapeId, ShapeType};
+use smithy_schema::{Schema, SchemaIndex, SchemaRef, Schemas};
+use smithy_serde::ValueReader;
+use std::process::Abort;
+
+// The place of the entry that was found, 9 for none.
+fn place(found: Option<&RegistryEntry<ValueReader<'_>>>) -> usize {
+    match found {
+        Some(entry) => entry.schema().0,
+        None => 9,
+    }
+}
+
+fn node<'t>(rt: &impl Abort, table: &'t Schemas, place: usize) -> SchemaRef<'t>
+    ensures { is_some (index_of result) ≡ true }
+{
+    match table.get(SchemaIndex(place)) {
+        Some(node) => node,
+        None => panic!(rt; "no node"),
+    }
+}
+
+fn reader<'t>(rt: &impl Abort, table: &'t Schemas, place: usize) -> ValueReader<'t> {
+    let index = SchemaIndex(place);
+    match table.get(index) {
+        Some(_) => ValueReader::new(table, index),
+        None => panic!(rt; "no node"),
+    }
+}
+
+// Puts the structure at a place of the table.
+fn put<'t>(
+    rt: &impl Abort,
+    builder: &mut TypeRegistryBuilder<ValueReader<'t>>,
+    table: &'t Schemas,
+    place: usize,
+) {
+    let id = node(rt, table, place).shape_id();
+    let entry = RegistryEntry::new(SchemaIndex(place), reader(rt, table, place));
+    builder.insert(id, entry).expect(rt, "no memory");
+}
+
+#[test]
+fn entries_are_found_by_name_and_by_code(rt: HostRuntime) {
+    let alloc = rt.alloc();
+    let mut table = Schemas::new(alloc);
+    for name in ["b#FooError", "a#FooError", "c#Bar$foo", "a#FooError"] {
+        let id = ShapeId::parse(name).expect(&rt, "no name");
+        let schema = Schema::new_struct(id, ShapeType::Structure, &[]);
+        table.insert(schema).expect(&rt, "no place");
+    }
+    let mut builder = TypeRegistry::builder(alloc);
+    put(&rt, &mut builder, &table, 0);
+    put(&rt, &mut builder, &table, 1);
+    let both = builder.build();
+    assert_eq!(rt; both.len(), 2);
+    assert_eq!(rt; place(both.entry_for_error_code("FooError")), 1);
+    assert_eq!(rt;
+        place(both.entry_for_error_code("z#FooError:http://internal/x#y")),
+        1
+    );
+    assert_eq!(rt; place(both.entry_for_error_code("Bar")), 9);
+    assert_eq!(rt; place(both.entry_for_fqn("b#FooError")), 0);
+    assert!(rt; both.schema_for(node(&rt, &table, 1).shape_id()) == Some(SchemaIndex(1)));
+    assert!(rt; both.schema_for_fqn("c#FooError").is_none());
+
+    let mut builder = TypeRegistry::builder(alloc);
+    let read = reader(&rt, &table, 0);
+    builder
+        .insert_error_shape(node(&rt, &table, 0), read, read)
+        .expect(&rt, "no memory");
+    let one = builder.build();
+    assert!(rt;
+        one.entry_for_fqn("b#FooError")
+            .expect(&rt, "no entry")
+            .error_deserialize_fn()
+            .is_some()
+    );
+    assert_eq!(rt; place(one.or(&both).entry_for_error_code("FooError")), 0);
+    assert_eq!(rt; place(both.or(&one).entry_for_error_code("FooError")), 1);
+    assert_eq!(rt;
+        place(one.or(&both).entry_for(node(&rt, &table, 1).shape_id())),
+        1
+    );
+    assert_eq!(rt; place(one.or(&both).entry_for_fqn("c#Bar")), 9);
+
+    let mut builder = TypeRegistry::builder(alloc);
+    let read = reader(&rt, &table, 2);
+    builder
+        .insert_shape(node(&rt, &table, 2), read)
+        .expect(&rt, "no memory");
+    let third = reader(&rt, &table, 3);
+    builder
+        .insert_shape(node(&rt, &table, 1), read)
+        .expect(&rt, "no memory");
+    builder
+        .insert_shape(node(&rt, &table, 3), third)
+        .expect(&rt, "no memory");
+    let whole = both.compose(builder.build()).expect(&rt, "no memory");
+    let mut entries = whole.iter();
+    for (left, name, node) in [
+        (2, "a#FooError", 3),
+        (1, "b#FooError", 0),
+        (0, "c#Bar$foo", 2),
+    ] {
+        let (id, entry) = entries.next().expect(&rt, "too few");
+        assert_eq!(rt; entries.len(), left);
+        assert_eq!(rt; id.as_str(), name);
+        assert_eq!(rt; entry.schema().0, node);
+    }
+    assert!(rt; entries.next().is_none());
+    assert!(rt; !whole.is_empty());
+    assert!(rt; TypeRegistry::<ValueReader<'_>>::new(alloc).is_empty());
+}
+
+#[test]
+fn codes_are_cut(rt: HostRuntime) {
+    let alloc = rt.alloc();
+    for code in [
+        "FooError",
+        "com.example#FooError",
+        "FooError:http://internal.example.com/x",
+        "com.example#FooError:http://internal/x",
+    ] {
+        assert_eq!(rt; sanitize_error_code(code), "FooError");
+    }
+    let mut headers = Headers::new(alloc);
+    assert!(rt; parse_query_compatible_header(&headers).is_none());
+    for (value, wanted) in [
+        ("NoSemicolon", None),
+        (
+            "AWS.SimpleQueueService.Foo;Sender",
+            Some(("AWS.SimpleQueueService.Foo", "Sender")),
+        ),
+    ] {
+        headers
+            .try_insert("X-Amzn-Query-Error", value)
+            .expect(&rt, "no header");
+        assert!(rt; parse_query_compatible_header(&headers) == wanted);
+    }
+}

@@ -1,0 +1,126 @@
+-- How the members of a response are passed over, until one is handed out.
+use Rattle.std.proofs.Common.{◌≡◌, ◌<◌, ◌≤◌, inl, inr, ◌+◌, Bool, true, false, length, Option, Some, None, Err, refl, sym, ap, ◌∙◌, arith}
+use Rattle.std.specs.List.{cons_option}
+use Rattle.smithy_http.specs.Responses.{Response}
+use Rattle.smithy_schema.specs.Nodes.{Schema, member_at}
+use Rattle.smithy_serde.specs.declared.error.SerdeError.{SerdeError}
+use Rattle.smithy_serde.specs.Held.{Held}
+use Rattle.smithy_response.specs.declared.parts.BoundMember.{BoundMember}
+use Rattle.smithy_response.specs.declared.parts.BoundMember.TheVariants as bound
+use Rattle.smithy_response.specs.declared.transport.Transport.{Transport}
+use Rattle.smithy_response.specs.Handed.{Ended, routed, with_route}
+use Rattle.smithy_response.specs.Routes.{Route, passed_over, handed_out, handed_body, refused, route, source_of}
+use Rattle.smithy_response.specs.Transporting.{member_at_hand, members_from, still_routed, IsLeft, IsSameResponse, IsTaken, IsTakenAt, TakesAt, HandsMember, HandsBody, HandsNoMember, RefusesMember}
+use Rattle.smithy_response.proofs.Members.{from-next, from-end}
+
+taken_nothing : (response : Response) (r : Route) → IsTaken response r bound.Nothing → r ≡ passed_over
+taken_nothing response passed_over t = refl
+taken_nothing response (handed_out h) t = cc
+taken_nothing response handed_body t = cc
+taken_nothing response (refused e) t = absurd t
+
+taken_body : (response : Response) (r : Route) → IsTaken response r bound.Body → r ≡ handed_body
+taken_body response passed_over t = cc
+taken_body response (handed_out h) t = cc
+taken_body response handed_body t = refl
+taken_body response (refused e) t = absurd t
+
+taken_other : (response : Response) (r : Route) (taken : BoundMember) → (taken ≡ bound.Nothing → ⊥) → (taken ≡ bound.Body → ⊥) → IsTaken response r taken
+    → (h : Held) × (r ≡ handed_out h) × ((member_at_hand response taken).held ≡ Some h)
+taken_other response passed_over taken a b t = absurd (a t)
+taken_other response (handed_out h) taken a b t = (h, refl, t)
+taken_other response handed_body taken a b t = absurd (b t)
+taken_other response (refused e) taken a b t = absurd t
+
+-- the members so far were passed over
+pub record Passing (schema : Schema) (is_given : Bool) (start now : Transport) : Type 0 where
+  pub same : IsSameResponse start now
+  pub none : now.member ≡ bound.Nothing
+  pub later : start.place ≤ now.place
+  pub follows : (rest : Option Held → Ended) (body : Option Held) → IsLeft is_given body → still_routed start schema rest body ≡ still_routed now schema rest body
+
+pub begins : (schema : Schema) (is_given : Bool) (start : Transport) → Passing schema is_given start (record start { member = bound.Nothing })
+begins schema is_given start = record {
+  same = record { response = refl; is_error = refl; policy = refl };
+  none = refl;
+  later = omega arith;
+  follows = λ rest body left. refl;
+}
+
+pub ends : (schema : Schema) (is_given : Bool) (start t : Transport) → Passing schema is_given start t → length schema.node.members ≤ t.place → HandsNoMember schema is_given start t
+ends schema is_given start t p h = record {
+  follows = λ rest body left. p.follows rest body left ∙ ap (λ ms. routed t.response rest body ms) (from-end schema t.place h);
+}
+
+module _ (schema : Schema) (is_given : Bool) (start t : Transport) (p : Passing schema is_given start t) (h : t.place < length schema.node.members) where
+  -- what is left behind this position
+  abbrev after : (Option Held → Ended) → Option Held → Ended
+  after rest body = routed t.response rest body (members_from schema (t.place + 1))
+
+  here : (rest : Option Held → Ended) (body : Option Held) (found : Option Schema) → found ≡ member_at schema t.place
+      → still_routed t schema rest body ≡ routed t.response rest body (cons_option found (members_from schema (t.place + 1)))
+  here rest body found e =
+      ap (λ ms. routed t.response rest body ms) (from-next schema t.place h ∙ ap (λ o. cons_option o (members_from schema (t.place + 1))) (sym e))
+
+  pub passes_hole : None ≡ member_at schema t.place → Passing schema is_given start (record t { place = t.place + 1 })
+  passes_hole hole = record {
+    same = record { response = p.same.response; is_error = p.same.is_error; policy = p.same.policy };
+    none = p.none;
+    later = (let before : start.place ≤ t.place = p.later in omega (arith, before));
+    follows = λ rest body left. p.follows rest body left ∙ here rest body None hole;
+  }
+
+  module _ (m : Schema) (found : Some m ≡ member_at schema t.place) where
+    by_route : (r : Route) → route m t.response ≡ r → (rest : Option Held → Ended) (body : Option Held) → IsLeft is_given body
+        → still_routed start schema rest body ≡ with_route r m body (after rest body) (after rest None)
+    by_route r is rest body left =
+        p.follows rest body left ∙ here rest body (Some m) found ∙ ap (λ x. with_route x m body (after rest body) (after rest None)) is
+
+    pub passes_member : IsTakenAt t.response (source_of m) m bound.Nothing → Passing schema is_given start (record t { place = t.place + 1 })
+    passes_member taken = record {
+      same = record { response = p.same.response; is_error = p.same.is_error; policy = p.same.policy };
+      none = p.none;
+      later = (let before : start.place ≤ t.place = p.later in omega (arith, before));
+      follows = λ rest body left. by_route passed_over (taken_nothing t.response (route m t.response) taken.route) rest body left;
+    }
+
+    -- the body was handed out before
+    pub passes_body : is_given ≡ true → IsTakenAt t.response (source_of m) m bound.Body → Passing schema is_given start (record t { place = t.place + 1 })
+    passes_body given taken = record {
+      same = record { response = p.same.response; is_error = p.same.is_error; policy = p.same.policy };
+      none = p.none;
+      later = (let before : start.place ≤ t.place = p.later in omega (arith, before));
+      follows = λ rest body left.
+          by_route handed_body (taken_body t.response (route m t.response) taken.route) rest body left
+          ∙ ap (λ b. with_route handed_body m b (after rest body) (after rest None)) (left given);
+    }
+
+    pub hands_body : is_given ≡ false → IsTakenAt t.response (source_of m) m bound.Body
+        → HandsBody schema m is_given start (record t { place = t.place + 1; member = bound.Body })
+    hands_body given taken = record {
+      is_member = (t.place, sym found);
+      was_left = given;
+      follows = λ rest body. by_route handed_body (taken_body t.response (route m t.response) taken.route) rest (Some body) (λ e. (let bad : false ≡ true = sym given ∙ e in cc));
+      settles = λ e. sym (taken.settles (λ bad. cc) t.policy e);
+      settles_now = λ e. refl;
+      falls = (let before : start.place ≤ t.place = p.later in omega (arith, before, h));
+    }
+
+    module _ (got : BoundMember) (some : got ≡ bound.Nothing → ⊥) (other : got ≡ bound.Body → ⊥) (taken : IsTakenAt t.response (source_of m) m got) where
+      held : (h : Held) × (route m t.response ≡ handed_out h) × ((member_at_hand t.response got).held ≡ Some h)
+      held = taken_other t.response (route m t.response) got some other taken.route
+
+      pub hands_member : HandsMember schema m is_given start (record t { place = t.place + 1; member = got })
+      hands_member = record {
+        is_member = (t.place, sym found);
+        held = held.0;
+        at_hand = held.2;
+        follows = λ rest body left. by_route (handed_out held.0) held.1 rest body left;
+        settles = λ e. taken.settles some t.policy e;
+        falls = (let before : start.place ≤ t.place = p.later in omega (arith, before, h));
+        low = taken.low;
+      }
+
+    pub refuses_member : (e : SerdeError) → TakesAt t.response (source_of m) m (Err e) → RefusesMember schema is_given start e
+    refuses_member e (inl memory) = λ rest body left. inl memory
+    refuses_member e (inr is) = λ rest body left. inr (by_route (refused e) is rest body left)

@@ -1,0 +1,13 @@
+use Rattle.std.proofs.Common.{◌≡◌, ◌-◌, length, not}
+use Rattle.std.specs.List.{list_any}
+use Rattle.smithy_schema.specs.Nodes.{is_response_bound}
+use Rattle.smithy_schema.specs.References.{schema_of}
+use Rattle.smithy_response.specs.Handed.{has_unbound}
+use Rattle.smithy_response.specs.Transporting.{members_from}
+use Rattle.smithy_response.proofs.transport.has_unbound.Given as goal
+
+abbrev pub invariant-loop-position : goal.invariant-loop-position
+invariant-loop-position l = has_unbound (schema_of l.schema) ≡ list_any (λ m. not (is_response_bound m)) (members_from (schema_of l.schema) l.position)
+
+abbrev pub decreases-loop-position : goal.decreases-loop-position
+decreases-loop-position l = length (schema_of l.schema).node.members - l.position

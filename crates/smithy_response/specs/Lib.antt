@@ -1,0 +1,14 @@
+pub mod Frames
+pub mod GivenScalars
+pub mod Handed
+pub mod MembersRead
+pub mod Openings
+pub mod PrefixedHeaders
+pub mod ResponseReaders
+pub mod ResponseValue
+pub mod Routes
+pub mod Settling
+pub mod Stages
+pub mod TransportWins
+pub mod Transporting
+pub mod WholeResponses

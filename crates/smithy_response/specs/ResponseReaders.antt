@@ -1,0 +1,39 @@
+-- What is seen of the reader of a response, and which reader a response has.
+use Rattle.std.specs.Prelude.{◌≡◌, Bool, true, false, not, ◌&&◌, List, [], Option, Some, None, option_map}
+use Rattle.std.specs.List.{list_any}
+use Rattle.smithy_http.specs.Responses.{Response}
+use Rattle.smithy_http.specs.declared.non_utf8.NonUtf8HeaderHandling.{NonUtf8HeaderHandling}
+use Rattle.smithy_schema.specs.Nodes.{Schema, members_of, is_response_bound}
+use Rattle.smithy_serde.specs.declared.scalar.Group.TheVariants as group
+use Rattle.smithy_serde.specs.ReadCalls.{AtHand}
+use Rattle.smithy_serde.specs.declared.deserializer.ShapeDeserializer.{Ghosts}
+use Rattle.smithy_response.specs.declared.response_reader.ResponseReader.{ResponseReader}
+use Rattle.smithy_response.specs.declared.response_reader.ResponseReader.TheVariants.{BodyOnly, Composite}
+use Rattle.smithy_response.specs.Frames.{composite_at_hand}
+use Rattle.smithy_response.specs.Handed.{has_unbound, handed}
+
+-- the schema has members, and none is bound to another part of the response than the body
+abbrev pub is_body_only : Schema → Bool
+is_body_only schema = has_unbound schema && not (list_any is_response_bound (members_of schema))
+
+-- a modelled error's reader, and an output's where that is not the body's alone, reads the whole response
+abbrev pub chosen_whole : Schema → (is_error : Bool) → Bool
+chosen_whole schema true = true
+chosen_whole schema false = not (is_body_only schema)
+
+abbrev pub reader_at_hand : {D : Type 0} {is_read : Ghosts D} → (D → AtHand) → ResponseReader D is_read → AtHand
+reader_at_hand at (BodyOnly body) = at body
+reader_at_hand at (Composite c) = composite_at_hand c.stage c.transport (at c.body.reader)
+
+-- A reader of the whole response: it tells no value at hand, nothing is open, and a structure has the members that are handed out.
+pub record ReadsWhole (response : Response) (is_error : Bool) (policy : NonUtf8HeaderHandling) (body seen : AtHand) : Type 0 where
+  pub untold : seen.held ≡ None
+  pub none_open : seen.opened ≡ []
+  pub members : (schema : Schema) → seen.listing group.Structure schema ≡ option_map (λ h. handed schema response h is_error policy) body.held
+
+-- which reader it is
+abbrev pub IsReader : {D : Type 0} {is_read : Ghosts D} → (D → AtHand) → Response → Bool → NonUtf8HeaderHandling → (is_whole : Bool) → D → ResponseReader D is_read → Type 0
+IsReader at response is_error policy true body (BodyOnly b) = ⊥
+IsReader at response is_error policy true body (Composite c) = ReadsWhole response is_error policy (at body) (composite_at_hand c.stage c.transport (at c.body.reader))
+IsReader at response is_error policy false body (BodyOnly b) = b ≡ body
+IsReader at response is_error policy false body (Composite c) = ⊥

@@ -1,0 +1,23 @@
+-- What a whole response is read as.
+use Rattle.std.specs.Prelude.{◌≡◌, ℕ, Bool, Option, Some, option_map, Result}
+use Rattle.smithy_http.specs.declared.non_utf8.NonUtf8HeaderHandling.{NonUtf8HeaderHandling}
+use Rattle.smithy_http.specs.Responses.{Response}
+use Rattle.smithy_schema.specs.Nodes.{Table, Schema, at_place}
+use Rattle.smithy_serde.specs.declared.error.SerdeError.{SerdeError}
+use Rattle.smithy_serde.specs.declared.struct_value.StructValue.{StructValue}
+use Rattle.smithy_serde.specs.Held.{Held}
+use Rattle.smithy_serde.specs.Listings.{Listing}
+use Rattle.smithy_serde.specs.ReadCalls.{Gives}
+use Rattle.smithy_serde.specs.ValueReading.{structure_of}
+use Rattle.smithy_response.specs.Handed.{handed}
+use Rattle.smithy_response.specs.ResponseValue.{value_of_response}
+
+-- by the node at the place, the value of the response with this body, where the body is told
+abbrev pub GivesResponse : Table → ℕ → Response → Bool → NonUtf8HeaderHandling → Option Held → Result StructValue SerdeError → Type 0
+GivesResponse table place response is_error policy body result =
+    (n : Schema) → at_place table place ≡ Some n → (h : Held) → body ≡ Some h
+    → Gives structure_of (Some (value_of_response n response h is_error policy)) result
+
+-- what the response hands out, where the body is told
+abbrev pub handed_with : Schema → Response → Bool → NonUtf8HeaderHandling → Option Held → Option Listing
+handed_with schema response is_error policy body = option_map (λ h. handed schema response h is_error policy) body

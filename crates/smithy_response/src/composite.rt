@@ -1,0 +1,246 @@
+// The reader of a whole response.
+ghost use Rattle.std.specs.Prelude.{IsTrue};
+ghost use Rattle.smithy_response.specs.Stages.{fits_depth};
+
+use crate::counted::Counted;
+use crate::stage::Stage;
+use crate::transport::{Transport, Turn};
+use smithy_schema::SchemaRef;
+use smithy_serde::{Group, ReadScalar, ScalarKind, SerdeError, ShapeDeserializer};
+use smithy_types::Text;
+use std::alloc::Global;
+
+/// Reads the members of a response: those that are bound to its status, headers and bytes, and then the body's. Until a
+/// structure is opened it answers as its body's reader does, and tells no value at hand.
+#[derive(Drop)]
+pub struct CompositeReader<D: ShapeDeserializer> {
+    body: Counted<D>,
+    transport: Transport,
+    stage: Stage,
+    ghost fits: { IsTrue (fits_depth stage body.depth) },
+}
+
+impl<D: ShapeDeserializer> CompositeReader<D> {
+    ghost use Rattle.std.specs.Prelude.{◌≡◌, []};
+    ghost use Rattle.smithy_response.specs.declared.stage.Stage.TheVariants as stage;
+
+    // A reader of a response whose body's reader has nothing open.
+    pub(crate) fn new(body: D, transport: Transport) -> CompositeReader<D>
+        requires { (D.at_hand body).opened ≡ [] }
+        ensures body { result.body.reader ≡ body }
+        ensures transport { result.transport ≡ transport }
+        ensures stage { result.stage ≡ stage.Top }
+    {
+        CompositeReader {
+            body: Counted::new(body),
+            transport,
+            stage: Stage::Top,
+        }
+    }
+}
+
+impl<D: ShapeDeserializer> ShapeDeserializer for CompositeReader<D> {
+    ghost use Rattle.smithy_response.specs.Frames.{composite_at_hand};
+
+    ghost at_hand = { λ r. composite_at_hand r.stage r.transport (D.at_hand r.body.reader) };
+
+    fn read(
+        &mut self,
+        alloc: Global,
+        schema: SchemaRef<'_>,
+        kind: ScalarKind,
+    ) -> Result<ReadScalar, SerdeError> {
+        match self.stage {
+            Stage::Bound { .. } => self.transport.read(alloc, schema, kind),
+            Stage::Top => self.body.read(alloc, schema, kind),
+            Stage::Payload => self.body.read(alloc, schema, kind),
+            Stage::Body => self.body.read(alloc, schema, kind),
+        }
+    }
+
+    fn open(
+        &mut self,
+        alloc: Global,
+        schema: SchemaRef<'_>,
+        group: Group,
+    ) -> Result<(), SerdeError> {
+        match self.stage {
+            Stage::Top => {
+                if self.body.depth() != 0 {
+                    return self.body.open(alloc, schema, group);
+                }
+                match group {
+                    Group::Structure => {
+                        self.transport.start();
+                        self.stage = Stage::Bound { is_given: false };
+                        Ok(())
+                    }
+                    Group::List => self.body.open(alloc, schema, group),
+                    Group::Map => self.body.open(alloc, schema, group),
+                }
+            }
+            Stage::Bound { .. } => self.transport.open(alloc, schema, group),
+            Stage::Payload => self.body.open(alloc, schema, group),
+            Stage::Body => {
+                if self.body.depth() == 0 {
+                    return Err(SerdeError::OutOfMemory);
+                }
+                self.body.open(alloc, schema, group)
+            }
+        }
+    }
+
+    fn next_member<'s>(
+        &mut self,
+        alloc: Global,
+        schema: SchemaRef<'s>,
+    ) -> Result<Option<SchemaRef<'s>>, SerdeError> {
+        match self.stage {
+            Stage::Top => self.body.next_member(alloc, schema),
+            Stage::Bound { is_given } => self.next_bound(alloc, schema, is_given),
+            Stage::Payload => {
+                if self.body.depth() != 0 {
+                    return self.body.next_member(alloc, schema);
+                }
+                self.stage = Stage::Bound { is_given: true };
+                self.next_bound(alloc, schema, true)
+            }
+            Stage::Body => {
+                if self.body.depth() != 1 {
+                    return self.body.next_member(alloc, schema);
+                }
+                self.next_field(alloc, schema)
+            }
+        }
+    }
+
+    fn next_element(&mut self, alloc: Global) -> Result<bool, SerdeError> {
+        match self.stage {
+            Stage::Top => self.body.next_element(alloc),
+            Stage::Bound { .. } => self.transport.next_element(),
+            Stage::Payload => self.body.next_element(alloc),
+            Stage::Body => {
+                if self.body.depth() == 1 {
+                    return Err(SerdeError::OutOfMemory);
+                }
+                self.body.next_element(alloc)
+            }
+        }
+    }
+
+    fn next_entry(&mut self, alloc: Global) -> Result<Option<Text>, SerdeError> {
+        match self.stage {
+            Stage::Top => self.body.next_entry(alloc),
+            Stage::Bound { .. } => self.transport.next_entry(alloc),
+            Stage::Payload => self.body.next_entry(alloc),
+            Stage::Body => {
+                if self.body.depth() == 1 {
+                    return Err(SerdeError::OutOfMemory);
+                }
+                self.body.next_entry(alloc)
+            }
+        }
+    }
+
+    fn settle(&mut self, alloc: Global, refusal: SerdeError) -> Result<(), SerdeError> {
+        match self.stage {
+            Stage::Bound { .. } => match self.transport.settle(alloc, refusal) {
+                Ok(()) => {
+                    self.transport.close();
+                    Ok(())
+                }
+                Err(answer) => Err(answer),
+            },
+            Stage::Top => Err(refusal),
+            Stage::Payload => Err(refusal),
+            Stage::Body => Err(refusal),
+        }
+    }
+
+    fn is_null(&self) -> bool {
+        match self.stage {
+            Stage::Bound { .. } => self.transport.is_null(),
+            Stage::Top => self.body.is_null(),
+            Stage::Payload => self.body.is_null(),
+            Stage::Body => self.body.is_null(),
+        }
+    }
+
+    fn container_size(&self) -> Option<usize> {
+        match self.stage {
+            Stage::Bound { .. } => None,
+            _ => self.body.container_size(),
+        }
+    }
+}
+
+impl<D: ShapeDeserializer> CompositeReader<D> {
+    ghost use Rattle.std.specs.Prelude.{◌≡◌, length};
+    ghost use Rattle.smithy_schema.specs.References.{schema_of};
+    ghost use Rattle.smithy_serde.specs.declared.scalar.Group.TheVariants as group;
+    ghost use Rattle.smithy_serde.specs.ReadCalls.{IsIn, NextMember};
+    ghost use Rattle.smithy_response.specs.declared.stage.Stage.TheVariants as stage;
+    ghost use Rattle.smithy_response.specs.Frames.{composite_at_hand, at_structure, at_body};
+
+    // The next bound member, or the first field of the body behind the last one.
+    fn next_bound<'s>(
+        &mut self,
+        alloc: Global,
+        schema: SchemaRef<'s>,
+        is_given: bool,
+    ) -> Result<Option<SchemaRef<'s>>, SerdeError>
+        requires { self.old.stage ≡ stage.Bound is_given }
+        ensures { NextMember (schema_of schema.entry) (at_structure self.old.transport is_given (D.at_hand self.old.body.reader))
+            (composite_at_hand self.new.stage self.new.transport (D.at_hand self.new.body.reader)) result }
+    {
+        if self.body.depth() != 0 {
+            unreachable!()
+        }
+        match self.transport.next(alloc, schema, is_given)? {
+            Turn::Member(member) => Ok(Some(member)),
+            Turn::Payload(member) => {
+                self.stage = Stage::Payload;
+                Ok(Some(member))
+            }
+            Turn::Done => {
+                if is_given {
+                    self.stage = Stage::Top;
+                    return Ok(None);
+                }
+                if !self.transport.reads_body(schema) {
+                    self.stage = Stage::Top;
+                    return Ok(None);
+                }
+                match self.body.open(alloc, schema, Group::Structure) {
+                    Ok(()) => {
+                        self.stage = Stage::Body;
+                        self.next_field(alloc, schema)
+                    }
+                    Err(refusal) => Err(refusal),
+                }
+            }
+        }
+    }
+
+    // The next field of the body that is no copy of a bound member.
+    fn next_field<'s>(
+        &mut self,
+        alloc: Global,
+        schema: SchemaRef<'s>,
+    ) -> Result<Option<SchemaRef<'s>>, SerdeError>
+        requires stage { self.old.stage ≡ stage.Body }
+        requires one { length (D.at_hand self.old.body.reader).opened ≡ 1 }
+        requires inside { IsIn group.Structure (D.at_hand self.old.body.reader) }
+        ensures { NextMember (schema_of schema.entry) (at_body self.old.transport (D.at_hand self.old.body.reader))
+            (composite_at_hand self.new.stage self.new.transport (D.at_hand self.new.body.reader)) result }
+    {
+        match self.body.next_unbound(alloc, schema) {
+            Ok(Some(member)) => Ok(Some(member)),
+            Ok(None) => {
+                self.stage = Stage::Top;
+                Ok(None)
+            }
+            Err(refusal) => Err(refusal),
+        }
+    }
+}

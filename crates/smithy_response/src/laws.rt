@@ -1,0 +1,8 @@
+// Laws of responses.
+ghost use Rattle.smithy_response.specs.TransportWins.{TransportWins};
+
+/// Where no member is a payload, a response hands out the same whatever its body's document says of members that the
+/// response has elsewhere (Smithy, HTTP protocol bindings).
+pub fn transport_wins()
+    ensures { TransportWins }
+{}

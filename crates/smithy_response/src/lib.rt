@@ -1,0 +1,23 @@
+// Responses: what their status, headers and body hand out.
+#![tactic(auto)]
+
+mod composite;
+mod counted;
+mod header_reads;
+pub mod laws;
+mod member_writes;
+mod opening;
+mod parts;
+mod prefixes;
+mod reading;
+mod refusals;
+mod response_reader;
+mod stage;
+mod taking;
+mod transport;
+mod whole_response;
+
+pub use composite::CompositeReader;
+pub use reading::read_response;
+pub use response_reader::{ResponseReader, http_error_deserializer, http_output_deserializer};
+pub use whole_response::{read_members, response_value};

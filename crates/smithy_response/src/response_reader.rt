@@ -1,0 +1,179 @@
+// The reader of a response, by what its schema binds.
+ghost use Rattle.std.specs.Prelude.{◌≡◌, [], true, false, not, IfOk};
+ghost use Rattle.std.specs.List.{list_any};
+ghost use Rattle.smithy_schema.specs.Nodes.{members_of, is_response_bound};
+ghost use Rattle.smithy_schema.specs.References.{schema_of};
+ghost use Rattle.smithy_response.specs.ResponseReaders.{is_body_only as is_body_only_told, IsReader};
+
+use crate::composite::CompositeReader;
+use crate::parts::BoundMember;
+use crate::transport::{Transport, has_unbound};
+use smithy_http::{NonUtf8HeaderHandling, Response};
+use smithy_schema::SchemaRef;
+use smithy_serde::{Group, ReadScalar, ScalarKind, SerdeError, ShapeDeserializer};
+use smithy_types::{Blob, OutOfMemory, Text};
+use std::alloc::Global;
+
+/// The reader of a response.
+#[derive(Drop)]
+pub enum ResponseReader<D: ShapeDeserializer> {
+    /// No member is bound: the reader of the body.
+    BodyOnly(D),
+    /// The reader of bound members and of the body.
+    Composite(CompositeReader<D>),
+}
+
+impl<D: ShapeDeserializer> ShapeDeserializer for ResponseReader<D> {
+    ghost use Rattle.smithy_response.specs.ResponseReaders.{reader_at_hand};
+
+    ghost at_hand = { reader_at_hand D.at_hand };
+
+    fn read(
+        &mut self,
+        alloc: Global,
+        schema: SchemaRef<'_>,
+        kind: ScalarKind,
+    ) -> Result<ReadScalar, SerdeError> {
+        match self {
+            ResponseReader::BodyOnly(reader) => reader.read(alloc, schema, kind),
+            ResponseReader::Composite(reader) => reader.read(alloc, schema, kind),
+        }
+    }
+
+    fn open(
+        &mut self,
+        alloc: Global,
+        schema: SchemaRef<'_>,
+        group: Group,
+    ) -> Result<(), SerdeError> {
+        match self {
+            ResponseReader::BodyOnly(reader) => reader.open(alloc, schema, group),
+            ResponseReader::Composite(reader) => reader.open(alloc, schema, group),
+        }
+    }
+
+    fn next_member<'s>(
+        &mut self,
+        alloc: Global,
+        schema: SchemaRef<'s>,
+    ) -> Result<Option<SchemaRef<'s>>, SerdeError> {
+        match self {
+            ResponseReader::BodyOnly(reader) => reader.next_member(alloc, schema),
+            ResponseReader::Composite(reader) => reader.next_member(alloc, schema),
+        }
+    }
+
+    fn next_element(&mut self, alloc: Global) -> Result<bool, SerdeError> {
+        match self {
+            ResponseReader::BodyOnly(reader) => reader.next_element(alloc),
+            ResponseReader::Composite(reader) => reader.next_element(alloc),
+        }
+    }
+
+    fn next_entry(&mut self, alloc: Global) -> Result<Option<Text>, SerdeError> {
+        match self {
+            ResponseReader::BodyOnly(reader) => reader.next_entry(alloc),
+            ResponseReader::Composite(reader) => reader.next_entry(alloc),
+        }
+    }
+
+    fn settle(&mut self, alloc: Global, refusal: SerdeError) -> Result<(), SerdeError> {
+        match self {
+            ResponseReader::BodyOnly(reader) => reader.settle(alloc, refusal),
+            ResponseReader::Composite(reader) => reader.settle(alloc, refusal),
+        }
+    }
+
+    fn is_null(&self) -> bool {
+        match self {
+            ResponseReader::BodyOnly(reader) => reader.is_null(),
+            ResponseReader::Composite(reader) => reader.is_null(),
+        }
+    }
+}
+
+/// The reader of an output: that of the body exactly where the schema has members and none is bound to another part of
+/// the response. Condition: nothing is open in the body's reader. It takes memory for copies of the headers and the body.
+pub fn http_output_deserializer<D: ShapeDeserializer + Drop>(
+    alloc: Global,
+    body: D,
+    response: &Response,
+    schema: SchemaRef<'_>,
+    policy: NonUtf8HeaderHandling,
+) -> Result<ResponseReader<D>, OutOfMemory>
+    requires { (D.at_hand body).opened ≡ [] }
+    ensures { IfOk result (IsReader D.at_hand response.now false policy (not (is_body_only_told (schema_of schema.entry))) body) }
+{
+    if is_body_only(schema) {
+        return Ok(ResponseReader::BodyOnly(body));
+    }
+    whole(alloc, body, response, false, policy)
+}
+
+/// The reader of a modelled error. Condition: nothing is open in the body's reader. It takes memory for copies of the
+/// headers and the body.
+pub fn http_error_deserializer<D: ShapeDeserializer + Drop>(
+    alloc: Global,
+    body: D,
+    response: &Response,
+    policy: NonUtf8HeaderHandling,
+) -> Result<ResponseReader<D>, OutOfMemory>
+    requires { (D.at_hand body).opened ≡ [] }
+    ensures { IfOk result (IsReader D.at_hand response.now true policy true body) }
+{
+    whole(alloc, body, response, true, policy)
+}
+
+// The reader of bound members and of the body.
+fn whole<D: ShapeDeserializer + Drop>(
+    alloc: Global,
+    body: D,
+    response: &Response,
+    is_error: bool,
+    policy: NonUtf8HeaderHandling,
+) -> Result<ResponseReader<D>, OutOfMemory>
+    requires { (D.at_hand body).opened ≡ [] }
+    ensures { IfOk result (IsReader D.at_hand response.now is_error policy true body) }
+{
+    let transport = Transport {
+        response: copied(alloc, response)?,
+        is_error,
+        policy,
+        place: 0,
+        member: BoundMember::Nothing,
+    };
+    Ok(ResponseReader::Composite(CompositeReader::new(body, transport)))
+}
+
+fn copied(alloc: Global, response: &Response) -> Result<Response, OutOfMemory>
+    ensures { IfOk result (λ r. r ≡ response.now) }
+{
+    let headers = response.headers().copy(alloc)?;
+    let body = match response.body() {
+        Some(bytes) => Some(Blob::new(alloc, bytes.as_slice())?),
+        None => None,
+    };
+    Ok(Response::new(response.status(), headers, body))
+}
+
+// Whether the schema has members, and none is bound to a part of the response.
+fn is_body_only(schema: SchemaRef<'_>) -> bool
+    ensures { result ≡ is_body_only_told (schema_of schema.entry) }
+{
+    has_unbound(schema) && !has_bound(schema)
+}
+
+fn has_bound(schema: SchemaRef<'_>) -> bool
+    ensures { result ≡ list_any is_response_bound (members_of (schema_of schema.entry)) }
+{
+    let mut position: usize = 0;
+    while position < schema.members().len() {
+        if let Some(member) = schema.member_schema_by_index(position) {
+            if member.has_http_response_binding() {
+                return true;
+            }
+        }
+        position += 1;
+    }
+    false
+}
