@@ -4,3 +4,4 @@ pub mod Kept
 pub mod Layers
 pub mod Shapes
 pub mod Reading
+pub mod Discriminators

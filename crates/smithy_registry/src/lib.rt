@@ -3,6 +3,7 @@
 
 mod builder;
 mod composed;
+mod document_reading;
 mod entry;
 mod error_code;
 mod error_reading;
