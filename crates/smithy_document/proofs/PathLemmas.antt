@@ -157,7 +157,7 @@ named_past p ps [] h = refl
 named_past p ps (name ∷ names) h =
     rw (apart p.0 name h.0) (ap (λ rest. option_map_or (λ d. (name, d) ∷ rest) (lookup (same_text name) ps) []) (named_past p ps names h.1))
 
-same_self : (text : List ℕ) → same_text text text ≡ true
+pub same_self : (text : List ℕ) → same_text text text ≡ true
 same_self [] = refl
 same_self (b ∷ text) = λ i. eq-eqb b b refl i && same_self text i
 
