@@ -86,7 +86,7 @@ key_told key x n fit p q =
     let three : Ok t.0 ≡ Ok n = ap key_text two ∙ q in
     ap text_of_key t.1 ∙ cc three
 
-pub name_told : (l : Label) (name : List ℕ) → field_name l ≡ Ok name → l.member_name ≡ Some name
+name_told : (l : Label) (name : List ℕ) → field_name l ≡ Ok name → l.member_name ≡ Some name
 name_told l name e = go l.member_name e
   where
     go : (o : Option (List ℕ)) → ok_or o (no_member_name l.full_name) ≡ Ok name → o ≡ Some name
@@ -156,5 +156,5 @@ fields_paired R T here each (write l v ws) ps have shaped e =
     let same : (h.x, g.x) ∷ j.x ≡ ps = cc r in
     let name = name_told l h.x h.first in
     let one = each h.x v g.x (subst (λ o. T (named_member here o) v) name have.0) (ap (λ o. is_some (named_member here o)) (sym name) ∙ s2.0) (ap (λ o. is_shaped (named_member here o) v) (sym name) ∙ s2.1) g.first in
-    subst (Aligned R (settled_fields here (write l v ws))) same
+    subst (Aligned R (settled_fields here (write l v ws))) {x = (h.x, g.x) ∷ j.x} same
     (ap (λ o. unwrap_or o []) name, subst (λ o. R (unwrap_or o []) (settled (named_member here o) v) g.x) (sym name) one, fields_paired R T here each ws j.x have.1 s.1 j.first)

@@ -1,12 +1,12 @@
 -- The document of a value that follows its node is canonical.
-use Rattle.std.proofs.Common.{◌≡◌, refl, sym, ap, subst, ◌∙◌, ℕ, Bool, true, ◌&&◌, List, [], ◌∷◌, Option, Some, None, option_and_then, is_some, Result, Ok, ℤ, pos, negsuc}
+use Rattle.std.proofs.Common.{◌≡◌, refl, sym, ap, subst, ◌∙◌, ℕ, true, ◌&&◌, List, [], ◌∷◌, Option, Some, option_and_then, is_some, Result, Ok, ℤ, pos, negsuc}
 use Rattle.std.specs.Ordering.{nat_cmp, match_ordering}
 use Rattle.std.specs.declared.cmp.Ordering.{Ordering}
 use Rattle.std.specs.declared.cmp.Ordering.TheVariants.{Less, Equal, Greater}
 use Rattle.std.specs.Cmp.Lexicographic.{slice_cmp}
 use Rattle.std.proofs.lemmas.Bool.{and_parts, and_from}
 use Rattle.smithy_types.specs.Texts.{are_distinct}
-use Rattle.smithy_types.specs.Results.{then_try, then_give}
+use Rattle.smithy_types.specs.Results.{then_give}
 use Rattle.smithy_types.specs.Documents as doc
 use Rattle.smithy_types.specs.Documents.{Document, Members, items_of, put, put_all, members_of, number_of}
 use Rattle.smithy_ids.specs.declared.shape_type.ShapeType.TheVariants as kind

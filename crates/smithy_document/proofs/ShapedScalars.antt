@@ -60,11 +60,11 @@ kind_back kind.Structure = refl
 kind_back kind.Union = refl
 kind_back kind.Member = refl
 
-pub one_kind : (a b : ShapeType) → same_kind a b ≡ true → a ≡ b
+one_kind : (a b : ShapeType) → same_kind a b ≡ true → a ≡ b
 one_kind a b e = sym (kind_back a) ∙ ap kind_at (eqb-true (tag_of the_type a) (tag_of the_type b) e) ∙ kind_back b
 
 -- what no structure is is taken by its own kind alone
-pub takes_own : (k w : ShapeType) → same_kind w kind.Structure ≡ false → kind_takes k w ≡ true → k ≡ w
+takes_own : (k w : ShapeType) → same_kind w kind.Structure ≡ false → kind_takes k w ≡ true → k ≡ w
 takes_own kind.Union w other e = absurd (cc (other, e))
 takes_own k w other e = one_kind k w e
 
