@@ -5,7 +5,6 @@ ghost use Rattle.smithy_schema.specs.References.{index_of};
 ghost use Rattle.smithy_serde.specs.Lawful.{is_canonical as lawful};
 
 use crate::*;
-use smithy_document::DocumentShapeDeserializer;
 use smithy_document::laws::canonical_documents_are_told;
 use smithy_http::Headers;
 use smithy_ids::{ShapeId, ShapeType};
@@ -151,35 +150,6 @@ fn composed_entries_stand_in_order(rt: HostRuntime) {
     assert!(rt; entries.next().is_none());
     assert!(rt; !whole.is_empty());
     assert!(rt; TypeRegistry::<ValueReader<'_>>::new(alloc).is_empty());
-}
-
-#[test]
-fn errors_are_read_by_their_codes(rt: HostRuntime) -> Result<(), Fail> {
-    let alloc = rt.alloc();
-    let table = table_of(&rt, alloc, &["b#FooError", "a#FooError", "c#Bar"]);
-    let first = one_error(&rt, alloc, &table, 0, 2);
-    let mut builder = TypeRegistry::builder(alloc);
-    put(&rt, &mut builder, &table, 2);
-    let second = builder
-        .build()
-        .compose(one_error(&rt, alloc, &table, 1, 2))?;
-    let object = Document::Object(Members::new(alloc));
-    for (registry, code, document, wanted) in [
-        (first.or(&second), "FooError", &object, Some("b#FooError")),
-        (second.or(&first), "FooError", &object, Some("a#FooError")),
-        // Nothing reads it as an error.
-        (first.or(&second), "Bar", &object, None),
-        (first.or(&second), "Baz", &object, None),
-        // What reads it refuses.
-        (first.or(&second), "FooError", &Document::Null, None),
-    ] {
-        assert!(rt; is_canonical(document));
-        let mut reader = DocumentShapeDeserializer::new(document);
-        let error = reify_error(alloc, registry, code, &mut reader)?;
-        let name = error.as_ref().map(|e| e.schema().shape_id().as_str());
-        assert_eq!(rt; name, wanted, "{code}");
-    }
-    Ok(())
 }
 
 #[test]
