@@ -120,6 +120,3 @@ pub(crate) fn big_decimal(alloc: Global, document: &Document) -> Result<BigDecim
         None => decimal_of_other(alloc, document),
     }
 }
-
-#[cfg(test)]
-mod tests;

@@ -1,19 +1,13 @@
 // Look-ups in registries of the structures of one table.
 ghost use Rattle.std.specs.Prelude.{◌≡◌, true, is_some};
-ghost use Rattle.smithy_types.specs.DocumentView.{view};
 ghost use Rattle.smithy_schema.specs.References.{index_of};
-ghost use Rattle.smithy_serde.specs.Lawful.{is_canonical as lawful};
 
 use crate::*;
-use smithy_document::laws::canonical_documents_are_told;
 use smithy_http::Headers;
 use smithy_ids::{ShapeId, ShapeType};
 use smithy_schema::{Schema, SchemaIndex, SchemaRef, Schemas};
-use smithy_serde::{SerializableStruct, ValueReader};
-use smithy_types::{DiscriminatedDocument, Document, Members, NoSettings, Text};
-use std::alloc::Global;
+use smithy_serde::ValueReader;
 use std::process::Abort;
-use std::test::Fail;
 
 // The place of the entry that was found, 9 for none.
 fn place(found: Option<&RegistryEntry<ValueReader<'_>>>) -> usize {
@@ -21,14 +15,6 @@ fn place(found: Option<&RegistryEntry<ValueReader<'_>>>) -> usize {
         Some(entry) => entry.schema().0,
         None => 9,
     }
-}
-
-// Whether a reader of documents takes it.
-fn is_canonical(document: &Document) -> bool
-    ensures { result ≡ lawful (view document.now) }
-{
-    canonical_documents_are_told();
-    document.is_canonical()
 }
 
 fn node<'t>(rt: &impl Abort, table: &'t Schemas, place: usize) -> SchemaRef<'t>
@@ -60,81 +46,62 @@ fn put<'t>(
     builder.insert(id, entry).expect(rt, "no memory");
 }
 
-fn table_of(rt: &impl Abort, alloc: Global, names: &[&str]) -> Schemas {
-    let mut table = Schemas::new(alloc);
-    for name in names {
-        let id = ShapeId::parse(name).expect(rt, "no name");
-        let schema = Schema::new_struct(id, ShapeType::Structure, &[]);
-        table.insert(schema).expect(rt, "no place");
-    }
-    table
-}
-
-// A registry of one error, with what reads it otherwise and what reads it as that.
-fn one_error<'t>(
-    rt: &impl Abort,
-    alloc: Global,
-    table: &'t Schemas,
-    place: usize,
-    plain: usize,
-) -> TypeRegistry<ValueReader<'t>> {
-    let mut builder = TypeRegistry::builder(alloc);
-    let node = node(rt, table, place);
-    builder
-        .insert_error_shape(node, reader(rt, table, plain), reader(rt, table, place))
-        .expect(rt, "no memory");
-    builder.build()
-}
-
 #[test]
 fn entries_are_found_by_name_and_by_code(rt: HostRuntime) {
     let alloc = rt.alloc();
-    let table = table_of(&rt, alloc, &["b#FooError", "a#FooError"]);
+    let mut table = Schemas::new(alloc);
+    for name in ["b#FooError", "a#FooError", "c#Bar$foo", "a#FooError"] {
+        let id = ShapeId::parse(name).expect(&rt, "no name");
+        let schema = Schema::new_struct(id, ShapeType::Structure, &[]);
+        table.insert(schema).expect(&rt, "no place");
+    }
     let mut builder = TypeRegistry::builder(alloc);
     put(&rt, &mut builder, &table, 0);
     put(&rt, &mut builder, &table, 1);
     let both = builder.build();
-    let one = one_error(&rt, alloc, &table, 0, 0);
-    let id = node(&rt, &table, 1).shape_id();
     assert_eq!(rt; both.len(), 2);
-    for (found, wanted) in [
-        (both.entry_for_error_code("FooError"), 1),
-        (
-            both.entry_for_error_code("z#FooError:http://internal/x#y"),
-            1,
-        ),
-        (both.entry_for_error_code("Bar"), 9),
-        (both.entry_for_fqn("b#FooError"), 0),
-        (one.or(&both).entry_for_error_code("FooError"), 0),
-        (both.or(&one).entry_for_error_code("FooError"), 1),
-        (one.or(&both).entry_for(id), 1),
-        (one.or(&both).entry_for_fqn("c#Bar"), 9),
-    ] {
-        assert_eq!(rt; place(found), wanted);
-    }
-    assert!(rt; both.schema_for(id) == Some(SchemaIndex(1)));
-    assert!(rt; both.schema_for_fqn("c#FooError").is_none());
-}
-
-#[test]
-fn composed_entries_stand_in_order(rt: HostRuntime) {
-    let alloc = rt.alloc();
-    let table = table_of(
-        &rt,
-        alloc,
-        &["b#FooError", "a#FooError", "c#Bar$foo", "a#FooError"],
+    assert_eq!(rt; place(both.entry_for_error_code("FooError")), 1);
+    assert_eq!(rt;
+        place(both.entry_for_error_code("z#FooError:http://internal/x#y")),
+        1
     );
+    assert_eq!(rt; place(both.entry_for_error_code("Bar")), 9);
+    assert_eq!(rt; place(both.entry_for_fqn("b#FooError")), 0);
+    assert!(rt; both.schema_for(node(&rt, &table, 1).shape_id()) == Some(SchemaIndex(1)));
+    assert!(rt; both.schema_for_fqn("c#FooError").is_none());
+
     let mut builder = TypeRegistry::builder(alloc);
-    put(&rt, &mut builder, &table, 0);
-    put(&rt, &mut builder, &table, 1);
-    let both = builder.build();
+    let read = reader(&rt, &table, 0);
+    builder
+        .insert_error_shape(node(&rt, &table, 0), read, read)
+        .expect(&rt, "no memory");
+    let one = builder.build();
+    assert!(rt;
+        one.entry_for_fqn("b#FooError")
+            .expect(&rt, "no entry")
+            .error_deserialize_fn()
+            .is_some()
+    );
+    assert_eq!(rt; place(one.or(&both).entry_for_error_code("FooError")), 0);
+    assert_eq!(rt; place(both.or(&one).entry_for_error_code("FooError")), 1);
+    assert_eq!(rt;
+        place(one.or(&both).entry_for(node(&rt, &table, 1).shape_id())),
+        1
+    );
+    assert_eq!(rt; place(one.or(&both).entry_for_fqn("c#Bar")), 9);
+
     let mut builder = TypeRegistry::builder(alloc);
-    for place in [2, 1, 3] {
-        let read = reader(&rt, &table, place);
-        builder
-            .insert_shape(node(&rt, &table, place), read)
-            .expect(&rt, "no memory");
-    }
+    let read = reader(&rt, &table, 2);
+    builder
+        .insert_shape(node(&rt, &table, 2), read)
+        .expect(&rt, "no memory");
+    let third = reader(&rt, &table, 3);
+    builder
+        .insert_shape(node(&rt, &table, 1), read)
+        .expect(&rt, "no memory");
+    builder
+        .insert_shape(node(&rt, &table, 3), third)
+        .expect(&rt, "no memory");
     let whole = both.compose(builder.build()).expect(&rt, "no memory");
     let mut entries = whole.iter();
     for (left, name, node) in [
@@ -150,30 +117,6 @@ fn composed_entries_stand_in_order(rt: HostRuntime) {
     assert!(rt; entries.next().is_none());
     assert!(rt; !whole.is_empty());
     assert!(rt; TypeRegistry::<ValueReader<'_>>::new(alloc).is_empty());
-}
-
-#[test]
-fn documents_are_read_by_their_discriminators(rt: HostRuntime) -> Result<(), Fail> {
-    let alloc = rt.alloc();
-    let table = table_of(&rt, alloc, &["b#FooError", "a#FooError"]);
-    let registry = one_error(&rt, alloc, &table, 0, 1);
-    for (name, wanted) in [
-        (None, "InvalidInput"),
-        (Some("FooError"), "UnknownMember"),
-        (Some("b#FooError"), "a#FooError"),
-    ] {
-        let object = Document::Object(Members::new(alloc));
-        let mut document = DiscriminatedDocument::new(object, NoSettings);
-        if let Some(name) = name {
-            document = document.with_discriminator(Text::from_str(alloc, name)?);
-        }
-        assert!(rt; is_canonical(document.document()));
-        match registry.deserialize_document(alloc, &document) {
-            Ok(shape) => assert_eq!(rt; shape.schema().shape_id().as_str(), wanted),
-            Err(refusal) => assert_eq!(rt; refusal.variant_name(), wanted),
-        }
-    }
-    Ok(())
 }
 
 #[test]
