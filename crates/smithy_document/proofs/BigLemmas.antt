@@ -25,7 +25,7 @@ pub none_passes : (b : Bool) (text : List ℕ) → None ≡ only_if b text → b
 none_passes true text h = absurd (cc h)
 none_passes false text h = refl
 
-passed : (b : Bool) (text n : List ℕ) → Some n ≡ only_if b text → (b ≡ true) × (n ≡ text)
+pub passed : (b : Bool) (text n : List ℕ) → Some n ≡ only_if b text → (b ≡ true) × (n ≡ text)
 passed true text n h = (refl, cc h)
 passed false text n h = absurd (cc h)
 
