@@ -1,10 +1,12 @@
 -- Texts read as big numbers.
-use Rattle.std.proofs.Common.{◌≡◌, ℕ, List, Bool, true, false, Some, None, Result, Ok, Err, inr, refl, ap, subst, codes}
+use Rattle.std.proofs.Common.{◌≡◌, ℕ, List, Bool, true, false, Some, None, Result, Ok, Err, inr, refl, sym, ◌∙◌, ap, subst, codes, IsTrue}
 use Rattle.smithy_types.specs.BigNumbers.{is_big_integer_in_range, is_big_decimal_in_range}
 use Rattle.smithy_ids.specs.declared.shape_type.ShapeType.TheVariants as kind
+use Rattle.std.specs.Option.{ok_or}
+use Rattle.smithy_types.specs.Results.{then_give}
 use Rattle.smithy_types.specs.Documents as doc
 use Rattle.smithy_types.specs.Documents.{Document, Number, string_in, number_in}
-use Rattle.smithy_serde.specs.DocumentReads.{big_integer_of_text, big_decimal_of_text, truncated, scalar_of_document, number_text, mismatch}
+use Rattle.smithy_serde.specs.DocumentReads.{whole_text, is_negative, big_integer_of_text, big_decimal_of_text, truncated, scalar_of_document, number_text, mismatch}
 use Rattle.smithy_serde.specs.declared.error.SerdeError.{SerdeError}
 use Rattle.smithy_serde.specs.declared.error.SerdeError.TheVariants.{OutOfMemory}
 use Rattle.smithy_serde.specs.ReadCalls.{Gives}
@@ -12,6 +14,8 @@ use Rattle.smithy_serde.specs.Refusals.{IsRefusal}
 use Rattle.smithy_serde.specs.Values.{Scalar, big_integer, big_decimal}
 use Rattle.smithy_serde.specs.Writes.{only_if}
 use Rattle.smithy_document.specs.BigReads.{not_parsed}
+use Rattle.smithy_document.specs.Scaling.{whole_part, too_large}
+use Rattle.smithy_document.proofs.Truncations.{has_parts, truncated_from}
 
 pub gives_memory : {A : Type 0} (see : A → Scalar) (r : Result Scalar SerdeError) (e : SerdeError) → e ≡ OutOfMemory → Gives see (Some r) (Err e)
 gives_memory see (Ok v) e h = h
@@ -21,7 +25,7 @@ pub none_passes : (b : Bool) (text : List ℕ) → None ≡ only_if b text → b
 none_passes true text h = absurd (cc h)
 none_passes false text h = refl
 
-passed : (b : Bool) (text n : List ℕ) → Some n ≡ only_if b text → (b ≡ true) × (n ≡ text)
+pub passed : (b : Bool) (text n : List ℕ) → Some n ≡ only_if b text → (b ≡ true) × (n ≡ text)
 passed true text n h = (refl, cc h)
 passed false text n h = absurd (cc h)
 
@@ -41,6 +45,18 @@ part_none text e wide h refusal = rw (wide, none_passes (is_big_decimal_in_range
 pub part_given : (text n : List ℕ) (r : Result (List ℕ) SerdeError) → is_big_integer_in_range text ≡ false → Some n ≡ only_if (is_big_decimal_in_range text) text → Gives {A = List ℕ} big_integer (Some (truncated n)) r
     → Gives {A = List ℕ} big_integer (Some (big_integer_of_text text)) r
 part_given text n r wide h gives = let p = passed (is_big_decimal_in_range text) text n h in rw (wide, p.0, ← p.1) gives
+
+-- ---- the integer part of a decimal
+
+pub part_of : (text v : List ℕ) (r : Result (List ℕ) SerdeError) → IsTrue (is_big_decimal_in_range text) → Some v ≡ whole_text (is_negative text) (whole_part text) → Gives {A = List ℕ} big_integer (Some (Ok (big_integer v))) r → Gives {A = List ℕ} big_integer (Some (truncated text)) r
+part_of text v r range is given =
+    let e : truncated text ≡ Ok (big_integer v) = truncated_from text (has_parts text range) ∙ ap (λ o. then_give (ok_or o (too_large text)) (λ t. big_integer t)) (sym is) in
+    subst (λ x. Gives {A = List ℕ} big_integer (Some x) r) (sym e) given
+
+pub part_too_large : (text : List ℕ) (e : SerdeError) → IsTrue (is_big_decimal_in_range text) → None ≡ whole_text (is_negative text) (whole_part text) → IsRefusal (too_large text) e → Gives {A = List ℕ} big_integer (Some (truncated text)) (Err e)
+part_too_large text e range is refusal =
+    let same : truncated text ≡ Err (too_large text) = truncated_from text (has_parts text range) ∙ ap (λ o. then_give (ok_or o (too_large text)) (λ t. big_integer t)) (sym is) in
+    subst (λ x. Gives {A = List ℕ} big_integer (Some x) (Err e)) (sym same) refusal
 
 -- ---- a document, as what it is
 

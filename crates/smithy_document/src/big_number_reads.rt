@@ -1,50 +1,22 @@
 // Documents read as big numbers.
-ghost use Rattle.std.specs.Prelude.{◌≡◌, Some, None, Ok, false, IfOk, IfErr};
-ghost use Rattle.smithy_types.specs.BigNumbers.{is_big_integer_in_range, is_big_decimal_in_range};
+ghost use Rattle.std.specs.Prelude.{◌≡◌, Some, None, Ok, false};
+ghost use Rattle.smithy_types.specs.BigNumbers.{is_big_integer_in_range};
 ghost use Rattle.smithy_types.specs.Documents.{string_in};
 ghost use Rattle.smithy_types.specs.DocumentView.{view, number_view};
 ghost use Rattle.smithy_serde.specs.DocumentReads.{scalar_of_document, number_text as number_text_lem, big_decimal_of_text as big_decimal_lem, big_integer_of_text as big_integer_lem};
 ghost use Rattle.smithy_serde.specs.ReadCalls.{Gives};
 ghost use Rattle.smithy_serde.specs.Refusals.{IsRefusal};
 ghost use Rattle.smithy_serde.specs.Values as value;
-ghost use Rattle.smithy_serde.specs.Writes.{only_if};
 ghost use Rattle.smithy_document.specs.BigReads.{not_parsed as not_parsed_lem};
 
 use crate::mismatch::mismatch;
-use crate::number_reads::number_text;
+use crate::number_reads::integer_of;
 use crate::truncation::truncated;
+use crate::whole_numbers::{decimal_of_whole, integer_of_whole, parsed_decimal, parsed_integer};
 use smithy_ids::ShapeType;
 use smithy_serde::SerdeError;
-use smithy_types::{BigDecimal, BigInteger, Document, Number, Text, TypesError};
+use smithy_types::{BigDecimal, BigInteger, Document, Number, Text};
 use std::alloc::Global;
-
-// The big integer of a text, none where it is not one within 128 bits.
-fn parsed_integer(alloc: Global, text: &str) -> Result<Option<BigInteger>, SerdeError>
-    ensures parsed { IfOk result (λ o. o ≡ only_if (is_big_integer_in_range text.now) text.now) }
-    ensures memory { IfErr result (λ e. e ≡ SerdeError.OutOfMemory) }
-{
-    match BigInteger::parse(alloc, text) {
-        Ok(number) => Ok(Some(number)),
-        Err(TypesError::Malformed) => Ok(None),
-        Err(TypesError::TooWide) => Ok(None),
-        Err(TypesError::DateRange) => unreachable!(),
-        Err(TypesError::OutOfMemory) => Err(SerdeError::OutOfMemory),
-    }
-}
-
-// The big decimal of a text, likewise.
-fn parsed_decimal(alloc: Global, text: &str) -> Result<Option<BigDecimal>, SerdeError>
-    ensures parsed { IfOk result (λ o. o ≡ only_if (is_big_decimal_in_range text.now) text.now) }
-    ensures memory { IfErr result (λ e. e ≡ SerdeError.OutOfMemory) }
-{
-    match BigDecimal::parse(alloc, text) {
-        Ok(number) => Ok(Some(number)),
-        Err(TypesError::Malformed) => Ok(None),
-        Err(TypesError::TooWide) => Ok(None),
-        Err(TypesError::DateRange) => unreachable!(),
-        Err(TypesError::OutOfMemory) => Err(SerdeError::OutOfMemory),
-    }
-}
 
 fn not_parsed(alloc: Global, text: &str, ending: &str) -> SerdeError
     ensures { IsRefusal (not_parsed_lem text.now ending.now) result }
@@ -95,31 +67,16 @@ fn decimal_of_text(alloc: Global, text: &str) -> Result<BigDecimal, SerdeError>
     }
 }
 
-// The text of a number of 64 bits is a big number's, so only memory can be wanted for it.
 fn integer_of_number(alloc: Global, number: Number) -> Result<BigInteger, SerdeError>
     ensures { Gives value.big_integer (Some (Ok (value.big_integer (number_text_lem (number_view number))))) result }
 {
-    let text = number_text(alloc, number)?;
-    match parsed_integer(alloc, text.as_str()) {
-        Err(error) => Err(error),
-        Ok(parsed) => match parsed {
-            Some(number) => Ok(number),
-            None => Err(SerdeError::OutOfMemory),
-        },
-    }
+    integer_of_whole(alloc, integer_of(number))
 }
 
 fn decimal_of_number(alloc: Global, number: Number) -> Result<BigDecimal, SerdeError>
     ensures { Gives value.big_decimal (Some (Ok (value.big_decimal (number_text_lem (number_view number))))) result }
 {
-    let text = number_text(alloc, number)?;
-    match parsed_decimal(alloc, text.as_str()) {
-        Err(error) => Err(error),
-        Ok(parsed) => match parsed {
-            Some(number) => Ok(number),
-            None => Err(SerdeError::OutOfMemory),
-        },
-    }
+    decimal_of_whole(alloc, integer_of(number))
 }
 
 // A document that is no text.
@@ -163,3 +120,6 @@ pub(crate) fn big_decimal(alloc: Global, document: &Document) -> Result<BigDecim
         None => decimal_of_other(alloc, document),
     }
 }
+
+#[cfg(test)]
+mod tests;

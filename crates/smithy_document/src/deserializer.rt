@@ -61,7 +61,9 @@ impl<'a, S: DocumentSettings> DocumentShapeDeserializer<'a, S> {
 }
 
 impl<S: DocumentSettings> ShapeDeserializer for DocumentShapeDeserializer<'_, S> {
+    ghost use Rattle.std.specs.Prelude.{◌≡◌};
     ghost use Rattle.smithy_document.specs.DocumentHand.{document_hand};
+    ghost use Rattle.smithy_document.specs.Sizes.{container_size as container_size_lem, document_at_hand};
 
     ghost at_hand = { document_hand };
 
@@ -107,7 +109,10 @@ impl<S: DocumentSettings> ShapeDeserializer for DocumentShapeDeserializer<'_, S>
         is_null(self.cursor.document(self.root))
     }
 
-    fn container_size(&self) -> Option<usize> {
+    /// How many items an array or an object at hand has, and 10,000 where it has more; none of any other document.
+    fn container_size(&self) -> Option<usize>
+        ensures { result ≡ container_size_lem (document_at_hand self.now) }
+    {
         size_of(self.cursor.document(self.root))
     }
 }

@@ -14,8 +14,8 @@ use smithy_serde::SerdeError;
 use smithy_types::{Document, Number, OutOfMemory};
 use std::alloc::Global;
 
-// The number as it is.
-fn integer_of(number: Number) -> i128
+/// The number as it is.
+pub(crate) fn integer_of(number: Number) -> i128
     ensures { result ≡ integer_of_number (number_view number) }
 {
     match number {
@@ -24,8 +24,8 @@ fn integer_of(number: Number) -> i128
     }
 }
 
-/// The decimal text of a number. Takes memory.
-pub(crate) fn number_text(alloc: Global, number: Number) -> Result<String, OutOfMemory>
+// The decimal text of a number. Takes memory.
+fn number_text(alloc: Global, number: Number) -> Result<String, OutOfMemory>
     ensures { IfOk result (λ t. string_bytes t ≡ number_text_lem (number_view number)) }
 {
     match number {

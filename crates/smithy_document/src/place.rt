@@ -6,6 +6,7 @@ ghost use Rattle.smithy_types.specs.DocumentView.{view, items_view, members_view
 ghost use Rattle.smithy_types.specs.Maps.{IsOrdered};
 ghost use Rattle.smithy_serde.specs.Held.{is_null_document};
 ghost use Rattle.smithy_document.specs.OpenDocuments.{nameless, parts_of, opens_as as opens_as_lem, kind_of_group};
+ghost use Rattle.smithy_document.specs.Sizes.{container_size};
 ghost use Rattle.smithy_document.specs.Paths.{name_at, part_in, rest_in, step_in, at_path, last_name};
 
 use smithy_ids::ShapeType;
@@ -164,13 +165,17 @@ pub(crate) fn document_at<'d>(root: &'d Document, path: &[Place]) -> &'d Documen
     document
 }
 
-/// How many parts an array or an object has, and 10,000 where it has more.
-pub(crate) fn size_of(document: &Document) -> Option<usize> {
+/// How many parts an array or an object has, and 10,000 where it has more; none of any other document.
+pub(crate) fn size_of(document: &Document) -> Option<usize>
+    ensures { result ≡ container_size (view document.now) }
+{
     match document {
-        Document::Array(_) | Document::Object(_) => {
-            Some(capped_container_size(part_count(document)))
-        }
-        _ => None,
+        Document::Array(_) => Some(capped_container_size(part_count(document))),
+        Document::Object(_) => Some(capped_container_size(part_count(document))),
+        Document::Null => None,
+        Document::Bool(_) => None,
+        Document::Number(_) => None,
+        Document::String(_) => None,
     }
 }
 
