@@ -172,6 +172,24 @@ impl<D: ShapeDeserializer> ShapeDeserializer for CompositeReader<D> {
             _ => self.body.container_size(),
         }
     }
+
+    fn read_null(&mut self) -> Result<(), SerdeError> {
+        match self.stage {
+            Stage::Bound { .. } => Ok(()),
+            Stage::Top => self.body.read_null(),
+            Stage::Payload => self.body.read_null(),
+            Stage::Body => self.body.read_null(),
+        }
+    }
+
+    fn skip_value(&mut self, alloc: Global) -> Result<(), SerdeError> {
+        match self.stage {
+            Stage::Bound { .. } => Ok(()),
+            Stage::Top => self.body.skip_value(alloc),
+            Stage::Payload => self.body.skip_value(alloc),
+            Stage::Body => self.body.skip_value(alloc),
+        }
+    }
 }
 
 impl<D: ShapeDeserializer> CompositeReader<D> {

@@ -90,6 +90,27 @@ impl<D: ShapeDeserializer> ShapeDeserializer for ResponseReader<D> {
             ResponseReader::Composite(reader) => reader.is_null(),
         }
     }
+
+    fn container_size(&self) -> Option<usize> {
+        match self {
+            ResponseReader::BodyOnly(reader) => reader.container_size(),
+            ResponseReader::Composite(reader) => reader.container_size(),
+        }
+    }
+
+    fn read_null(&mut self) -> Result<(), SerdeError> {
+        match self {
+            ResponseReader::BodyOnly(reader) => reader.read_null(),
+            ResponseReader::Composite(reader) => reader.read_null(),
+        }
+    }
+
+    fn skip_value(&mut self, alloc: Global) -> Result<(), SerdeError> {
+        match self {
+            ResponseReader::BodyOnly(reader) => reader.skip_value(alloc),
+            ResponseReader::Composite(reader) => reader.skip_value(alloc),
+        }
+    }
 }
 
 /// The reader of an output: that of the body exactly where the schema has members and none is bound to another part of
