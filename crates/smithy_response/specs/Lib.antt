@@ -1,3 +1,4 @@
+pub mod CountedCalls
 pub mod Frames
 pub mod GivenScalars
 pub mod Handed

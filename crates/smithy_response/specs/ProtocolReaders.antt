@@ -8,6 +8,8 @@ use Rattle.smithy_schema.specs.PreludeNodes.{prelude_node}
 use Rattle.smithy_serde.specs.Held.{Held}
 use Rattle.smithy_serde.specs.ReadCalls.{AtHand, Begins}
 use Rattle.smithy_serde.specs.declared.deserializer.ShapeDeserializer.{Ghosts}
+use Rattle.smithy_binding.specs.declared.http_binding_protocol.HttpBindingProtocol.{HttpBindingProtocol}
+use Rattle.smithy_binding.specs.Protocols.{codec_of}
 use Rattle.smithy_response.specs.declared.response_reader.ResponseReader.{ResponseReader}
 use Rattle.smithy_response.specs.ResponseReaders.{is_body_only, IsReader}
 
@@ -19,19 +21,24 @@ bytes_of response = unwrap_or response.body []
 abbrev pub any_shape : Schema
 any_shape = record { table = []; node = prelude_node kind.Document }
 
--- a reader of a response over one of its body's bytes, for which a codec tells what is at hand
+-- a reader that begins over the body's bytes, of which a codec tells what is at hand
+abbrev pub BeginsOver : {D : Type 0} → (D → AtHand) → (List ℕ → Option Held) → Response → D → Type 0
+BeginsOver at holds response reader = Begins (holds (bytes_of response)) (at reader)
+
+-- a reader of a response over such a one
 pub record IsReaderOver {D : Type 0} {is_read : Ghosts D} (at : D → AtHand) (holds : List ℕ → Option Held) (response : Response) (is_error : Bool) (policy : NonUtf8HeaderHandling) (is_whole : Bool) (reader : ResponseReader D is_read) : Type 0 where
   pub body : D
-  pub begins : Begins (holds (bytes_of response)) (at body)
+  pub begins : BeginsOver at holds response body
   pub reads : IsReader at response is_error policy is_whole body reader
 
--- that of an output
-abbrev pub IsOutputReader : {D : Type 0} {is_read : Ghosts D} → (D → AtHand) → (List ℕ → Option Held) → Response → Schema → NonUtf8HeaderHandling → ResponseReader D is_read → Type 0
-IsOutputReader at holds response schema policy reader = IsReaderOver at holds response false policy (not (is_body_only schema)) reader
+-- that of an output, by the codec of a protocol
+abbrev pub IsOfOutput : {C D : Type 0} {is_read : Ghosts D} → (D → AtHand) → (C → List ℕ → Option Held) → HttpBindingProtocol C → Response → Schema → NonUtf8HeaderHandling → ResponseReader D is_read → Type 0
+IsOfOutput at holds p response schema policy reader =
+    IsReaderOver at (holds (codec_of p)) response false policy (not (is_body_only schema)) reader
 
 -- that of a modelled error
-abbrev pub IsErrorReader : {D : Type 0} {is_read : Ghosts D} → (D → AtHand) → (List ℕ → Option Held) → Response → NonUtf8HeaderHandling → ResponseReader D is_read → Type 0
-IsErrorReader at holds response policy reader = IsReaderOver at holds response true policy true reader
+abbrev pub IsOfError : {C D : Type 0} {is_read : Ghosts D} → (D → AtHand) → (C → List ℕ → Option Held) → HttpBindingProtocol C → Response → NonUtf8HeaderHandling → ResponseReader D is_read → Type 0
+IsOfError at holds p response policy reader = IsReaderOver at (holds (codec_of p)) response true policy true reader
 
 -- a reader by the prelude's document node is one of a modelled error
 abbrev pub ReadsByDefault : {P R : Type 0} → (P → Response → Schema → NonUtf8HeaderHandling → R → Type 0) → (P → Response → NonUtf8HeaderHandling → R → Type 0) → Type 0
@@ -39,5 +46,6 @@ ReadsByDefault {P} {R} reads reads_error =
     (p : P) (response : Response) (policy : NonUtf8HeaderHandling) (r : R) → reads p response any_shape policy r → reads_error p response policy r
 
 -- that of a modelled error, or of an output by the prelude's document node
-abbrev pub IsErrorReaderOrDefault : {D : Type 0} {is_read : Ghosts D} → (D → AtHand) → (List ℕ → Option Held) → Response → NonUtf8HeaderHandling → ResponseReader D is_read → Type 0
-IsErrorReaderOrDefault at holds response policy reader = IsErrorReader at holds response policy reader ⊎ IsOutputReader at holds response any_shape policy reader
+abbrev pub IsOfErrorOrDefault : {C D : Type 0} {is_read : Ghosts D} → (D → AtHand) → (C → List ℕ → Option Held) → HttpBindingProtocol C → Response → NonUtf8HeaderHandling → ResponseReader D is_read → Type 0
+IsOfErrorOrDefault at holds p response policy reader =
+    IsOfError at holds p response policy reader ⊎ IsOfOutput at holds p response any_shape policy reader

@@ -1,11 +1,8 @@
 // The protocols, as what gives readers of responses.
 ghost use Rattle.std.specs.Prelude.{◌≡◌, IfOk, IfErr};
 ghost use Rattle.std.proofs.Common.{inr};
-ghost use Rattle.smithy_schema.specs.References.{schema_of};
-ghost use Rattle.smithy_serde.specs.ReadCalls.{Begins};
 ghost use Rattle.smithy_serde.specs.declared.error.SerdeError.TheVariants.{OutOfMemory};
-ghost use Rattle.smithy_binding.specs.Protocols.{codec_of};
-ghost use Rattle.smithy_response.specs.ProtocolReaders.{bytes_of, IsOutputReader, IsErrorReader, IsErrorReaderOrDefault};
+ghost use Rattle.smithy_response.specs.ProtocolReaders.{bytes_of, BeginsOver, IsOfOutput, IsOfError, IsOfErrorOrDefault};
 
 use crate::response_protocol::ResponseProtocol;
 use crate::response_reader::{ResponseReader, http_error_deserializer, http_output_deserializer};
@@ -31,7 +28,7 @@ fn body_reader<C: Codec>(
     codec: &C,
     response: &Response,
 ) -> Result<C::Deserializer, SerdeError>
-    ensures begins { IfOk result (λ d. Begins (C.holds codec.now (bytes_of response.now)) (C.Deserializer.at_hand d)) }
+    ensures begins { IfOk result (BeginsOver C.Deserializer.at_hand (C.holds codec.now) response.now) }
     ensures memory { IfErr result (λ e. e ≡ OutOfMemory) }
 {
     codec.create_deserializer(alloc, body_bytes(response))
@@ -41,9 +38,9 @@ fn body_reader<C: Codec>(
 impl<C: Codec> ResponseProtocol for HttpBindingProtocol<C> {
     type Reader = ResponseReader<C::Deserializer>;
 
-    ghost reads = { λ p. IsOutputReader C.Deserializer.at_hand (C.holds (codec_of p)) };
+    ghost reads = { IsOfOutput C.Deserializer.at_hand C.holds };
 
-    ghost reads_error = { λ p. IsErrorReaderOrDefault C.Deserializer.at_hand (C.holds (codec_of p)) };
+    ghost reads_error = { IsOfErrorOrDefault C.Deserializer.at_hand C.holds };
 
     ghost by_default = { λ p response policy r h. inr h };
 
@@ -64,7 +61,7 @@ impl<C: Codec> ResponseProtocol for HttpBindingProtocol<C> {
         response: &Response,
         policy: NonUtf8HeaderHandling,
     ) -> Result<ResponseReader<C::Deserializer>, SerdeError>
-        ensures reader { IfOk result (IsErrorReader C.Deserializer.at_hand (C.holds (codec_of self.now)) response.now policy) }
+        ensures reader { IfOk result (IsOfError C.Deserializer.at_hand C.holds self.now response.now policy) }
         ensures memory { IfErr result (λ e. e ≡ OutOfMemory) }
     {
         let body = body_reader(alloc, self.codec(), response)?;
@@ -76,9 +73,9 @@ impl<C: Codec> ResponseProtocol for HttpBindingProtocol<C> {
 impl<C: Codec> ResponseProtocol for HttpRpcProtocol<C> {
     type Reader = C::Deserializer;
 
-    ghost reads = { λ p response schema policy r. Begins (C.holds p.codec (bytes_of response)) (C.Deserializer.at_hand r) };
+    ghost reads = { λ p response node policy. BeginsOver C.Deserializer.at_hand (C.holds p.codec) response };
 
-    ghost reads_error = { λ p response policy r. Begins (C.holds p.codec (bytes_of response)) (C.Deserializer.at_hand r) };
+    ghost reads_error = { λ p response policy. BeginsOver C.Deserializer.at_hand (C.holds p.codec) response };
 
     ghost by_default = { λ p response policy r h. h };
 

@@ -379,9 +379,10 @@ struct NamesSchema;
 impl ResponseProtocol for NamesSchema {
     type Reader = HttpStringDeserializer;
 
-    ghost reads = { λ p response schema policy r. Begins (Some (held.input schema.node.full_name false)) (string_at_hand r) };
+    ghost reads = { λ _ _ m _ r. Begins (Some (held.input m.node.full_name false)) (string_at_hand r) };
 
-    ghost reads_error = { λ p response policy r. Begins (Some (held.input (codes "smithy.api#Document") false)) (string_at_hand r) };
+    ghost reads_error = { λ _ _ _ r.
+        Begins (Some (held.input (codes "smithy.api#Document") false)) (string_at_hand r) };
 
     ghost by_default = { λ p response policy r h. h };
 
