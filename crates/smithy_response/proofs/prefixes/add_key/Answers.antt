@@ -19,7 +19,12 @@ returns-then-is_some-clause-keys c =
     key-known c.args.keys.now c.args.key.now told
 
 pub returns-clause-known : goal.returns-clause-known
-returns-clause-known c = ?
+returns-clause-known c = λ q.
+    rw c.in_ok-push.ensures.ok (known-more c.args.keys.now c.args.key.now c.len.result (place_in c.args.known.now) (place_in c.insert.new.self) c.requires
+    (btree_map_updates_str c.args.key.now c.args.known.now c.insert.new.self (Some c.len.result) c.in_ok-insert.ensures.updates) q)
 
 pub returns-clause-keys : goal.returns-clause-keys
-returns-clause-keys c = ?
+returns-clause-keys c =
+    let new : is_one_of c.args.key.now c.args.keys.now ≡ false =
+    sym (c.requires c.args.key.now) ∙ sym (ap is_some c.get.ensures.value) ∙ is_some-copied c.get.result ∙ sym c.is_some.ensures ∙ c.if-is_some.false in
+    c.in_ok-push.ensures.ok ∙ key-new c.args.keys.now c.args.key.now new
