@@ -2,6 +2,7 @@ pub mod BodyOnlyItems
 pub mod Containers
 pub mod Copies
 pub mod HandedItems
+pub mod KnownKeys
 pub mod Members
 pub mod MembersReading
 pub mod OnLiterals

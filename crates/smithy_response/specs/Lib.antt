@@ -1,9 +1,12 @@
+pub mod CountedCalls
 pub mod Frames
 pub mod GivenScalars
 pub mod Handed
+pub mod KnownKeys
 pub mod MembersRead
 pub mod Openings
 pub mod PrefixedHeaders
+pub mod ProtocolReaders
 pub mod ResponseReaders
 pub mod ResponseValue
 pub mod Routes

@@ -14,10 +14,14 @@ values_named name pairs = values_at (str_to_ascii_lowercase name) pairs
 abbrev pub behind_lower : List ℕ → List ℕ → Option (List ℕ)
 behind_lower lower name = if starts_with nat_eq name lower then Some (drop (length lower) name) else None
 
+-- the texts that are known, and this one behind them if it is none of them
+abbrev pub with_key : List (List ℕ) → List ℕ → List (List ℕ)
+with_key known text = if list_any (same_text text) known then known else known ++ text ∷ []
+
 -- the texts that are known, and each other one at its first place
 abbrev pub with_new : List (List ℕ) → List (List ℕ) → List (List ℕ)
 with_new known [] = known
-with_new known (text ∷ texts) = with_new (if list_any (same_text text) known then known else known ++ text ∷ []) texts
+with_new known (text ∷ texts) = with_new (with_key known text) texts
 
 -- what stands behind a prefix in lower case, each once, in the order of the headers
 abbrev pub keys_behind_lower : List ℕ → List (List ℕ × List ℕ) → List (List ℕ)

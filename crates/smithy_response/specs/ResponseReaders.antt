@@ -4,6 +4,8 @@ use Rattle.std.specs.List.{list_any}
 use Rattle.smithy_http.specs.Responses.{Response}
 use Rattle.smithy_http.specs.declared.non_utf8.NonUtf8HeaderHandling.{NonUtf8HeaderHandling}
 use Rattle.smithy_schema.specs.Nodes.{Schema, members_of, is_response_bound}
+use Rattle.smithy_schema.specs.References.{schema_of}
+use Rattle.smithy_schema.specs.declared.schema_ref.SchemaRef.{SchemaRef}
 use Rattle.smithy_serde.specs.declared.scalar.Group.TheVariants as group
 use Rattle.smithy_serde.specs.ReadCalls.{AtHand}
 use Rattle.smithy_serde.specs.declared.deserializer.ShapeDeserializer.{Ghosts}
@@ -15,6 +17,10 @@ use Rattle.smithy_response.specs.Handed.{has_unbound, handed}
 -- the schema has members, and none is bound to another part of the response than the body
 abbrev pub is_body_only : Schema → Bool
 is_body_only schema = has_unbound schema && not (list_any is_response_bound (members_of schema))
+
+-- the whole response is read by the schema
+abbrev pub reads_whole : SchemaRef → Bool
+reads_whole schema = not (is_body_only (schema_of schema))
 
 -- a modelled error's reader, and an output's where that is not the body's alone, reads the whole response
 abbrev pub chosen_whole : Schema → (is_error : Bool) → Bool

@@ -45,11 +45,15 @@ is_plain_text m = same_kind m.node.kind kind.String && is_none m.node.traits.med
 abbrev pub are_empty : List (List ℕ) → Bool
 are_empty values = list_all is_empty_text values
 
--- A header is handed out where it is there; a member that is no plain text needs a byte.
+-- there is nothing for the member in these values: one that is no plain text needs a byte
+abbrev pub has_nothing : Schema → List (List ℕ) → Bool
+has_nothing m values = not (is_plain_text m) && are_empty values
+
+-- A header is handed out where it is there and has something for the member.
 abbrev pub header_route : Schema → List ℕ → List (List ℕ) → Route
 header_route m name [] = passed_over
 header_route m name (value ∷ values) =
-    if not (is_plain_text m) && are_empty (value ∷ values) then passed_over else handed_out (held.header name (value ∷ values))
+    if has_nothing m (value ∷ values) then passed_over else handed_out (held.header name (value ∷ values))
 
 -- a payload that is taken as it is
 abbrev pub is_raw : ShapeType → Bool

@@ -48,6 +48,13 @@ abbrev pub prefix_context : List ℕ → List ℕ → List ℕ → List ℕ
 prefix_context member prefix what =
     codes "failed to parse " ++ (member ++ (codes " from prefix header `" ++ (prefix ++ (codes "`: " ++ what))))
 
+-- a member's header, or the headers behind its prefix, could not be read, for this cause
+abbrev pub in_header_for : List ℕ → List ℕ → SerdeError → SerdeError
+in_header_for member name cause = InvalidInput (header_context member name (refusal_text cause))
+
+abbrev pub behind_prefix_for : List ℕ → List ℕ → SerdeError → SerdeError
+behind_prefix_for member prefix cause = InvalidInput (prefix_context member prefix (refusal_text cause))
+
 abbrev pub settled_at : Source → NonUtf8HeaderHandling → Response → List ℕ → SerdeError → Answer
 settled_at (in_header name) policy response member e =
     settled_header (skips policy && has_unreadable (values_named name response.headers)) (header_context member name) e

@@ -1,5 +1,5 @@
 -- What the part of a response that needs no reader of its body has at hand, and what it hands out next.
-use Rattle.std.specs.Prelude.{◌≡◌, ◌<◌, ◌≤◌, ◌⊎◌, ℕ, ◌-◌, Bool, true, false, List, [], ◌∷◌, ◌++◌, map, filter_map, drop, length, slice_get, Option, Some, None, option_map, Result, Ok, Err}
+use Rattle.std.specs.Prelude.{◌≡◌, ◌<◌, ◌≤◌, ◌⊎◌, ℕ, ◌-◌, Bool, true, false, List, [], ◌∷◌, ◌++◌, map, filter_map, drop, length, slice_get, Option, Some, None, option_map, Result, Ok, Err, IfOk}
 use Rattle.std.specs.Option.{option_map_or}
 use Rattle.smithy_http.specs.Responses.{Response}
 use Rattle.smithy_schema.specs.Nodes.{Schema, at_place, name_of}
@@ -11,7 +11,9 @@ use Rattle.smithy_serde.specs.declared.scalar.Group.TheVariants as group
 use Rattle.smithy_serde.specs.Held as held
 use Rattle.smithy_serde.specs.Held.{Held, Prefixed, Answer, levels_of}
 use Rattle.smithy_serde.specs.Listings.{Slot, at_member, at_element, at_key, all_of, contents, contents_at, told_at}
-use Rattle.smithy_serde.specs.ReadCalls.{Frame, AtHand, IsMember}
+use Rattle.smithy_serde.specs.declared.read_scalar.ScalarKind.{ScalarKind}
+use Rattle.smithy_serde.specs.declared.read_scalar.ReadScalar.{ReadScalar}
+use Rattle.smithy_serde.specs.ReadCalls.{Frame, AtHand, scalar_of_read, Reads, OpensAt, IsMember}
 use Rattle.smithy_response.specs.declared.parts.BoundMember.{BoundMember}
 use Rattle.smithy_response.specs.declared.parts.BoundMember.TheVariants as bound
 use Rattle.smithy_response.specs.declared.parts.HeaderAtHand.{HeaderAtHand}
@@ -105,6 +107,18 @@ member_settled policy response (bound.Header member h) e = settled_at (in_header
 member_settled policy response (bound.Prefix member prefix entries) e = settled_at (in_prefix prefix) policy response member e
 member_settled policy response _ e = Err e
 
+-- what is at hand is read as a scalar
+abbrev pub ReadsBound : Transport → ScalarKind → Schema → Result ReadScalar SerdeError → Type 0
+ReadsBound t k node result = Reads scalar_of_read k node (transport_at_hand t) (transport_at_hand t) result
+
+-- it is opened
+abbrev pub OpensBound : Group → Schema → Transport → Transport → Answer → Type 0
+OpensBound g node old new result = OpensAt g node (transport_at_hand old) (transport_at_hand new) result
+
+-- what is answered for a refusal at a member that stands there
+abbrev pub settled_from : Transport → Source → List ℕ → SerdeError → Answer
+settled_from t source member e = settled_at source t.policy t.response member e
+
 -- what is made of a member by its route
 abbrev pub IsTaken : Response → Route → BoundMember → Type 0
 IsTaken response passed_over taken = taken ≡ bound.Nothing
@@ -119,6 +133,10 @@ pub record IsTakenAt (response : Response) (source : Source) (m : Schema) (taken
   pub low : (member_at_hand response taken).levels ≤ 2
   pub settles : (taken ≡ bound.Nothing → ⊥) → (policy : NonUtf8HeaderHandling) (e : SerdeError)
       → member_settled policy response taken e ≡ settled_at source policy response (name_of m) e
+
+-- the headers behind a prefix come to hand of any response
+abbrev pub TakesPrefix : {E : Type 0} → List ℕ → Schema → Result BoundMember E → Type 0
+TakesPrefix prefix m result = (response : Response) → IfOk result (IsTakenAt response (in_prefix prefix) m)
 
 -- or the member's refusal, or want of memory
 abbrev pub TakesAt : Response → Source → Schema → Result BoundMember SerdeError → Type 0

@@ -172,6 +172,24 @@ impl<D: ShapeDeserializer> ShapeDeserializer for CompositeReader<D> {
             _ => self.body.container_size(),
         }
     }
+
+    fn read_null(&mut self) -> Result<(), SerdeError> {
+        match self.stage {
+            Stage::Bound { .. } => Ok(()),
+            Stage::Top => self.body.read_null(),
+            Stage::Payload => self.body.read_null(),
+            Stage::Body => self.body.read_null(),
+        }
+    }
+
+    fn skip_value(&mut self, alloc: Global) -> Result<(), SerdeError> {
+        match self.stage {
+            Stage::Bound { .. } => Ok(()),
+            Stage::Top => self.body.skip_value(alloc),
+            Stage::Payload => self.body.skip_value(alloc),
+            Stage::Body => self.body.skip_value(alloc),
+        }
+    }
 }
 
 impl<D: ShapeDeserializer> CompositeReader<D> {
@@ -190,8 +208,9 @@ impl<D: ShapeDeserializer> CompositeReader<D> {
         is_given: bool,
     ) -> Result<Option<SchemaRef<'s>>, SerdeError>
         requires { self.old.stage ≡ stage.Bound is_given }
-        ensures { NextMember (schema_of schema.entry) (at_structure self.old.transport is_given (D.at_hand self.old.body.reader))
-            (composite_at_hand self.new.stage self.new.transport (D.at_hand self.new.body.reader)) result }
+        ensures { let old = at_structure self.old.transport is_given (D.at_hand self.old.body.reader) in
+            let new = composite_at_hand self.new.stage self.new.transport (D.at_hand self.new.body.reader) in
+            NextMember (schema_of schema.entry) old new result }
     {
         if self.body.depth() != 0 {
             unreachable!()
@@ -231,8 +250,9 @@ impl<D: ShapeDeserializer> CompositeReader<D> {
         requires stage { self.old.stage ≡ stage.Body }
         requires one { length (D.at_hand self.old.body.reader).opened ≡ 1 }
         requires inside { IsIn group.Structure (D.at_hand self.old.body.reader) }
-        ensures { NextMember (schema_of schema.entry) (at_body self.old.transport (D.at_hand self.old.body.reader))
-            (composite_at_hand self.new.stage self.new.transport (D.at_hand self.new.body.reader)) result }
+        ensures { let old = at_body self.old.transport (D.at_hand self.old.body.reader) in
+            let new = composite_at_hand self.new.stage self.new.transport (D.at_hand self.new.body.reader) in
+            NextMember (schema_of schema.entry) old new result }
     {
         match self.body.next_unbound(alloc, schema) {
             Ok(Some(member)) => Ok(Some(member)),

@@ -3,8 +3,8 @@ ghost use Rattle.std.specs.Prelude.{◌≡◌, [], false, length, IfOk, IfSome, 
 ghost use Rattle.smithy_schema.specs.Nodes.{is_response_bound};
 ghost use Rattle.smithy_schema.specs.References.{schema_of};
 ghost use Rattle.smithy_serde.specs.declared.scalar.Group.TheVariants as group;
-ghost use Rattle.smithy_serde.specs.ReadCalls.{IsIn, scalar_of_read, Reads, Skips, OpensAt, NextMember, NextElement, NextEntry, TellsNull};
-ghost use Rattle.smithy_response.specs.Frames.{without_copies};
+ghost use Rattle.smithy_serde.specs.ReadCalls.{IsIn, Skips, NextElement, NextEntry, TellsNull};
+ghost use Rattle.smithy_response.specs.CountedCalls.{CountedReads, CountedOpens, CountedNext, NextUnbound};
 
 use smithy_schema::SchemaRef;
 use smithy_serde::{Group, ReadScalar, ScalarKind, SerdeError, ShapeDeserializer};
@@ -54,7 +54,7 @@ impl<D: ShapeDeserializer> Counted<D> {
         schema: SchemaRef<'_>,
         kind: ScalarKind,
     ) -> Result<ReadScalar, SerdeError>
-        ensures read { Reads scalar_of_read kind (schema_of schema.entry) (D.at_hand self.old.reader) (D.at_hand self.new.reader) result }
+        ensures read { CountedReads D.at_hand kind (schema_of schema.entry) self.old self.new result }
         ensures depth { self.new.depth ≡ self.old.depth }
     {
         self.reader.read(alloc, schema, kind)
@@ -66,7 +66,7 @@ impl<D: ShapeDeserializer> Counted<D> {
         schema: SchemaRef<'_>,
         group: Group,
     ) -> Result<(), SerdeError>
-        ensures open { OpensAt group (schema_of schema.entry) (D.at_hand self.old.reader) (D.at_hand self.new.reader) result }
+        ensures open { CountedOpens D.at_hand group (schema_of schema.entry) self.old self.new result }
         ensures depth { OnErr result (self.new.depth ≡ self.old.depth) }
     {
         if self.depth == usize::MAX {
@@ -83,7 +83,7 @@ impl<D: ShapeDeserializer> Counted<D> {
         schema: SchemaRef<'s>,
     ) -> Result<Option<SchemaRef<'s>>, SerdeError>
         requires { IsIn group.Structure (D.at_hand self.old.reader) }
-        ensures { NextMember (schema_of schema.entry) (D.at_hand self.old.reader) (D.at_hand self.new.reader) result }
+        ensures { CountedNext D.at_hand (schema_of schema.entry) self.old self.new result }
     {
         let next = self.reader.next_member(alloc, schema)?;
         if next.is_none() {
@@ -145,8 +145,7 @@ impl<D: ShapeDeserializer> Counted<D> {
         schema: SchemaRef<'s>,
     ) -> Result<Option<SchemaRef<'s>>, SerdeError>
         requires { IsIn group.Structure (D.at_hand self.old.reader) }
-        ensures next { NextMember (schema_of schema.entry) (without_copies (D.at_hand self.old.reader))
-            (without_copies (D.at_hand self.new.reader)) result }
+        ensures next { NextUnbound D.at_hand (schema_of schema.entry) self.old self.new result }
         ensures unbound { IfOk result (λ next. IfSome next (λ m. is_response_bound (schema_of m) ≡ false)) }
     {
         while let Some(member) = self.next_member(alloc, schema)? {

@@ -5,14 +5,11 @@ ghost use Rattle.smithy_http.specs.DateLists.{dates_of};
 ghost use Rattle.smithy_http.specs.HeaderValues.{tokens_of, one_text_of};
 ghost use Rattle.smithy_schema.specs.References.{schema_of};
 ghost use Rattle.smithy_serde.specs.declared.read_scalar.ScalarKind.TheVariants as k;
-ghost use Rattle.smithy_serde.specs.HeaderReads.{or_parse_refusal, one_of, one_token as one_token_of, item_of_text as item_told, decoded_text as decoded_told, header_format as format_told, text_of_header as text_told, time_of_header as time_told, scalar_of_header as scalar_told, scalar_of_element as element_told, scalar_of_date as date_told, has_dates as dates_told, elements_of_header as elements_told};
+ghost use Rattle.smithy_serde.specs.HeaderReads.{or_parse_refusal, one_of, one_token as one_token_of, item_of_text as item_told, decoded_text as decoded_told, header_format as format_told, scalar_of_element as element_told, scalar_of_date as date_told, has_dates as dates_told};
 ghost use Rattle.smithy_serde.specs.Held.{IsAnswer};
 ghost use Rattle.smithy_serde.specs.ReadCalls.{type_of};
-ghost use Rattle.smithy_serde.specs.Values as value;
-ghost use Rattle.smithy_types.specs.Results.{then_give, then_try};
-ghost use Rattle.smithy_response.specs.GivenScalars.{GivesScalar};
+ghost use Rattle.smithy_response.specs.GivenScalars.{GivesScalar, header_text as header_text_told, header_time, header_elements, header_scalar, token_scalar as token_scalar_told, AnswersText, AnswersTime, AnswersItems};
 ghost use Rattle.smithy_response.specs.PrefixedHeaders.{values_named};
-ghost use Rattle.smithy_response.specs.Transporting.{items_of};
 
 use crate::parts::ListItems;
 use crate::refusals::{date_refusal, no_item, no_value, not_parsed};
@@ -131,7 +128,7 @@ fn item_of_text(alloc: Global, kind: ScalarKind, text: &str) -> Result<ReadScala
 
 // The text that a base64 text tells.
 fn decoded_text(alloc: Global, text: &str) -> Result<Text, SerdeError>
-    ensures { IsAnswer (decoded_told text.now) (then_give result (λ t. value.text t)) }
+    ensures { AnswersText (decoded_told text.now) result }
 {
     match STANDARD.decode(alloc, text.as_bytes()) {
         Ok(bytes) => match String::from_utf8(bytes) {
@@ -170,7 +167,7 @@ fn text_of_header(
     name: &str,
     schema: SchemaRef<'_>,
 ) -> Result<Text, SerdeError>
-    ensures { IsAnswer (text_told (schema_of schema.entry) name.now (values_named name.now headers.now)) (then_give result (λ t. value.text t)) }
+    ensures { AnswersText (header_text_told (schema_of schema.entry) name.now headers.now) result }
 {
     if schema.media_type().is_some() {
         let token = one_token(alloc, headers, name, ShapeType::String)?;
@@ -189,7 +186,7 @@ fn time_of_header(
     name: &str,
     schema: SchemaRef<'_>,
 ) -> Result<DateTime, SerdeError>
-    ensures { IsAnswer (time_told (schema_of schema.entry) name.now (values_named name.now headers.now)) (then_give result (λ t. value.timestamp t)) }
+    ensures { AnswersTime (header_time (schema_of schema.entry) name.now headers.now) result }
 {
     let seconds = header_dates(alloc, headers, name, header_format(schema))?;
     let only = only_date(alloc, name, seconds.as_slice())?;
@@ -204,7 +201,7 @@ pub(crate) fn scalar_of_header(
     schema: SchemaRef<'_>,
     kind: ScalarKind,
 ) -> Result<ReadScalar, SerdeError>
-    ensures { GivesScalar kind (Some (scalar_told (type_of kind) (schema_of schema.entry) name.now (values_named name.now headers.now))) result }
+    ensures { GivesScalar kind (header_scalar kind (schema_of schema.entry) name.now headers.now) result }
 {
     match kind {
         ScalarKind::String => Ok(ReadScalar::String(text_of_header(alloc, headers, name, schema)?)),
@@ -226,7 +223,7 @@ fn token_scalar(
     name: &str,
     kind: ScalarKind,
 ) -> Result<ReadScalar, SerdeError>
-    ensures { GivesScalar kind (Some (then_try (one_token_of (type_of kind) name.now (values_named name.now headers.now)) (item_told (type_of kind)))) result }
+    ensures { GivesScalar kind (token_scalar_told kind name.now headers.now) result }
 {
     let token = one_token(alloc, headers, name, shape_type(kind))?;
     item_of_text(alloc, kind, token.as_str())
@@ -288,7 +285,7 @@ pub(crate) fn elements_of_header(
     name: &str,
     schema: SchemaRef<'_>,
 ) -> Result<ListItems, SerdeError>
-    ensures { IsAnswer (elements_told (schema_of schema.entry) (values_named name.now headers.now)) (then_give result items_of) }
+    ensures { AnswersItems (header_elements (schema_of schema.entry) name.now headers.now) result }
 {
     if has_dates(schema) {
         let seconds = header_dates(alloc, headers, name, header_format(schema))?;

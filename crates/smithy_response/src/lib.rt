@@ -9,15 +9,19 @@ mod member_writes;
 mod opening;
 mod parts;
 mod prefixes;
+mod protocol_readers;
 mod reading;
 mod refusals;
+mod response_protocol;
 mod response_reader;
 mod stage;
 mod taking;
+#[cfg(test)]
+mod tests;
 mod transport;
 mod whole_response;
 
 pub use composite::CompositeReader;
-pub use reading::read_response;
+pub use response_protocol::ResponseProtocol;
 pub use response_reader::{ResponseReader, http_error_deserializer, http_output_deserializer};
 pub use whole_response::{read_members, response_value};

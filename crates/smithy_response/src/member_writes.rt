@@ -25,7 +25,7 @@ impl MemberWrites<'_> {
     // The place of a member of this table; none where it is another's.
     fn own_member(&self, member: SchemaRef<'_>) -> Option<SchemaIndex>
         ensures defined { IfSome result (λ i. HasNode self.now.table.now i.0) }
-        ensures place { IfSome result (λ i. at_place (schema_of member.entry).table i.0 ≡ Some (schema_of member.entry)) }
+        ensures place { let m = schema_of member.entry in IfSome result (λ i. at_place m.table i.0 ≡ Some m) }
         ensures another { IfNone result (IsPlaced self.now.table.now (schema_of member.entry) → ⊥) }
     {
         let place = member.index()?;

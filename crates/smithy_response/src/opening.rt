@@ -1,13 +1,9 @@
 // How a header and the headers behind a prefix are opened, and their items.
-ghost use Rattle.std.specs.Prelude.{◌≡◌, List, None, IfOk};
+ghost use Rattle.std.specs.Prelude.{◌≡◌, None, IfOk};
 ghost use Rattle.std.specs.Str.{str_to_ascii_lowercase};
-ghost use Rattle.smithy_http.specs.Responses as responses;
 ghost use Rattle.smithy_schema.specs.References.{schema_of};
-ghost use Rattle.smithy_serde.specs.Held.{Prefixed};
-ghost use Rattle.smithy_serde.specs.ReadCalls.{NextEntry, Reads, scalar_of_read};
-ghost use Rattle.smithy_response.specs.Openings.{OpensList, OpensEntries, IsAtEntries, opened_kind};
-ghost use Rattle.smithy_response.specs.PrefixedHeaders.{prefixed_in, keys_behind as keys_behind_told};
-ghost use Rattle.smithy_response.specs.Transporting.{prefix_at_hand};
+ghost use Rattle.smithy_response.specs.Openings.{OpensList, OpensPrefix, ReadsEntries, NextOfEntries, IsAtEntries, opened_kind};
+ghost use Rattle.smithy_response.specs.PrefixedHeaders.{keys_behind as keys_behind_told};
 
 use crate::header_reads::{
     elements_of_header, scalar_of_date, scalar_of_element, scalar_of_header, shape_type,
@@ -61,7 +57,7 @@ pub(crate) fn open_entries(
     schema: SchemaRef<'_>,
     group: Group,
 ) -> Result<OpenMap, SerdeError>
-    ensures { OpensEntries response.now (prefixed_in prefix.now response.now.headers) group (schema_of schema.entry) result }
+    ensures { OpensPrefix response.now prefix.now group (schema_of schema.entry) result }
 {
     match group {
         Group::Map => Ok(entries_of(alloc, response.headers(), prefix)?),
@@ -96,7 +92,7 @@ pub(crate) fn read_entries(
     schema: SchemaRef<'_>,
     kind: ScalarKind,
 ) -> Result<ReadScalar, SerdeError>
-    ensures { (ps : List Prefixed) → Reads scalar_of_read kind (schema_of schema.entry) (prefix_at_hand response.now ps entries.now) (prefix_at_hand response.now ps entries.now) result }
+    ensures { ReadsEntries response.now entries.now kind (schema_of schema.entry) result }
 {
     match entries {
         Some(map) => map.entry.read(alloc, response, schema, kind),
@@ -110,7 +106,7 @@ pub(crate) fn next_entry(
     entries: &mut Option<OpenMap>,
 ) -> Result<Option<Text>, SerdeError>
     requires { IsAtEntries entries.old }
-    ensures { (response : responses.Response) (ps : List Prefixed) → NextEntry (prefix_at_hand response ps entries.old) (prefix_at_hand response ps entries.new) result }
+    ensures { NextOfEntries entries.old entries.new result }
 {
     let Some(map) = entries else {
         unreachable!();
@@ -123,7 +119,8 @@ pub(crate) fn next_entry(
 }
 
 impl OpenMap {
-    ghost use Rattle.std.specs.Prelude.{◌≡◌, ◌+◌, ◌++◌, None, slice_get, IfOk, IfErr, IfSome};
+    ghost use Rattle.std.specs.Prelude.{◌≡◌, ◌+◌, slice_get, IfOk, IfErr, IfSome};
+    ghost use Rattle.smithy_response.specs.Openings.{IsEntry};
     ghost use Rattle.smithy_serde.specs.declared.error.SerdeError.TheVariants as refusal;
 
     // The next entry comes to hand, if one is left: its key is answered.
@@ -131,7 +128,7 @@ impl OpenMap {
         ensures keys { (self.new.keys ≡ self.old.keys) × (self.new.lower ≡ self.old.lower) }
         ensures key { IfOk result (λ key. slice_get self.old.keys self.old.place ≡ key) }
         ensures place { IfOk result (λ key. IfSome key (λ text. self.new.place ≡ self.old.place + 1)) }
-        ensures entry { IfOk result (λ key. IfSome key (λ text. (self.new.entry.name ≡ self.old.lower ++ text) × (self.new.entry.list ≡ None))) }
+        ensures entry { IfOk result (λ key. IfSome key (λ text. IsEntry self.old.lower text self.new.entry)) }
         ensures err { IfErr result (λ e. (self.new ≡ self.old) × (e ≡ refusal.OutOfMemory)) }
     {
         let keys = self.keys.as_slice();
@@ -148,11 +145,9 @@ impl OpenMap {
 }
 
 impl HeaderAtHand {
-    ghost use Rattle.std.specs.Prelude.{◌≡◌, List, IsSome, Ok};
-    ghost use Rattle.smithy_http.specs.Responses as responses;
+    ghost use Rattle.std.specs.Prelude.{◌≡◌, IsSome};
     ghost use Rattle.smithy_schema.specs.References.{schema_of};
-    ghost use Rattle.smithy_serde.specs.ReadCalls.{Frame, scalar_of_read, Reads, OpensAt, NextElement};
-    ghost use Rattle.smithy_response.specs.Transporting.{header_at_hand};
+    ghost use Rattle.smithy_response.specs.Openings.{ReadsHeader, OpensHeader, NextOfHeader};
 
     /// Reads the header, or the element at hand, as a scalar of the kind.
     #[tactic(auto, unfolding(smithy_serde::specs::HeldReads::read_scalar))]
@@ -163,7 +158,7 @@ impl HeaderAtHand {
         schema: SchemaRef<'_>,
         kind: ScalarKind,
     ) -> Result<ReadScalar, SerdeError>
-        ensures { (below : List Frame) → Reads scalar_of_read kind (schema_of schema.entry) (header_at_hand response.now below self.now) (header_at_hand response.now below self.now) result }
+        ensures { ReadsHeader response.now self.now kind (schema_of schema.entry) result }
     {
         match &self.list {
             Some(list) => list.read(alloc, schema, kind),
@@ -179,7 +174,7 @@ impl HeaderAtHand {
         schema: SchemaRef<'_>,
         group: Group,
     ) -> Result<(), SerdeError>
-        ensures opens { (below : List Frame) → OpensAt group (schema_of schema.entry) (header_at_hand response.now below self.old) (header_at_hand response.now below self.new) result }
+        ensures opens { OpensHeader response.now group (schema_of schema.entry) self.old self.new result }
         ensures name { self.new.name ≡ self.old.name }
     {
         if self.list.is_some() {
@@ -193,7 +188,7 @@ impl HeaderAtHand {
     /// Brings the next element to hand, or closes the list and answers false.
     pub(crate) fn next_element(&mut self) -> bool
         requires { IsSome self.old.list }
-        ensures next { (response : responses.Response) (below : List Frame) → NextElement (header_at_hand response below self.old) (header_at_hand response below self.new) (Ok result) }
+        ensures next { NextOfHeader self.old self.new result }
         ensures name { self.new.name ≡ self.old.name }
     {
         let Some(list) = &mut self.list else {
@@ -208,16 +203,17 @@ impl HeaderAtHand {
 }
 
 impl OpenList {
-    ghost use Rattle.std.specs.Prelude.{◌≡◌, ◌+◌, ◌<◌, ◌≤◌, length, MatchBool};
+    ghost use Rattle.std.specs.Prelude.{◌≡◌};
     ghost use Rattle.smithy_schema.specs.References.{schema_of};
     ghost use Rattle.smithy_serde.specs.ReadCalls.{read_at};
     ghost use Rattle.smithy_response.specs.GivenScalars.{GivesScalar};
-    ghost use Rattle.smithy_response.specs.Transporting.{element_at, items_of};
+    ghost use Rattle.smithy_response.specs.Openings.{IsAdvanced};
+    ghost use Rattle.smithy_response.specs.Transporting.{element_at};
 
     // The next element comes to hand, if one is left.
     fn advance(&mut self) -> bool
         ensures items { self.new.items ≡ self.old.items }
-        ensures place { MatchBool result ((self.old.place < length (items_of self.old.items)) × (self.new.place ≡ self.old.place + 1)) (length (items_of self.old.items) ≤ self.old.place) }
+        ensures place { IsAdvanced self.old self.new result }
     {
         if self.place < self.items.len() {
             self.place += 1;

@@ -1,15 +1,19 @@
 // The headers behind a prefix.
-ghost use Rattle.std.specs.Prelude.{◌≡◌, ◌&&◌, not, nat_eq, is_some, IfOk, MatchOption};
+ghost use Rattle.std.specs.Prelude.{◌≡◌, ◌&&◌, not, nat_eq, is_some, IfOk, OnOk, MatchOption};
 ghost use Rattle.std.specs.List.{list_any, starts_with};
 ghost use Rattle.std.specs.Option.{option_copied};
 ghost use Rattle.std.specs.Str.{is_utf8};
-ghost use Rattle.smithy_types.specs.Texts.{same_text};
-ghost use Rattle.smithy_response.specs.PrefixedHeaders.{behind_lower, keys_behind_lower};
+ghost use Rattle.smithy_response.specs.PrefixedHeaders.{behind_lower, with_key, keys_behind_lower};
+ghost use Rattle.smithy_response.specs.KnownKeys.{AreKnown};
 ghost use Rattle.smithy_response.specs.Settling.{has_unreadable as has_unreadable_told, unreadable_behind_lower};
 
 use smithy_http::{GetAllBytes, HeaderPairs};
 use smithy_types::{OutOfMemory, Words};
 use std::alloc::Global;
+use std::collections::BTreeMap;
+
+// The place of each text that is known.
+type KnownKeys<'h> = BTreeMap<&'h str, usize>;
 
 // What stands behind a prefix in a name, both in lower case.
 fn behind<'h>(prefix: &str, name: &'h str) -> Option<&'h str>
@@ -18,11 +22,18 @@ fn behind<'h>(prefix: &str, name: &'h str) -> Option<&'h str>
     name.strip_prefix(prefix)
 }
 
-// Whether the text is one of these.
-fn is_known(words: &Words, text: &str) -> bool
-    ensures { result ≡ list_any (same_text text.now) words.now }
+// Adds a text unless it is one of those that are known.
+fn add_key<'h>(keys: &mut Words, known: &mut KnownKeys<'h>, key: &'h str) -> Result<(), OutOfMemory>
+    requires { AreKnown known.old keys.old }
+    ensures known { OnOk result (AreKnown known.new keys.new) }
+    ensures keys { OnOk result (keys.new ≡ with_key keys.old key.now) }
 {
-    words.as_slice().iter().any(|word| word.as_str() == text)
+    if known.get(&key).is_some() {
+        return Ok(());
+    }
+    known.insert(key, keys.len())?;
+    keys.push(key)?;
+    Ok(())
 }
 
 /// What stands behind a prefix, which is in lower case, each once.
@@ -34,11 +45,10 @@ pub(crate) fn keys_behind(
     ensures { IfOk result (λ keys. keys ≡ keys_behind_lower prefix.now pairs.entry) }
 {
     let mut keys = Words::new(alloc);
+    let mut known = BTreeMap::new(alloc);
     for (name, _) in pairs {
         if let Some(key) = behind(prefix, name) {
-            if !is_known(&keys, key) {
-                keys.push(key)?;
-            }
+            add_key(&mut keys, &mut known, key)?;
         }
     }
     Ok(keys)

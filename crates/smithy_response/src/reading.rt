@@ -9,7 +9,7 @@ use std::alloc::Global;
 
 /// Reads what the reader of a response hands out as a structure of the output's members, in index order. It answers the
 /// first refusal that the reader doesn't hide. Condition: the output's node is defined.
-pub fn read_response<'t, R: ShapeDeserializer>(
+pub(crate) fn read_response<'t, R: ShapeDeserializer>(
     alloc: Global,
     reader: &mut R,
     table: &'t Schemas,

@@ -4,11 +4,11 @@ ghost use Rattle.smithy_http.specs.declared.error.HttpError.TheVariants as http_
 ghost use Rattle.smithy_serde.specs.declared.error.SerdeError.TheVariants as refusal;
 ghost use Rattle.smithy_serde.specs.HeaderReads.{parse_refusal, no_value as no_value_told};
 ghost use Rattle.smithy_serde.specs.HeldReads.{status_refusal as status_told, prefix_refusal as prefix_told, raw_refusal as raw_told, element_refusal as element_told, header_refusal as header_told};
-ghost use Rattle.smithy_serde.specs.Refusals.{IsRefusal, refusal_text as refusal_shown};
+ghost use Rattle.smithy_serde.specs.Refusals.{IsRefusal};
 ghost use Rattle.smithy_serde.specs.Requests.{requested as requested_words, plain_word as plain};
-ghost use Rattle.smithy_response.specs.GivenScalars.{item_refusal as item_told};
+ghost use Rattle.smithy_response.specs.GivenScalars.{item_refusal as item_told, date_text as date_text_told};
 ghost use Rattle.smithy_response.specs.Routes.{not_buffered as not_buffered_told};
-ghost use Rattle.smithy_response.specs.Settling.{header_context, prefix_context};
+ghost use Rattle.smithy_response.specs.Settling.{header_context, prefix_context, in_header_for, behind_prefix_for};
 
 use smithy_http::{HttpError, ListFault};
 use smithy_ids::ShapeType;
@@ -146,7 +146,7 @@ pub(crate) fn element_refusal(alloc: Global, kind: ShapeType) -> SerdeError
 
 // The text of a date that was read as another kind.
 fn date_text(alloc: Global, kind: ShapeType) -> Result<Text, OutOfMemory>
-    ensures { IfOk result (λ text. text ≡ codes "expected " ++ requested_words kind ++ codes " but the header list element was a timestamp") }
+    ensures { IfOk result (λ text. text ≡ date_text_told kind) }
 {
     let what = requested(alloc, kind)?;
     joined(
@@ -159,7 +159,7 @@ fn date_text(alloc: Global, kind: ShapeType) -> Result<Text, OutOfMemory>
 
 /// Another kind than a timestamp was requested of a date.
 pub(crate) fn date_refusal(alloc: Global, kind: ShapeType) -> SerdeError
-    ensures { IsRefusal (refusal.InvalidInput (codes "expected " ++ requested_words kind ++ codes " but the header list element was a timestamp")) result }
+    ensures { IsRefusal (refusal.InvalidInput (date_text_told kind)) result }
 {
     match date_text(alloc, kind) {
         Ok(message) => SerdeError::InvalidInput { message },
@@ -193,7 +193,7 @@ pub(crate) fn header_wrapped(
     name: &str,
     cause: &SerdeError,
 ) -> SerdeError
-    ensures { IsRefusal (refusal.InvalidInput (header_context member.now name.now (refusal_shown cause.now))) result }
+    ensures { IsRefusal (in_header_for member.now name.now cause.now) result }
 {
     match format!(in alloc; "{cause}") {
         Ok(what) => in_header(alloc, member, name, what.as_str()),
@@ -218,7 +218,7 @@ pub(crate) fn prefix_wrapped(
     prefix: &str,
     cause: &SerdeError,
 ) -> SerdeError
-    ensures { IsRefusal (refusal.InvalidInput (prefix_context member.now prefix.now (refusal_shown cause.now))) result }
+    ensures { IsRefusal (behind_prefix_for member.now prefix.now cause.now) result }
 {
     match format!(in alloc; "{cause}") {
         Ok(what) => behind_prefix(alloc, member, prefix, what.as_str()),

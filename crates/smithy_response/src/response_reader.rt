@@ -1,9 +1,9 @@
 // The reader of a response, by what its schema binds.
-ghost use Rattle.std.specs.Prelude.{◌≡◌, [], true, false, not, IfOk};
+ghost use Rattle.std.specs.Prelude.{◌≡◌, [], true, false, IfOk};
 ghost use Rattle.std.specs.List.{list_any};
 ghost use Rattle.smithy_schema.specs.Nodes.{members_of, is_response_bound};
 ghost use Rattle.smithy_schema.specs.References.{schema_of};
-ghost use Rattle.smithy_response.specs.ResponseReaders.{is_body_only as is_body_only_told, IsReader};
+ghost use Rattle.smithy_response.specs.ResponseReaders.{is_body_only as is_body_only_told, reads_whole, IsReader};
 
 use crate::composite::CompositeReader;
 use crate::parts::BoundMember;
@@ -90,6 +90,27 @@ impl<D: ShapeDeserializer> ShapeDeserializer for ResponseReader<D> {
             ResponseReader::Composite(reader) => reader.is_null(),
         }
     }
+
+    fn container_size(&self) -> Option<usize> {
+        match self {
+            ResponseReader::BodyOnly(reader) => reader.container_size(),
+            ResponseReader::Composite(reader) => reader.container_size(),
+        }
+    }
+
+    fn read_null(&mut self) -> Result<(), SerdeError> {
+        match self {
+            ResponseReader::BodyOnly(reader) => reader.read_null(),
+            ResponseReader::Composite(reader) => reader.read_null(),
+        }
+    }
+
+    fn skip_value(&mut self, alloc: Global) -> Result<(), SerdeError> {
+        match self {
+            ResponseReader::BodyOnly(reader) => reader.skip_value(alloc),
+            ResponseReader::Composite(reader) => reader.skip_value(alloc),
+        }
+    }
 }
 
 /// The reader of an output: that of the body exactly where the schema has members and none is bound to another part of
@@ -102,7 +123,7 @@ pub fn http_output_deserializer<D: ShapeDeserializer + Drop>(
     policy: NonUtf8HeaderHandling,
 ) -> Result<ResponseReader<D>, OutOfMemory>
     requires { (D.at_hand body).opened ≡ [] }
-    ensures { IfOk result (IsReader D.at_hand response.now false policy (not (is_body_only_told (schema_of schema.entry))) body) }
+    ensures { IfOk result (IsReader D.at_hand response.now false policy (reads_whole schema.entry) body) }
 {
     if is_body_only(schema) {
         return Ok(ResponseReader::BodyOnly(body));

@@ -1,10 +1,9 @@
 // Which bound member comes to hand.
-ghost use Rattle.std.specs.Prelude.{◌≡◌, ◌&&◌, not, ◌∷◌, IfOk};
-ghost use Rattle.smithy_http.specs.Responses as responses;
+ghost use Rattle.std.specs.Prelude.{◌≡◌, ◌∷◌, IfOk};
 ghost use Rattle.smithy_schema.specs.Nodes.{name_of};
 ghost use Rattle.smithy_schema.specs.References.{schema_of};
-ghost use Rattle.smithy_response.specs.Routes.{in_header, in_prefix, in_payload, source_of, is_plain_text as is_plain_text_told, is_raw as is_raw_told, are_empty as are_empty_told};
-ghost use Rattle.smithy_response.specs.Transporting.{IsTakenAt, TakesAt};
+ghost use Rattle.smithy_response.specs.Routes.{in_header, in_payload, source_of, is_plain_text as is_plain_text_told, is_raw as is_raw_told, are_empty as are_empty_told, has_nothing as has_nothing_told};
+ghost use Rattle.smithy_response.specs.Transporting.{IsTakenAt, TakesAt, TakesPrefix};
 
 use crate::parts::{BoundMember, HeaderAtHand};
 use crate::refusals::not_buffered;
@@ -88,7 +87,7 @@ fn prefix_taken(
     member: SchemaRef<'_>,
     prefix: &str,
 ) -> Result<BoundMember, OutOfMemory>
-    ensures { (response : responses.Response) → IfOk result (IsTakenAt response (in_prefix prefix.now) (schema_of member.entry)) }
+    ensures { TakesPrefix prefix.now (schema_of member.entry) result }
 {
     let own = Text::from_str(alloc, name_in(member))?;
     let prefix = Text::from_str(alloc, prefix)?;
@@ -121,7 +120,7 @@ fn is_raw(member: SchemaRef<'_>) -> bool
 
 // Whether the values of a header have nothing for the member, the first one beside the others.
 fn has_nothing(member: SchemaRef<'_>, first: &[u8], values: GetAllBytes<'_>) -> bool
-    ensures { result ≡ (not (is_plain_text_told (schema_of member.entry)) && are_empty_told (first.now ∷ values.entry)) }
+    ensures { result ≡ has_nothing_told (schema_of member.entry) (first.now ∷ values.entry) }
 {
     !is_plain_text(member) && first.is_empty() && are_empty(values)
 }

@@ -1,10 +1,10 @@
 // The part of a response that needs no reader of its body: what its status, headers and bytes hand out.
-ghost use Rattle.std.specs.Prelude.{◌≡◌, Some, option_map};
+ghost use Rattle.std.specs.Prelude.{◌≡◌, Some};
 ghost use Rattle.std.specs.Option.{option_copied};
 ghost use Rattle.smithy_schema.specs.References.{schema_of};
 ghost use Rattle.smithy_serde.specs.Held as held;
 ghost use Rattle.smithy_serde.specs.ReadCalls.{read_at};
-ghost use Rattle.smithy_response.specs.GivenScalars.{GivesScalar};
+ghost use Rattle.smithy_response.specs.GivenScalars.{GivesScalar, GivesRaw};
 ghost use Rattle.smithy_response.specs.Handed.{has_no_bytes as has_no_bytes_told, has_payload as has_payload_told, has_unbound as has_unbound_told};
 ghost use Rattle.smithy_response.specs.Settling.{skips as skips_told};
 
@@ -47,11 +47,10 @@ impl Transport {
     ghost use Rattle.smithy_schema.specs.References.{schema_of};
     ghost use Rattle.smithy_serde.specs.declared.scalar.Group.TheVariants as group;
     ghost use Rattle.smithy_serde.specs.Held.{IsAnswer};
-    ghost use Rattle.smithy_serde.specs.ReadCalls.{IsIn, scalar_of_read, Reads, OpensAt, NextElement, NextEntry, TellsNull};
+    ghost use Rattle.smithy_serde.specs.ReadCalls.{IsIn, NextElement, NextEntry, TellsNull};
     ghost use Rattle.smithy_response.specs.Handed.{reads_body};
     ghost use Rattle.smithy_response.specs.Routes.{in_header, in_prefix};
-    ghost use Rattle.smithy_response.specs.Settling.{settled_at};
-    ghost use Rattle.smithy_response.specs.Transporting.{transport_at_hand, transport_settled, IsSameResponse, IsSameTurn, NextBound};
+    ghost use Rattle.smithy_response.specs.Transporting.{transport_at_hand, transport_settled, settled_from, ReadsBound, OpensBound, IsSameResponse, IsSameTurn, NextBound};
 
     /// The response from its first member on.
     pub(crate) fn start(&mut self)
@@ -114,7 +113,7 @@ impl Transport {
         schema: SchemaRef<'_>,
         kind: ScalarKind,
     ) -> Result<ReadScalar, SerdeError>
-        ensures { Reads scalar_of_read kind (schema_of schema.entry) (transport_at_hand self.now) (transport_at_hand self.now) result }
+        ensures { ReadsBound self.now kind (schema_of schema.entry) result }
     {
         match &self.member {
             BoundMember::Header(_, header) => header.read(alloc, &self.response, schema, kind),
@@ -135,7 +134,7 @@ impl Transport {
         schema: SchemaRef<'_>,
         group: Group,
     ) -> Result<(), SerdeError>
-        ensures opens { OpensAt group (schema_of schema.entry) (transport_at_hand self.old) (transport_at_hand self.new) result }
+        ensures opens { OpensBound group (schema_of schema.entry) self.old self.new result }
         ensures same { IsSameTurn self.old self.new }
     {
         match &mut self.member {
@@ -213,7 +212,7 @@ impl Transport {
         name: &str,
         refused: SerdeError,
     ) -> Result<(), SerdeError>
-        ensures { IsAnswer (settled_at (in_header name.now) self.now.policy self.now.response member.now refused) result }
+        ensures { IsAnswer (settled_from self.now (in_header name.now) member.now refused) result }
     {
         if matches!(refused, SerdeError::OutOfMemory) {
             return Err(refused);
@@ -232,7 +231,7 @@ impl Transport {
         prefix: &str,
         refused: SerdeError,
     ) -> Result<(), SerdeError>
-        ensures { IsAnswer (settled_at (in_prefix prefix.now) self.now.policy self.now.response member.now refused) result }
+        ensures { IsAnswer (settled_from self.now (in_prefix prefix.now) member.now refused) result }
     {
         if matches!(refused, SerdeError::OutOfMemory) {
             return Err(refused);
@@ -286,7 +285,7 @@ fn read_raw(
     schema: SchemaRef<'_>,
     kind: ScalarKind,
 ) -> Result<ReadScalar, SerdeError>
-    ensures { GivesScalar kind (read_at kind (schema_of schema.entry) (option_map held.raw (option_copied body.entry))) result }
+    ensures { GivesRaw kind (schema_of schema.entry) (option_copied body.entry) result }
 {
     let Some(body) = body else {
         return Err(nothing_at_hand(alloc));

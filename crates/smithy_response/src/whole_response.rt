@@ -50,7 +50,8 @@ pub fn read_members<D: ShapeDeserializer + Drop, M: MemberConsumer>(
     consumer: &mut M,
 ) -> Result<(), SerdeError>
     requires { (D.at_hand body).opened ≡ [] }
-    ensures handed { let listed = handed_with (schema_of schema.entry) response.now is_error policy (D.at_hand body).held in
+    ensures handed { let node = schema_of schema.entry in
+        let listed = handed_with node response.now is_error policy (D.at_hand body).held in
         AllHanded (at_members M.takes) group.Structure listed consumer.old consumer.new result }
     ensures kept { M.keeps consumer.old consumer.new }
 {
