@@ -59,9 +59,8 @@ pub fn error_of_code(
     let operation = registry_of(alloc, table, error.operation.as_slice())?;
     let service = registry_of(alloc, table, error.service.as_slice())?;
     let errors = operation.or(&service);
-    Ok(
-        errors
-            .entry_for_error_code(error.code)
-            .map(|entry| entry.schema()),
-    )
+    match errors.entry_for_error_code(error.code) {
+        Some(entry) => Ok(Some(entry.schema())),
+        None => Ok(None),
+    }
 }

@@ -13,7 +13,7 @@ pub trait Sends {
     ghost use Rattle.smithy_schema.specs.References.{schema_of};
     ghost use Rattle.smithy_serde.specs.StructValues.{members_of};
     ghost use Rattle.smithy_job.specs.Jobs as jobs;
-    ghost use Rattle.smithy_bind.specs.Outcome.{Outcome};
+    ghost use Rattle.smithy_bind.specs.Told.{Outcome};
     ghost use Rattle.smithy_bind.specs.AnswerView.{Gives, job_of};
 
     /// It can send.

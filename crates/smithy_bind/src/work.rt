@@ -8,7 +8,7 @@ use std::alloc::Global;
 pub trait Work {
     ghost use Rattle.serde_json.specs.Data.{Data};
     ghost use Rattle.serde_json.specs.View.{view};
-    ghost use Rattle.smithy_bind.specs.Outcome.{Outcome};
+    ghost use Rattle.smithy_bind.specs.Told.{Outcome};
     ghost use Rattle.smithy_bind.specs.AnswerView.{Gives};
 
     /// It can be done.
