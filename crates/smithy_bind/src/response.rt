@@ -126,7 +126,7 @@ impl Reading<'_> {
                 let name = schema.shape_id().as_str();
                 Ok(Answer::Output(behind_name(alloc, name, text.as_slice())?))
             }
-            fault => Ok(fault),
+            Answer::Fault(line) => Ok(Answer::Fault(line)),
         }
     }
 }

@@ -27,8 +27,8 @@ pub fn told(alloc: Global, made: Result<Request, SerdeError>) -> Result<Answer, 
 pub fn refused(alloc: Global, refusal: &SerdeError) -> Result<Answer, JobError>
     ensures { TellsRefusal refusal.now result }
 {
-    match refusal {
-        SerdeError::OutOfMemory => Err(JobError::OutOfMemory),
-        _ => Ok(Answer::Fault(refusal_line(alloc, refusal)?)),
+    if let SerdeError::OutOfMemory = refusal {
+        return Err(JobError::OutOfMemory);
     }
+    Ok(Answer::Fault(refusal_line(alloc, refusal)?))
 }
