@@ -41,7 +41,7 @@ use Rattle.smithy_bind.specs.Told.{Outcome, no_job, fault_line, output, outcome_
 
 -- a document's text and the end of the line
 pub document_shown : (v : Value) (text : Document → List ℕ) (bytes line : List ℕ) → IsTextOf text v bytes → text ≡ json_text → line ≡ bytes ++ codes "\n" → output line ≡ shown_document (document_of v)
-document_shown v text bytes line is same at = rw (at, is.1.1, is.1.0, same) refl
+document_shown v text bytes line is same at = rw (at, is.2, is.1, same) refl
 
 -- the line of the first rule of documents that is broken
 pub document_refused : (r : Result Document DocumentFault) (e : SerdeError) (result : Result Answer JobError) → IsFaultRefusal (result_err r) e → TellsRefusal e result → Gives (shown_document r) result

@@ -2,18 +2,22 @@
 ghost use Rattle.std.specs.Prelude.{◌≡◌, ◌++◌, codes, IfOk, IfErr};
 ghost use Rattle.smithy_serde.specs.DocumentOf.{document_fault, document_of};
 ghost use Rattle.smithy_serde.specs.Finishing.{IsReady, IsTextOf};
+ghost use Rattle.smithy_serde.specs.ReadCalls.{Begins};
 ghost use Rattle.smithy_serde.specs.Refusing.{IsFaultRefusal};
 ghost use Rattle.smithy_serde.specs.ValueReading.{structure_of};
+ghost use Rattle.smithy_document.specs.JsonHeld.{json_held};
+ghost use Rattle.smithy_document.specs.JsonText.{json_text};
 ghost use Rattle.smithy_bind.specs.AnswerView.{Gives};
 ghost use Rattle.smithy_bind.specs.Responding.{shown_document};
 
 use crate::answer::Answer;
 use crate::told::refused;
-use smithy_document::{JsonCodec, JsonSerializer, json_is_lawful};
+use smithy_document::{JsonCodec, JsonDeserializer, JsonSerializer, json_is_lawful};
 use smithy_model::JobError;
 use smithy_schema::SchemaRef;
 use smithy_serde::{
-    Codec, FinishSerializer, SerdeError, ShapeSerializer, StructValue, write_struct,
+    Codec, FinishSerializer, SerdeError, ShapeDeserializer, ShapeSerializer, StructValue,
+    write_struct,
 };
 use smithy_types::Blob;
 use std::alloc::{AllocError, Global};
@@ -25,6 +29,21 @@ pub fn json_codec() -> JsonCodec
     let codec = JsonCodec;
     json_is_lawful(&codec);
     codec
+}
+
+// A serializer of JSON that was told nothing.
+fn json_serializer(alloc: Global) -> Result<JsonSerializer, SerdeError>
+    ensures ready { IfOk result (λ s. IsReady (⟦<JsonSerializer as ShapeSerializer>⟧.seen s)) }
+    ensures text { IfOk result (λ s. (⟦<JsonSerializer as ShapeSerializer>⟧.seen s).text ≡ json_text) }
+{
+    json_codec().create_serializer(alloc)
+}
+
+/// A reader of JSON over the bytes. It is refused only for memory.
+pub fn json_reader(alloc: Global, bytes: &[u8]) -> Result<JsonDeserializer, SerdeError>
+    ensures { IfOk result (λ d. Begins (json_held bytes.now) (⟦<JsonDeserializer as ShapeDeserializer>⟧.at_hand d)) }
+{
+    json_codec().create_deserializer(alloc, bytes)
 }
 
 // The text of a structure's document.
@@ -60,7 +79,7 @@ pub fn document_told(
 ) -> Result<Answer, JobError>
     ensures { Gives (shown_document (document_of (structure_of value.now))) result }
 {
-    let Ok(serializer) = json_codec().create_serializer(alloc) else {
+    let Ok(serializer) = json_serializer(alloc) else {
         return Err(JobError::OutOfMemory);
     };
     match struct_text(serializer, schema, value) {

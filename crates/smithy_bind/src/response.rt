@@ -8,7 +8,7 @@ ghost use Rattle.smithy_bind.specs.CodedView.{Stand};
 
 use crate::answer::Answer;
 use crate::coded::error_of_code;
-use crate::json_value::{document_told, json_codec};
+use crate::json_value::{document_told, json_reader};
 use crate::told::refused;
 use crate::work::Work;
 use serde_json::Value;
@@ -19,7 +19,7 @@ use smithy_model::JobError;
 use smithy_registry::sanitize_error_code;
 use smithy_response::response_value;
 use smithy_schema::{SchemaIndex, Schemas};
-use smithy_serde::{Codec, SerdeError};
+use smithy_serde::SerdeError;
 use std::alloc::{AllocError, Global};
 
 /// What reads the response of a job: bodies of JSON (AWS restJson1).
@@ -80,7 +80,7 @@ impl Reading<'_> {
         if !checked_output(alloc, schema)? {
             return Err(JobError::NoJob);
         }
-        let Ok(body) = json_codec().create_deserializer(alloc, body_bytes(self.response)) else {
+        let Ok(body) = json_reader(alloc, body_bytes(self.response)) else {
             return Err(JobError::OutOfMemory);
         };
         match response_value(

@@ -48,6 +48,7 @@ impl<P: Sends> Work for Sending<P> {
 
     ghost does = { λ s d. sent_job (P.sends s.protocol) d };
 
+    #[tactic(auto, unfolding(crate::specs::Outcome::sent_job))]
     fn answer(&self, alloc: Global, value: &Value) -> Result<Answer, JobError> {
         let Job {
             table,
