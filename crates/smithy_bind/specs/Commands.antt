@@ -3,14 +3,15 @@ use Rattle.std.specs.Prelude.{ℕ, codes, List, [], ◌∷◌, Bool, true, false
 use Rattle.std.specs.Option.{option_map_or}
 use Rattle.smithy_model.specs.Names.{is}
 use Rattle.smithy_bind.specs.declared.command.Command.{Command}
-use Rattle.smithy_bind.specs.declared.command.Command.TheVariants.{Request, Rpc, Help, Version}
+use Rattle.smithy_bind.specs.declared.command.Command.TheVariants.{Request, Response, Rpc, Help, Version}
 
 abbrev pub command_named : List ℕ → Option Command
 command_named word =
     if is word (codes "request") then Some Request
+    else (if is word (codes "response") then Some Response
     else (if is word (codes "rpc") then Some Rpc
     else (if is word (codes "--help") then Some Help
-    else (if is word (codes "--version") then Some Version else None)))
+    else (if is word (codes "--version") then Some Version else None))))
 
 -- the command that the words are, one word each
 abbrev pub command_of : List (List ℕ) → Option Command
@@ -20,6 +21,7 @@ command_of _ = None
 -- the command reads its input
 abbrev pub reads_input : Command → Bool
 reads_input Request = true
+reads_input Response = true
 reads_input Rpc = true
 reads_input _ = false
 
