@@ -16,6 +16,7 @@ use Rattle.smithy_model.specs.Json.{json_of}
 use Rattle.smithy_job.specs.Jobs.{Job, job}
 use Rattle.smithy_bind.specs.Shown.{shown, line_of}
 use Rattle.smithy_bind.specs.Commands.{command_of}
+use Rattle.smithy_bind.specs.Generating.{generated, summary}
 use Rattle.smithy_bind.specs.Texts.{help_text, version_text}
 use Rattle.smithy_bind.specs.declared.command.Command as commands
 use Rattle.smithy_bind.specs.declared.command.Command.TheVariants as command
@@ -63,10 +64,16 @@ called protocol j = sent_whole protocol (writes_of j.writes) j.endpoint j.omit
 unfoldable pub rpc_requested : Protocol → List ℕ → Outcome
 rpc_requested protocol bytes = outcome_of (called protocol) (option_and_then job (json_of bytes))
 
+-- four lines on the request, or the first fault
+abbrev pub summed : Result Request Fault → Outcome
+summed (Ok r) = output (summary r)
+summed (Err f) = fault_line (line_of f)
+
 abbrev pub outcome_by : Option commands.Command → List ℕ → Outcome
 outcome_by None bytes = usage
 outcome_by (Some command.Request) bytes = requested (json_bodies json_text) bytes
 outcome_by (Some command.Rpc) bytes = rpc_requested (json_bodies json_text) bytes
+outcome_by (Some (command.Generate n)) bytes = summed (generated (json_bodies json_text) n)
 outcome_by (Some command.Help) bytes = output help_text
 outcome_by (Some command.Version) bytes = output version_text
 

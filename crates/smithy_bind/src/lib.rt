@@ -3,6 +3,9 @@
 
 mod answer;
 mod command;
+mod generate;
+mod generated_schema;
+mod generated_writes;
 pub mod laws;
 mod request;
 mod rpc;

@@ -8,6 +8,7 @@ Places inputs of Smithy operations in HTTP requests.
 
 Usage: smithy_bind request < JOB
        smithy_bind rpc < JOB
+       smithy_bind generate N
        smithy_bind --help
        smithy_bind --version
 
@@ -16,6 +17,9 @@ request to standard output: a line of method and target, a line for each
 header, an empty line, and the body. Where the input can't be sent, it writes
 one line that says why.
 `rpc` does the same by AWS JSON 1.0: the whole input is the body.
+`generate` reads nothing: it makes the request of an input of N numbers, N from
+0 to 100000, and writes its target, the number of its headers, the length of
+its body and the sum of the body's bytes, each in a line.
 
 A job has these keys:
   model      a Smithy model as a JSON AST, with its `shapes`
