@@ -11,7 +11,7 @@ ghost use Rattle.smithy_bind.specs.AnswerView.{outcome_view};
 
 use crate::answer::Answer;
 use crate::generated_schema::{INPUT, generated_table};
-use crate::generated_writes::generated_writes;
+use crate::generated_writes::input_writes;
 use crate::shown::line_of;
 use smithy_binding::HttpBindingProtocol;
 use smithy_http::Request;
@@ -57,7 +57,7 @@ pub fn generated<C: Codec>(
     ensures { IfOk result (λ a. outcome_view a ≡ summed (generating.generated (protocol_of C.text protocol.now) count)) }
 {
     let table = generated_table(alloc)?;
-    let writes = generated_writes(alloc, count)?;
+    let writes = input_writes(alloc, count)?;
     let Some(schema) = table.get(INPUT) else {
         unreachable!()
     };

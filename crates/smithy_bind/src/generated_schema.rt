@@ -1,6 +1,6 @@
 // The schema of the command `generate`: the input of an operation `POST /g/{id}`.
-ghost use Rattle.std.specs.Prelude.{◌≡◌, ◌++◌, ◌∷◌, [], OnOk, OnErr, IfOk, Some};
-ghost use Rattle.smithy_schema.specs.Nodes.{Table};
+ghost use Rattle.std.specs.Prelude.{◌≡◌, ◌++◌, ◌∷◌, [], codes, OnOk, IfOk, Some};
+ghost use Rattle.smithy_ids.specs.ShapeIdParts.{parts_of};
 ghost use Rattle.smithy_bind.specs.Generating as generating;
 
 use smithy_ids::{HttpTrait, ShapeId, ShapeType};
@@ -23,7 +23,9 @@ pub const INPUT: SchemaIndex = SchemaIndex(5);
 
 const MEMBERS: [SchemaIndex; 3] = [ID, ITEMS, TAGS];
 
-fn input_id() -> ShapeId<'static> {
+fn input_id() -> ShapeId<'static>
+    ensures { (parts_of result).full_name ≡ codes "ex#GenerateInput" }
+{
     ShapeId::from_parts("ex#GenerateInput", "ex", "GenerateInput")
 }
 

@@ -52,7 +52,7 @@ fn tags(alloc: Global, count: u32) -> Result<WriteList, OutOfMemory>
 
 /// The writes of an input of so many numbers, over the table of the schema. Takes memory.
 #[tactic(auto, unfolding(smithy_serde::specs::StoredValues::value_in, smithy_serde::specs::StoredValues::IsDefined))]
-pub fn generated_writes(alloc: Global, count: u32) -> Result<WriteList, OutOfMemory>
+pub fn input_writes(alloc: Global, count: u32) -> Result<WriteList, OutOfMemory>
     ensures writes { IfOk result (λ w. list_of (writes_in generating.table w) ≡ generating.input count) }
     ensures defined { IfOk result (λ w. AreDefined generating.table w) }
 {
