@@ -80,7 +80,7 @@ fn summed_struct<C: Codec>(
     summed_input(alloc, protocol, schema, input, count)
 }
 
-#[tactic(auto, unfolding(crate::specs::Generating::generated))]
+#[tactic(auto, using(crate::proofs::GeneratedSchema::generated_is_checked), unfolding(crate::specs::Generating::generated))]
 fn summed_input<C: Codec>(
     alloc: Global,
     protocol: &HttpBindingProtocol<C>,
