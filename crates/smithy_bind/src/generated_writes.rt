@@ -1,8 +1,9 @@
 // The writes of the command `generate`.
 ghost use Rattle.std.specs.Prelude.{◌≡◌, ◌+◌, ◌<◌, ◌*◌, ◌%◌, ◌++◌, codes, decimal, map, pos, IfOk};
 ghost use Rattle.std.specs.List.{range_with_len};
-ghost use Rattle.smithy_serde.specs.Values.{list_of, writes_of};
-ghost use Rattle.smithy_serde.specs.StoredValues.{writes_in, AreDefined};
+ghost use Rattle.smithy_schema.specs.Nodes.{Table};
+ghost use Rattle.smithy_serde.specs.Values.{scalar, whole, integer, list_of, writes_of};
+ghost use Rattle.smithy_serde.specs.StoredValues.{value_in, writes_in, IsDefined, AreDefined};
 ghost use Rattle.smithy_bind.specs.Generating as generating;
 
 use crate::generated_schema::{ID, ITEMS, NUMBER, TAGS, TEXT};
@@ -18,15 +19,22 @@ fn number_at(count: u32, place: u32) -> i32
     ((place * place + u64::from(count)) % 1000) as i32
 }
 
-// So many numbers.
 #[tactic(auto, unfolding(smithy_serde::specs::StoredValues::value_in, smithy_serde::specs::StoredValues::IsDefined))]
+fn number_value(count: u32, place: u32) -> ShapeValue
+    ensures value { (t : Table) → value_in t result ≡ scalar (whole integer (pos (generating.number count place))) }
+    ensures defined { (t : Table) → IsDefined t result }
+{
+    ShapeValue::Integer(number_at(count, place))
+}
+
+// So many numbers.
 fn numbers(alloc: Global, count: u32) -> Result<WriteList, OutOfMemory>
     ensures writes { IfOk result (λ w. writes_in generating.table w ≡ writes_of (map (generating.number_write count) (range_with_len 0 count))) }
     ensures defined { IfOk result (λ w. AreDefined generating.table w) }
 {
     let mut writes = WriteList::new(alloc);
     for place in 0..count {
-        writes.push(NUMBER, ShapeValue::Integer(number_at(count, place)))?;
+        writes.push(NUMBER, number_value(count, place))?;
     }
     Ok(writes)
 }

@@ -1,4 +1,4 @@
-use Rattle.std.proofs.Common.{◌≡◌, ◌∙◌, ap, sym, map, arith}
+use Rattle.std.proofs.Common.{◌≡◌, refl, ◌∙◌, ap, sym, map, arith}
 use Rattle.std.specs.List.{range_with_len}
 use Rattle.std.proofs.lemmas.List.FromFn.{map-range_with_len_more}
 use Rattle.smithy_serde.specs.Values.{scalar, text, writes_of}
@@ -20,5 +20,5 @@ loop-place-preserved c =
           ∙ ap (λ t. appended (writes_of before) (one_write (label_at table 1) (scalar (text t)))) c.in_ok-tag.ensures
           ∙ sym (writes_more before (tag_write k))
           ∙ ap writes_of (sym (map-range_with_len_more tag_write 0 k k (omega arith)));
-      defined = c.in_ok-push.ensures.ok_defined table c.loop-place.invariant.defined tt tt;
+      defined = c.in_ok-push.ensures.ok_defined table c.loop-place.invariant.defined refl tt;
     }
