@@ -75,8 +75,11 @@ kept = record { content_type = false; content_length = false }
 unfoldable pub generated : Protocol → ℕ → Result Request Fault
 generated protocol n = answer protocol (schema_at input_node) (input n) [] kept
 
--- the target, the number of headers, the length of the body and the sum of its bytes, each in a line
+-- a target, a number of headers, the length of a body and the sum of its bytes, each in a line
+abbrev pub lines : List ℕ → ℕ → ℕ → ℕ → List ℕ
+lines target headers length sum =
+    codes "target " ++ (target ++ (codes "\nheaders " ++ (decimal headers ++ (codes "\nbody " ++ (decimal length ++ (codes "\nsum " ++ (decimal sum ++ codes "\n")))))))
+
+-- these lines of a request
 unfoldable pub summary : Request → List ℕ
-summary r =
-    codes "target " ++ r.target ++ codes "\nheaders " ++ decimal (length r.headers)
-    ++ codes "\nbody " ++ decimal (length r.body) ++ codes "\nsum " ++ decimal (sum r.body) ++ codes "\n"
+summary r = lines r.target (length r.headers) (length r.body) (sum r.body)
