@@ -18,6 +18,7 @@ use Rattle.smithy_bind.specs.Shown.{shown, line_of}
 use Rattle.smithy_bind.specs.Commands.{command_of}
 use Rattle.smithy_bind.specs.Told.{Outcome, usage, no_job, fault_line, output, outcome_of, by_json}
 use Rattle.smithy_bind.specs.Responding.{responded}
+use Rattle.smithy_bind.specs.Generating.{generated, summary}
 use Rattle.smithy_bind.specs.Texts.{help_text, version_text}
 use Rattle.smithy_bind.specs.declared.command.Command as commands
 use Rattle.smithy_bind.specs.declared.command.Command.TheVariants as command
@@ -58,11 +59,21 @@ called protocol j = sent_whole protocol (writes_of j.writes) j.endpoint j.omit
 abbrev pub rpc_requested : Protocol → List ℕ → Outcome
 rpc_requested protocol = by_json (sent_job (called protocol))
 
+-- four lines on the request, or the first fault
+abbrev pub summed : Result Request Fault → Outcome
+summed (Ok r) = output (summary r)
+summed (Err f) = fault_line (line_of f)
+
+-- the answer to a count, by a protocol
+abbrev pub generated_by : Protocol → ℕ → Outcome
+generated_by protocol n = summed (generated protocol n)
+
 abbrev pub outcome_by : Option commands.Command → List ℕ → Outcome
 outcome_by None bytes = usage
 outcome_by (Some command.Request) bytes = requested (json_bodies json_text) bytes
 outcome_by (Some command.Response) bytes = responded bytes
 outcome_by (Some command.Rpc) bytes = rpc_requested (json_bodies json_text) bytes
+outcome_by (Some (command.Generate n)) bytes = generated_by (json_bodies json_text) n
 outcome_by (Some command.Help) bytes = output help_text
 outcome_by (Some command.Version) bytes = output version_text
 

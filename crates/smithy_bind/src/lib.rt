@@ -4,6 +4,9 @@
 mod answer;
 mod coded;
 mod command;
+mod generate;
+mod generated_schema;
+mod generated_writes;
 mod json_value;
 pub mod laws;
 mod request;

@@ -9,6 +9,7 @@ Places inputs of Smithy operations in HTTP requests, and reads responses.
 Usage: smithy_bind request < JOB
        smithy_bind rpc < JOB
        smithy_bind response < JOB
+       smithy_bind generate N
        smithy_bind --help
        smithy_bind --version
 
@@ -20,6 +21,9 @@ one line that says why.
 `response` reads a job with a response, and writes the value of the
 operation's output, or of an error, as one line of JSON. Where the response
 can't be read, it writes one line that says why.
+`generate` reads nothing: it makes the request of an input of N numbers, N from
+0 to 100000, and writes its target, the number of its headers, the length of
+its body and the sum of the body's bytes, each in a line.
 
 A job has these keys:
   model      a Smithy model as a JSON AST, with its `shapes`
