@@ -1,5 +1,5 @@
 -- Documents, read by what is registered for their discriminators.
-use Rattle.std.specs.Prelude.{◌≡◌, ℕ, Bool, List, codes, Option, Some, None, option_map, IfSome, Result, Ok, Err}
+use Rattle.std.specs.Prelude.{ℕ, Bool, List, codes, Option, Some, None, option_map, IfSome, Result, Ok, Err}
 use Rattle.std.specs.Option.{ok_or}
 use Rattle.smithy_types.specs.Settings.{Discriminated}
 use Rattle.smithy_serde.specs.declared.error.SerdeError.{SerdeError}
