@@ -15,7 +15,7 @@ use std::alloc::Global;
 
 /// What is told of a request that was made or refused: itself as text, or the line of the refusal. Takes memory.
 pub fn told(alloc: Global, made: Result<Request, SerdeError>) -> Result<Answer, JobError>
-    ensures { (answer : Result Sent Fault) → Answers made.entry answer → Gives (outcome_told answer) result }
+    ensures { (answer : Result Sent Fault) → Answers made answer → Gives (outcome_told answer) result }
 {
     match made {
         Ok(request) => Ok(Answer::Output(shown(alloc, &request)?)),
