@@ -1,5 +1,5 @@
 -- Where no member is bound, the body's reader hands out what the response does.
-use Rattle.std.proofs.Common.{◌≡◌, inl, inr, ◌⊎◌, ℕ, suc, zero, Bool, true, false, List, [], ◌∷◌, ◌++◌, filter, map, flat_map, filter_map, Option, Some, None, Result, Ok, Err, refl, sym, ap, subst, ◌∙◌, ◌||◌, ◌&&◌}
+use Rattle.std.proofs.Common.{◌≡◌, inl, inr, ℕ, suc, zero, Bool, true, false, List, [], ◌∷◌, ◌++◌, filter, map, flat_map, filter_map, Option, Some, None, Result, Ok, Err, refl, sym, ap, subst, ◌∙◌, ◌||◌, ◌&&◌}
 use Rattle.std.specs.Prelude.{option_and_then, slice_get, not, is_some, MatchResult}
 use Rattle.std.specs.List.{list_any, cons_option}
 use Rattle.smithy_types.specs.Documents.{Document}
@@ -17,7 +17,7 @@ use Rattle.smithy_serde.specs.IndexOrder.{in_order}
 use Rattle.smithy_serde.specs.Listings.{Slot, at_member, at_element, at_key, Listing, as_it_is, contents}
 use Rattle.smithy_serde.specs.ValueRead.{value_read}
 use Rattle.smithy_response.specs.Frames.{plain_contents}
-use Rattle.smithy_response.specs.Routes.{Source, in_body, source_at, source_of, route_at}
+use Rattle.smithy_response.specs.Routes.{in_body, source_at, source_of, route_at}
 use Rattle.smithy_response.specs.Settling.{settled, settled_at}
 use Rattle.smithy_response.specs.Handed.{Ended, with_route, routed, has_unbound, has_payload, reads_body, only_unbound, body_part, handed_items, handed}
 use Rattle.smithy_response.specs.MembersRead.{ArePlaced, PassesMemory, structure_listed}

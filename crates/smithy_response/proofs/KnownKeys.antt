@@ -1,10 +1,29 @@
 -- One more text is known.
-use Rattle.std.proofs.Common.{◌≡◌, refl, ap, ◌∙◌, ℕ, Bool, true, false, ◌||◌, cond, List, [], ◌∷◌, ◌++◌, Option, Some, is_some}
+use Rattle.std.proofs.Common.{◌≡◌, refl, ap, sym, ◌∙◌, subst, ℕ, Bool, true, false, ◌&&◌, ◌||◌, cond, List, [], ◌∷◌, ◌++◌, Option, Some, None, is_some, eq-eqb}
+use Rattle.std.specs.Borrow.{Bor}
+use Rattle.std.specs.Cmp.Lexicographic.{same_text as same_from_test}
 use Rattle.std.specs.List.{list_any}
+use Rattle.std.specs.Option.{option_copied}
 use Rattle.std.specs.Str.{bytes_eq}
 use Rattle.smithy_types.specs.Texts.{same_text, is_one_of}
 use Rattle.smithy_response.specs.PrefixedHeaders.{with_key}
-use Rattle.smithy_binding.proofs.DistinctNames.{same_text-sym}
+
+same_text_self : (text : List ℕ) → same_text text text ≡ true
+same_text_self [] = refl
+same_text_self (b ∷ text) = λ i. eq-eqb b b refl i && same_text_self text i
+
+same_text-sym : (a b : List ℕ) → same_text a b ≡ same_text b a
+same_text-sym a b = go (same_text a b) (same_text b a) refl refl
+  where
+    go : (x y : Bool) → same_text a b ≡ x → same_text b a ≡ y → x ≡ y
+    go true true e f = refl
+    go false false e f = refl
+    go true false e f = let same : a ≡ b = same_from_test a b (sym e) in let t : true ≡ false = sym (same_text_self b) ∙ subst (λ c. same_text b c ≡ false) same f in absurd (cc t)
+    go false true e f = let same : b ≡ a = same_from_test b a (sym f) in let t : true ≡ false = sym (same_text_self a) ∙ subst (λ c. same_text a c ≡ false) same e in absurd (cc t)
+
+pub is_some-copied : {X : Type 0} (o : Option (Bor X)) → is_some (option_copied o) ≡ is_some o
+is_some-copied None = refl
+is_some-copied (Some x) = refl
 
 swap : (a b c : Bool) → (a || (b || c)) ≡ (b || (a || c))
 swap true true c = refl

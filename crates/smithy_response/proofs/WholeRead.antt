@@ -1,5 +1,5 @@
 -- A whole response is read as the value of its members.
-use Rattle.std.proofs.Common.{◌≡◌, ℕ, Bool, true, false, List, [], ◌∷◌, Option, Some, None, inl, inr, Result, Err, refl, sym, ap, subst, ◌∙◌, option_map}
+use Rattle.std.proofs.Common.{◌≡◌, ℕ, Bool, true, false, List, [], ◌∷◌, Option, Some, None, inl, inr, Result, Err, refl, ap, subst, ◌∙◌, option_map}
 use Rattle.std.specs.Prelude.{not}
 use Rattle.smithy_http.specs.declared.non_utf8.NonUtf8HeaderHandling.{NonUtf8HeaderHandling}
 use Rattle.smithy_http.specs.Responses.{Response}
@@ -17,9 +17,8 @@ use Rattle.smithy_serde.specs.ValueReading.{structure_of}
 use Rattle.smithy_serde.proofs.ReadValue.{at_place_table, at_the_place}
 use Rattle.smithy_response.specs.declared.response_reader.ResponseReader.{ResponseReader}
 use Rattle.smithy_response.specs.declared.response_reader.ResponseReader.TheVariants.{BodyOnly, Composite}
-use Rattle.smithy_response.specs.Frames.{composite_at_hand}
 use Rattle.smithy_response.specs.Handed.{handed}
-use Rattle.smithy_response.specs.MembersRead.{ArePlaced, ReadsListed, structure_listed}
+use Rattle.smithy_response.specs.MembersRead.{ArePlaced, ReadsListed}
 use Rattle.smithy_response.specs.ResponseReaders.{is_body_only, reader_at_hand, ReadsWhole, IsReader, chosen_whole}
 use Rattle.smithy_response.specs.WholeResponses.{GivesResponse, handed_with}
 use Rattle.smithy_response.proofs.BodyOnlyItems.{body_passes, body_placed_only, handed_alike, read_alike}
