@@ -27,10 +27,14 @@ use Rattle.smithy_bind.specs.declared.command.Command.TheVariants as command
 abbrev pub json_bodies : (Document → List ℕ) → Protocol
 json_bodies text_of = record { content_type = codes "application/json"; text_of = text_of }
 
+-- a request as it is shown, or the line of the first fault
+abbrev pub told_by : (Request → List ℕ) → Result Request Fault → Outcome
+told_by show (Ok r) = output (show r)
+told_by show (Err f) = fault_line (line_of f)
+
 -- the request, or the first fault
 abbrev pub told : Result Request Fault → Outcome
-told (Ok r) = output (shown r)
-told (Err f) = fault_line (line_of f)
+told answer = told_by shown answer
 
 -- the answer to writes, by a protocol and a schema
 abbrev pub sent : Protocol → Schema → List Write → List ℕ → OmitFlags → Outcome
@@ -61,8 +65,7 @@ rpc_requested protocol = by_json (sent_job (called protocol))
 
 -- four lines on the request, or the first fault
 abbrev pub summed : Result Request Fault → Outcome
-summed (Ok r) = output (summary r)
-summed (Err f) = fault_line (line_of f)
+summed answer = told_by summary answer
 
 -- the answer to a count, by a protocol
 abbrev pub generated_by : Protocol → ℕ → Outcome

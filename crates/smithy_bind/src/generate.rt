@@ -7,17 +7,17 @@ ghost use Rattle.smithy_serde.specs.StructValues.{members_of};
 ghost use Rattle.smithy_binding.specs.Protocols.{codec_of, protocol_of};
 ghost use Rattle.smithy_bind.specs.Generating as generating;
 ghost use Rattle.smithy_bind.specs.Outcome.{generated_by};
-ghost use Rattle.smithy_bind.specs.AnswerView.{outcome_view};
+ghost use Rattle.smithy_bind.specs.AnswerView.{Gives};
 
 use crate::answer::Answer;
 use crate::generated_schema::{INPUT, generated_table};
 use crate::generated_writes::input_writes;
-use crate::shown::line_of;
+use crate::told::refused;
 use smithy_binding::HttpBindingProtocol;
 use smithy_http::Request;
+use smithy_model::JobError;
 use smithy_schema::SchemaRef;
-use smithy_serde::{Codec, OmitFlags, SerdeError, SerializableStruct, StructValue};
-use smithy_types::OutOfMemory;
+use smithy_serde::{Codec, OmitFlags, SerializableStruct, StructValue};
 use std::alloc::{AllocError, Global};
 
 // The sum of bytes. A `u128` holds that of any bytes that a slice can have.
@@ -53,9 +53,9 @@ pub fn generated<C: Codec>(
     alloc: Global,
     protocol: &HttpBindingProtocol<C>,
     count: u32,
-) -> Result<Answer, OutOfMemory>
+) -> Result<Answer, JobError>
     requires { C.lawful (codec_of protocol.now) }
-    ensures { IfOk result (λ a. outcome_view a ≡ generated_by (protocol_of C.text protocol.now) count) }
+    ensures { Gives (generated_by (protocol_of C.text protocol.now) count) result }
 {
     let table = generated_table(alloc)?;
     let writes = input_writes(alloc, count)?;
@@ -72,11 +72,11 @@ fn summed_struct<C: Codec>(
     schema: SchemaRef<'_>,
     input: &StructValue<'_>,
     count: u32,
-) -> Result<Answer, OutOfMemory>
+) -> Result<Answer, JobError>
     requires lawful { C.lawful (codec_of protocol.now) }
     requires schema { schema_of schema ≡ generating.schema_at generating.input_node }
     requires writes { list_of (members_of input.now) ≡ generating.input count }
-    ensures { IfOk result (λ a. outcome_view a ≡ generated_by (protocol_of C.text protocol.now) count) }
+    ensures { Gives (generated_by (protocol_of C.text protocol.now) count) result }
 {
     summed_input(alloc, protocol, schema, input, count)
 }
@@ -88,15 +88,14 @@ fn summed_input<C: Codec>(
     schema: SchemaRef<'_>,
     input: &dyn SerializableStruct,
     count: u32,
-) -> Result<Answer, OutOfMemory>
+) -> Result<Answer, JobError>
     requires lawful { C.lawful (codec_of protocol.now) }
     requires schema { schema_of schema ≡ generating.schema_at generating.input_node }
     requires writes { list_of (writes input.now) ≡ generating.input count }
-    ensures { IfOk result (λ a. outcome_view a ≡ generated_by (protocol_of C.text protocol.now) count) }
+    ensures { Gives (generated_by (protocol_of C.text protocol.now) count) result }
 {
     match protocol.serialize_request(alloc, input, schema, "", OmitFlags::KEEP_ALL) {
         Ok(request) => Ok(Answer::Output(summary(alloc, &request)?)),
-        Err(SerdeError::OutOfMemory) => Err(OutOfMemory),
-        Err(refusal) => Ok(Answer::Fault(line_of(alloc, &refusal)?)),
+        Err(refusal) => refused(alloc, &refusal),
     }
 }
