@@ -1,4 +1,5 @@
-"""Prints what one request takes: the difference of two lists of callgrind_annotate, divided by the number of requests between them."""
+"""Prints what one request takes, or one of what the last word names: the difference of two lists of callgrind_annotate, divided by
+the number of these between them."""
 import collections
 import re
 import sys
@@ -25,7 +26,8 @@ def taken(path):
 
 sample, times = sys.argv[1], int(sys.argv[2])
 (few, all_few), (many, all_many) = taken(sys.argv[3]), taken(sys.argv[4])
-print(f"{sample.strip()}: {(all_many - all_few) / times:,.0f} instructions a request")
+unit = sys.argv[5] if len(sys.argv) > 5 else "request"
+print(f"{sample.strip()}: {(all_many - all_few) / times:,.0f} instructions a {unit}")
 each = {name: (many[name] - few[name]) / times for name in many}
 for name in sorted(each, key=each.get, reverse=True)[:30]:
     if each[name] >= 1:

@@ -97,7 +97,7 @@ fn member(name: &'static str, index: usize) -> Schema<'static> {
     Schema::new_member(shape(), ShapeType::String, name, index)
 }
 
-fn reader_over(rt: &impl Abort, alloc: Global, text: &str) -> JsonDeserializer {
+pub(crate) fn reader_over(rt: &impl Abort, alloc: Global, text: &str) -> JsonDeserializer {
     JsonCodec
         .create_deserializer(alloc, text.as_bytes())
         .expect(rt, "no reader")

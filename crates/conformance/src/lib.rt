@@ -8,6 +8,8 @@ mod consumers;
 #[cfg(test)]
 mod jobs;
 #[cfg(test)]
+mod readings;
+#[cfg(test)]
 mod skipping;
 pub mod spaced_json;
 #[cfg(test)]

@@ -12,10 +12,13 @@ use Rattle.smithy_binding.specs.Faults.{Fault}
 use Rattle.smithy_binding.specs.Checked.{checked_input}
 use Rattle.smithy_types.specs.Documents.{Document}
 use Rattle.smithy_document.specs.JsonText.{json_text}
-use Rattle.smithy_model.specs.Json.{json_of}
+use Rattle.serde_json.specs.Data.{Data}
 use Rattle.smithy_job.specs.Jobs.{Job, job}
 use Rattle.smithy_bind.specs.Shown.{shown, line_of}
 use Rattle.smithy_bind.specs.Commands.{command_of}
+use Rattle.smithy_bind.specs.Told.{Outcome, usage, no_job, fault_line, output, outcome_of, by_json}
+use Rattle.smithy_bind.specs.Responding.{responded}
+use Rattle.smithy_bind.specs.Generating.{generated, summary}
 use Rattle.smithy_bind.specs.Texts.{help_text, version_text}
 use Rattle.smithy_bind.specs.declared.command.Command as commands
 use Rattle.smithy_bind.specs.declared.command.Command.TheVariants as command
@@ -24,16 +27,14 @@ use Rattle.smithy_bind.specs.declared.command.Command.TheVariants as command
 abbrev pub json_bodies : (Document → List ℕ) → Protocol
 json_bodies text_of = record { content_type = codes "application/json"; text_of = text_of }
 
-pub data Outcome : Type 0 where
-  usage : Outcome
-  no_job : Outcome
-  fault_line : List ℕ → Outcome
-  output : List ℕ → Outcome
+-- a request as it is shown, or the line of the first fault
+abbrev pub told_by : (Request → List ℕ) → Result Request Fault → Outcome
+told_by show (Ok r) = output (show r)
+told_by show (Err f) = fault_line (line_of f)
 
 -- the request, or the first fault
 abbrev pub told : Result Request Fault → Outcome
-told (Ok r) = output (shown r)
-told (Err f) = fault_line (line_of f)
+told answer = told_by shown answer
 
 -- the answer to writes, by a protocol and a schema
 abbrev pub sent : Protocol → Schema → List Write → List ℕ → OmitFlags → Outcome
@@ -43,14 +44,13 @@ sent protocol schema ws endpoint omit = told (answer protocol schema ws endpoint
 unfoldable pub answered : Protocol → Job → Outcome
 answered protocol j = if checked_input j.schema then sent protocol j.schema j.writes j.endpoint j.omit else no_job
 
--- what is answered to a job, where there is one
-abbrev pub outcome_of : {J : Type 0} → (J → Outcome) → Option J → Outcome
-outcome_of answer None = no_job
-outcome_of answer (Some j) = answer j
+-- the answer to the job that a JSON value is
+unfoldable pub sent_job : (Job → Outcome) → Data → Outcome
+sent_job answer d = outcome_of answer (job d)
 
 -- the answer to the bytes of a job, by a protocol
-unfoldable pub requested : Protocol → List ℕ → Outcome
-requested protocol bytes = outcome_of (answered protocol) (option_and_then job (json_of bytes))
+abbrev pub requested : Protocol → List ℕ → Outcome
+requested protocol = by_json (sent_job (answered protocol))
 
 -- the answer to writes that are posted whole, by a protocol
 abbrev pub sent_whole : Protocol → Writes → List ℕ → OmitFlags → Outcome
@@ -60,13 +60,23 @@ sent_whole protocol ws endpoint omit = told (rpc_answer protocol ws endpoint (om
 unfoldable pub called : Protocol → Job → Outcome
 called protocol j = sent_whole protocol (writes_of j.writes) j.endpoint j.omit
 
-unfoldable pub rpc_requested : Protocol → List ℕ → Outcome
-rpc_requested protocol bytes = outcome_of (called protocol) (option_and_then job (json_of bytes))
+abbrev pub rpc_requested : Protocol → List ℕ → Outcome
+rpc_requested protocol = by_json (sent_job (called protocol))
+
+-- four lines on the request, or the first fault
+abbrev pub summed : Result Request Fault → Outcome
+summed answer = told_by summary answer
+
+-- the answer to a count, by a protocol
+abbrev pub generated_by : Protocol → ℕ → Outcome
+generated_by protocol n = summed (generated protocol n)
 
 abbrev pub outcome_by : Option commands.Command → List ℕ → Outcome
 outcome_by None bytes = usage
 outcome_by (Some command.Request) bytes = requested (json_bodies json_text) bytes
+outcome_by (Some command.Response) bytes = responded bytes
 outcome_by (Some command.Rpc) bytes = rpc_requested (json_bodies json_text) bytes
+outcome_by (Some (command.Generate n)) bytes = generated_by (json_bodies json_text) n
 outcome_by (Some command.Help) bytes = output help_text
 outcome_by (Some command.Version) bytes = output version_text
 

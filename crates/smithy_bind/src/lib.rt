@@ -2,12 +2,20 @@
 #![tactic(auto)]
 
 mod answer;
+mod coded;
 mod command;
+mod generate;
+mod generated_schema;
+mod generated_writes;
+mod json_value;
 pub mod laws;
 mod request;
+mod response;
 mod rpc;
+mod sending;
 mod shown;
 mod texts;
+mod told;
 mod top_call;
 mod work;
 

@@ -4,10 +4,12 @@ ghost use Rattle.smithy_bind.specs.Texts.{help_text, version_text};
 
 /// What `--help` writes.
 pub const HELP: &str = "\
-Places inputs of Smithy operations in HTTP requests.
+Places inputs of Smithy operations in HTTP requests, and reads responses.
 
 Usage: smithy_bind request < JOB
        smithy_bind rpc < JOB
+       smithy_bind response < JOB
+       smithy_bind generate N
        smithy_bind --help
        smithy_bind --version
 
@@ -16,10 +18,17 @@ request to standard output: a line of method and target, a line for each
 header, an empty line, and the body. Where the input can't be sent, it writes
 one line that says why.
 `rpc` does the same by AWS JSON 1.0: the whole input is the body.
+`response` reads a job with a response, and writes the value of the
+operation's output, or of an error, as one line of JSON. Where the response
+can't be read, it writes one line that says why.
+`generate` reads nothing: it makes the request of an input of N numbers, N from
+0 to 100000, and writes its target, the number of its headers, the length of
+its body and the sum of the body's bytes, each in a line.
 
 A job has these keys:
   model      a Smithy model as a JSON AST, with its `shapes`
   operation  the full name of an operation of the model
+A job of `request` or `rpc` has also:
   input      an object from names of members to values, written in byte order
              of the names; or an array of pairs of a name and a value,
              written in this order
@@ -27,19 +36,34 @@ A job has these keys:
              smithy.api#http; of `rpc` the target
   omit       optional, an object: with `contentType` or `contentLength` true,
              that default header is left out
+A job of `response` has also:
+  response   an object: `status`, from 100 to 999; `headers`, an array of
+             pairs of a name and a value; `body`. Values and the body are
+             texts, or objects with the text `base64`. The headers may be left
+             out; without a body, or with null, it isn't buffered
+  error      optional, the full name of one of the operation's errors: the
+             response is that error
+  code       optional, a text, not beside `error`: the response is the error
+             of this code, and its full name is written on a line before it
+  serviceErrors
+             optional, an array of full names, not beside `error`: further
+             errors, in which a code is looked for behind the operation's
+  policy     optional, `reject` or `skip`: whether a header that isn't UTF-8
+             is refused, or its member left out
 Other keys are passed over.
 
-A value has the JSON form of its member's shape: a truth value; a whole
-number, also for a timestamp, in seconds since 1970; a text, in base64 for a
-blob; a whole number or a text for a BigInteger, a text for a BigDecimal; any
-value for a document; an array for a list; an object for a map, a structure or
-a union. A float is no value.
+A value of `input` has the JSON form of its member's shape: a truth value; a
+whole number, also for a timestamp, in seconds since 1970; a text, in base64
+for a blob; a whole number or a text for a BigInteger, a text for a
+BigDecimal; any value for a document; an array for a list; an object for a
+map, a structure or a union. A float is no value.
 
 The exit status is
   0  the output was written
   1  the words are no command
-  2  the input is no job, or a request can't be placed by its schema
-  3  the input can't be sent; the line says why
+  2  the input is no job, or a request can't be placed by its schema, or a
+     response read by it
+  3  the input can't be sent, or the response can't be read; the line says why
   4  reading failed
   5  writing failed
   6  there was not enough memory

@@ -1,22 +1,24 @@
-// What a command does with the bytes of a job.
+// What a command does with a job.
 use crate::answer::Answer;
+use serde_json::Value;
 use smithy_model::JobError;
 use std::alloc::Global;
 
-/// What a command does with the bytes of a job: its meaning is the outcome of the bytes.
+/// What a command does with a job: its meaning is the outcome of each JSON value.
 pub trait Work {
-    ghost use Rattle.std.specs.Prelude.{ℕ, List};
-    ghost use Rattle.smithy_bind.specs.Outcome.{Outcome};
+    ghost use Rattle.serde_json.specs.Data.{Data};
+    ghost use Rattle.serde_json.specs.View.{view};
+    ghost use Rattle.smithy_bind.specs.Told.{Outcome};
     ghost use Rattle.smithy_bind.specs.AnswerView.{Gives};
 
     /// It can be done.
     ghost may: { Self → Type 0 };
 
-    /// The outcome of these bytes.
-    ghost does: { Self → List ℕ → Outcome };
+    /// The outcome of this value.
+    ghost does: { Self → Data → Outcome };
 
-    /// What is to be told of these bytes. Takes memory. No job where they are none, or its schema can't be worked by.
-    fn answer(&self, alloc: Global, bytes: &[u8]) -> Result<Answer, JobError>
+    /// What is to be told of this value. Takes memory. No job where it is none, or its schema can't be worked by.
+    fn answer(&self, alloc: Global, value: &Value) -> Result<Answer, JobError>
         requires { may self.now }
-        ensures { Gives (does self.now bytes.now) result };
+        ensures { Gives (does self.now (view value.now)) result };
 }

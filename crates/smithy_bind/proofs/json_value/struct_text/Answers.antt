@@ -1,0 +1,26 @@
+use Rattle.std.proofs.Common.{rules}
+use Rattle.smithy_schema.specs.References.{schema_of}
+use Rattle.smithy_serde.specs.Values.{label_of}
+use Rattle.smithy_serde.specs.Told.{empty_state}
+use Rattle.smithy_serde.specs.DocumentOf.{document_fault}
+use Rattle.smithy_serde.specs.Refusing.{IsFaultRefusal}
+use Rattle.smithy_serde.specs.ValueReading.{structure_of}
+use Rattle.smithy_serde.proofs.Calls.{one_tells, writes_rule}
+use Rattle.smithy_serde.proofs.FinishingLemmas.{refused_alone}
+use Rattle.smithy_bind.proofs.json_value.struct_text.Goals as goal
+
+pub returns-in_err-write_struct-clause-err : goal.returns-in_err-write_struct-clause-err
+returns-in_err-write_struct-clause-err c =
+    let e = c.in_err-write_struct.field-0.0 in
+    let v = structure_of c.args.value.now in
+    let refused : IsFaultRefusal (document_fault v) e
+    = refused_alone (label_of (schema_of c.args.schema)) v e (writes_rule _ _ _ e (one_tells _ _ _ _ _ c.in_err-write_struct.ensures) c.requires.lawful c.requires.unrefused empty_state c.requires.told) in
+    search rules
+
+-- src/json_value.rt:61:5
+pub finish-requires : goal.finish-requires
+finish-requires c = ?
+
+-- src/json_value.rt:50:1
+pub returns-clause-ok : goal.returns-clause-ok
+returns-clause-ok c = ?

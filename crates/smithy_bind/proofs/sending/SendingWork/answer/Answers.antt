@@ -1,0 +1,13 @@
+use Rattle.std.proofs.Common.{rules}
+use Rattle.serde_json.specs.View.{view}
+use Rattle.smithy_schema.specs.References.{schema_of}
+use Rattle.smithy_serde.specs.StructValues.{members_of}
+use Rattle.smithy_job.specs.Jobs.{job}
+use Rattle.smithy_bind.specs.Outcome.{sent_job}
+use Rattle.smithy_bind.proofs.JobLemmas.{job_sent}
+use Rattle.smithy_bind.proofs.sending.SendingWork.answer.Goals as goal
+
+pub returns : goal.returns
+unfolding sent_job
+returns g c =
+    job_sent (g.P.Sends.sends c.args.self.now.protocol) (job (view c.args.value.now)) c.in_ok-table.field-0 (schema_of c.in-Some.schema) (members_of c.with_writes-input.result) c.send.result c.in_ok-table.ensures c.in-Some.ensures.node (search rules) c.send.ensures

@@ -1,0 +1,89 @@
+// The codec of the bodies, and the values that it writes.
+ghost use Rattle.std.specs.Prelude.{◌≡◌, ◌++◌, codes, IfOk, IfErr};
+ghost use Rattle.smithy_serde.specs.DocumentOf.{document_fault, document_of};
+ghost use Rattle.smithy_serde.specs.Finishing.{IsReady, IsTextOf};
+ghost use Rattle.smithy_serde.specs.ReadCalls.{Begins};
+ghost use Rattle.smithy_serde.specs.Refusing.{IsFaultRefusal};
+ghost use Rattle.smithy_serde.specs.ValueReading.{structure_of};
+ghost use Rattle.smithy_document.specs.JsonHeld.{json_held};
+ghost use Rattle.smithy_document.specs.JsonText.{json_text};
+ghost use Rattle.smithy_bind.specs.AnswerView.{Gives};
+ghost use Rattle.smithy_bind.specs.Responding.{shown_document};
+
+use crate::answer::Answer;
+use crate::told::refused;
+use smithy_document::{JsonCodec, JsonDeserializer, JsonSerializer, json_is_lawful};
+use smithy_model::JobError;
+use smithy_schema::SchemaRef;
+use smithy_serde::{
+    Codec, FinishSerializer, SerdeError, ShapeDeserializer, ShapeSerializer, StructValue,
+    write_struct,
+};
+use smithy_types::Blob;
+use std::alloc::{AllocError, Global};
+
+/// The codec of JSON, which is lawful.
+pub fn json_codec() -> JsonCodec
+    ensures { ⟦<JsonCodec as Codec>⟧.lawful result }
+{
+    let codec = JsonCodec;
+    json_is_lawful(&codec);
+    codec
+}
+
+// A serializer of JSON that was told nothing.
+fn json_serializer(alloc: Global) -> Result<JsonSerializer, SerdeError>
+    ensures ready { IfOk result (λ s. IsReady (⟦<JsonSerializer as ShapeSerializer>⟧.seen s)) }
+    ensures text { IfOk result (λ s. (⟦<JsonSerializer as ShapeSerializer>⟧.seen s).text ≡ json_text) }
+{
+    json_codec().create_serializer(alloc)
+}
+
+/// A reader of JSON over the bytes. It is refused only for memory.
+pub fn json_reader(alloc: Global, bytes: &[u8]) -> Result<JsonDeserializer, SerdeError>
+    ensures { IfOk result (λ d. Begins (json_held bytes.now) (⟦<JsonDeserializer as ShapeDeserializer>⟧.at_hand d)) }
+{
+    json_codec().create_deserializer(alloc, bytes)
+}
+
+// The text of a structure's document.
+fn struct_text(
+    serializer: JsonSerializer,
+    schema: SchemaRef<'_>,
+    value: &StructValue<'_>,
+) -> Result<Blob, SerdeError>
+    requires { IsReady (⟦<JsonSerializer as ShapeSerializer>⟧.seen serializer) }
+    ensures ok { IfOk result (IsTextOf ((⟦<JsonSerializer as ShapeSerializer>⟧.seen serializer).text) (structure_of value.now)) }
+    ensures err { IfErr result (IsFaultRefusal (document_fault (structure_of value.now))) }
+{
+    let mut serializer = serializer;
+    write_struct(&mut serializer, schema, value)?;
+    serializer.finish()
+}
+
+// The bytes, with the end of a line.
+fn line_of_text(alloc: Global, text: &[u8]) -> Result<Vec<u8>, AllocError>
+    ensures { IfOk result (λ v. v.items ≡ text.now ++ codes "\n") }
+{
+    let mut line = Vec::from_slice(alloc, text)?;
+    line.push(b'\n')?;
+    Ok(line)
+}
+
+/// What is told of a structure that was read: the JSON text of its document and the end of the line, or the line of the
+/// first rule of documents that it breaks. Takes memory.
+pub fn document_told(
+    alloc: Global,
+    schema: SchemaRef<'_>,
+    value: &StructValue<'_>,
+) -> Result<Answer, JobError>
+    ensures { Gives (shown_document (document_of (structure_of value.now))) result }
+{
+    let Ok(serializer) = json_serializer(alloc) else {
+        return Err(JobError::OutOfMemory);
+    };
+    match struct_text(serializer, schema, value) {
+        Ok(text) => Ok(Answer::Output(line_of_text(alloc, text.as_slice())?)),
+        Err(refusal) => refused(alloc, &refusal),
+    }
+}

@@ -1,0 +1,152 @@
+// The command `response`: the value of a response.
+ghost use Rattle.std.specs.Prelude.{◌≡◌, ◌++◌, codes, [], unwrap_or, IfOk, string_bytes};
+ghost use Rattle.smithy_serde.specs.StoredValues.{HasNode};
+ghost use Rattle.smithy_model.specs.Nodes.{Errors};
+ghost use Rattle.smithy_job.specs.ReceivedView.{IsCoded};
+ghost use Rattle.smithy_bind.specs.AnswerView.{AnswersBy, AnswersNamed, AnswersFound};
+ghost use Rattle.smithy_bind.specs.CodedView.{Stand};
+
+use crate::answer::Answer;
+use crate::coded::error_of_code;
+use crate::json_value::{document_told, json_reader};
+use crate::told::refused;
+use crate::work::Work;
+use serde_json::Value;
+use smithy_binding::checked_output;
+use smithy_http::{NonUtf8HeaderHandling, Response};
+use smithy_job::{CodedError, Expected, Received, read_received};
+use smithy_model::JobError;
+use smithy_registry::sanitize_error_code;
+use smithy_response::response_value;
+use smithy_schema::{SchemaIndex, Schemas};
+use smithy_serde::SerdeError;
+use std::alloc::{AllocError, Global};
+
+/// What reads the response of a job: bodies of JSON (AWS restJson1).
+#[derive(Clone, Copy)]
+pub struct JsonResponses;
+
+impl Work for JsonResponses {
+    ghost use Rattle.smithy_bind.specs.Responding.{responded_to};
+
+    ghost may = { λ _. Unit {0} };
+
+    ghost does = { λ _ d. responded_to d };
+
+    #[tactic(auto, unfolding(crate::specs::Responding::responded_to))]
+    fn answer(&self, alloc: Global, value: &Value) -> Result<Answer, JobError> {
+        let Received {
+            response,
+            policy,
+            table,
+            expected,
+        } = read_received(alloc, value)?;
+        let reading = Reading {
+            response: &response,
+            policy,
+            table: &table,
+        };
+        match expected {
+            Expected::Output(place) => reading.answer_by(alloc, place, false),
+            Expected::Error(place) => reading.answer_by(alloc, place, true),
+            Expected::Coded(error) => reading.answer_coded(alloc, &error),
+        }
+    }
+}
+
+// A response that is read by a node of a table.
+#[derive(Clone, Copy)]
+struct Reading<'r> {
+    response: &'r Response,
+    policy: NonUtf8HeaderHandling,
+    table: &'r Schemas,
+}
+
+impl Reading<'_> {
+    // What is to be told of the response, read by the node at a place, as an output or as a modelled error.
+    #[tactic(auto, unfolding(crate::specs::Responding::read_by))]
+    fn answer_by(
+        &self,
+        alloc: Global,
+        place: SchemaIndex,
+        is_error: bool,
+    ) -> Result<Answer, JobError>
+        requires { HasNode self.now.table.now place.0 }
+        ensures { AnswersBy self.now.table.now place.0 is_error self.now.response.now self.now.policy result }
+    {
+        let Some(schema) = self.table.get(place) else {
+            unreachable!()
+        };
+        if !checked_output(alloc, schema)? {
+            return Err(JobError::NoJob);
+        }
+        let Ok(body) = json_reader(alloc, body_bytes(self.response)) else {
+            return Err(JobError::OutOfMemory);
+        };
+        match response_value(
+            alloc,
+            body,
+            self.response,
+            self.table,
+            place,
+            is_error,
+            self.policy,
+        ) {
+            Ok(value) => document_told(alloc, schema, &value),
+            Err(refusal) => refused(alloc, &refusal),
+        }
+    }
+
+    // What is to be told of the response as the error of a code.
+    fn answer_coded(&self, alloc: Global, error: &CodedError<'_>) -> Result<Answer, JobError>
+        requires operation { Stand self.now.table.now error.now.operation.items }
+        requires service { Stand self.now.table.now error.now.service.items }
+        ensures { (errors : Errors) → IsCoded self.now.table.now error.now errors →
+            AnswersFound error.now.code.now errors self.now.response.now self.now.policy result }
+    {
+        match error_of_code(alloc, self.table, error)? {
+            Some(place) => self.answer_named(alloc, place),
+            None => {
+                let code = sanitize_error_code(error.code);
+                refused(alloc, &SerdeError::unknown_member(alloc, code))
+            }
+        }
+    }
+
+    // What is to be told of the response as the error at a place, behind its name.
+    fn answer_named(&self, alloc: Global, place: SchemaIndex) -> Result<Answer, JobError>
+        requires { HasNode self.now.table.now place.0 }
+        ensures { AnswersNamed self.now.table.now place.0 self.now.response.now self.now.policy result }
+    {
+        let Some(schema) = self.table.get(place) else {
+            unreachable!()
+        };
+        match self.answer_by(alloc, place, true)? {
+            Answer::Output(text) => {
+                let name = schema.shape_id().as_str();
+                Ok(Answer::Output(behind_name(alloc, name, text.as_slice())?))
+            }
+            Answer::Fault(line) => Ok(Answer::Fault(line)),
+        }
+    }
+}
+
+// The bytes of a body, none where it isn't buffered.
+fn body_bytes(response: &Response) -> &[u8]
+    ensures { result.now ≡ unwrap_or response.now.body [] }
+{
+    match response.body() {
+        Some(bytes) => bytes.as_slice(),
+        None => &[],
+    }
+}
+
+// A text behind a name on a line of its own.
+fn behind_name(alloc: Global, name: &str, text: &[u8]) -> Result<Vec<u8>, AllocError>
+    ensures { IfOk result (λ v. v.items ≡ name.now ++ (codes "\n" ++ text.now)) }
+{
+    let mut whole = Vec::from_slice(alloc, name.as_bytes())?;
+    whole.push(b'\n')?;
+    whole.extend_from_slice(text)?;
+    Ok(whole)
+}
