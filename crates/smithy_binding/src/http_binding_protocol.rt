@@ -22,7 +22,8 @@ pub struct HttpBindingProtocol<C> {
 }
 
 impl<C> HttpBindingProtocol<C> {
-    ghost use Rattle.std.specs.Prelude.{◌≡◌};
+    ghost use Rattle.std.specs.Prelude.{◌≡◌, codes};
+    ghost use Rattle.smithy_ids.specs.ShapeIdParts.{parts_of};
     ghost use Rattle.smithy_binding.specs.Protocols.{protocol_id_of, codec_of, content_type_of};
 
     /// The protocol of this name, whose bodies are the codec's and have this content type. Condition: the content type may
@@ -38,6 +39,16 @@ impl<C> HttpBindingProtocol<C> {
             codec,
             content_type,
         }
+    }
+
+    /// REST with bodies of JSON by this codec, mostly `JsonCodec` (AWS restJson1). Takes no memory.
+    pub fn rest_json(codec: C) -> Self
+        ensures name { (parts_of (protocol_id_of result)).full_name ≡ codes "aws.protocols#restJson1" }
+        ensures codec { codec_of result ≡ codec }
+        ensures content_type { content_type_of result ≡ codes "application/json" }
+    {
+        let id = ShapeId::from_parts("aws.protocols#restJson1", "aws.protocols", "restJson1");
+        HttpBindingProtocol::new(id, codec, "application/json")
     }
 
     /// The name of the protocol. Takes no memory.

@@ -46,7 +46,8 @@ impl<C> Model for HttpRpcProtocol<C> {
 }
 
 impl<C> HttpRpcProtocol<C> {
-    ghost use Rattle.std.specs.Prelude.{IsTrue};
+    ghost use Rattle.std.specs.Prelude.{codes, IsTrue};
+    ghost use Rattle.smithy_ids.specs.ShapeIdParts.{parts_of};
     ghost use Rattle.smithy_types.specs.Grammars.{is_header_value};
 
     /// The protocol of this name, whose bodies are the codec's and have this content type. Condition: the content type may
@@ -60,6 +61,16 @@ impl<C> HttpRpcProtocol<C> {
             codec,
             content_type,
         }
+    }
+
+    /// Calls with bodies of JSON by this codec, mostly `JsonCodec` (AWS JSON 1.0). Takes no memory.
+    pub fn aws_json(codec: C) -> Self
+        ensures name { (parts_of result.protocol_id).full_name ≡ codes "aws.protocols#awsJson1_0" }
+        ensures codec { result.codec ≡ codec }
+        ensures content_type { result.content_type ≡ codes "application/json" }
+    {
+        let id = ShapeId::from_parts("aws.protocols#awsJson1_0", "aws.protocols", "awsJson1_0");
+        HttpRpcProtocol::new(id, codec, "application/json")
     }
 
     /// The name of the protocol. Takes no memory.

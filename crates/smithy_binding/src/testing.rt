@@ -176,8 +176,7 @@ pub(crate) fn structure_of(
 }
 
 pub(crate) fn rest_json() -> HttpBindingProtocol<JsonCodec> {
-    let id = ShapeId::from_parts("test#restJson", "test", "restJson");
-    HttpBindingProtocol::new(id, JsonCodec, "application/json")
+    HttpBindingProtocol::rest_json(JsonCodec)
 }
 
 // Ends the test where no request can be placed by the schema.

@@ -107,7 +107,7 @@ fn default_headers_stand_unless_left_out(rt: HostRuntime) {
 #[test]
 fn a_protocol_has_its_parts(rt: HostRuntime) {
     let protocol = rest_json().with_codec(JsonCodec);
-    assert_eq!(rt; protocol.protocol_id().as_str(), "test#restJson");
+    assert_eq!(rt; protocol.protocol_id().as_str(), "aws.protocols#restJson1");
     assert_eq!(rt; protocol.content_type(), "application/json");
     assert!(rt; protocol.codec().create_serializer(rt.alloc()).is_ok());
 }

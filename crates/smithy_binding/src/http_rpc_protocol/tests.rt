@@ -5,7 +5,7 @@ use crate::testing::{
 };
 use smithy_document::{JsonCodec, json_is_lawful};
 use smithy_http::Request;
-use smithy_ids::{ShapeId, ShapeType};
+use smithy_ids::ShapeType;
 use smithy_schema::Schemas;
 use smithy_serde::{Codec, OmitFlags, SerdeError, StructValue};
 use std::alloc::Global;
@@ -31,8 +31,7 @@ const WRITES: [Write; 2] = [
 const BROKEN: [Write; 1] = [(2, Given::Map(&[One::Text("k")]))];
 
 fn aws_json() -> HttpRpcProtocol<JsonCodec> {
-    let id = ShapeId::from_parts("test#awsJson", "test", "awsJson");
-    HttpRpcProtocol::new(id, JsonCodec, "application/json").with_codec(JsonCodec)
+    HttpRpcProtocol::aws_json(JsonCodec).with_codec(JsonCodec)
 }
 
 // What these writes give, by a structure of those members.
@@ -87,7 +86,7 @@ fn a_whole_input_is_posted(rt: HostRuntime) {
         );
     }
     let protocol = aws_json();
-    assert_eq!(rt; protocol.protocol_id().as_str(), "test#awsJson");
+    assert_eq!(rt; protocol.protocol_id().as_str(), "aws.protocols#awsJson1_0");
     assert_eq!(rt; protocol.content_type(), "application/json");
     assert!(rt; protocol.codec().create_serializer(rt.alloc()).is_ok());
 }
