@@ -2,6 +2,7 @@
 #![tactic(auto)]
 
 mod answer;
+mod answer_bytes;
 mod coded;
 mod command;
 mod generate;
@@ -19,6 +20,7 @@ mod told;
 mod top_call;
 mod work;
 
+pub use answer_bytes::{Ended, answer_bytes};
 pub use command::Command;
 pub use texts::{HELP, VERSION};
 pub use top_call::{Status, run, run_request};

@@ -16,8 +16,6 @@ mod response_protocol;
 mod response_reader;
 mod stage;
 mod taking;
-#[cfg(test)]
-mod tests;
 mod transport;
 mod whole_response;
 
