@@ -1,10 +1,10 @@
-"""Builds the programs that call the proved library from C, Rust and Python, runs each on every example and on jobs at the limits
-of buffers, and compares what it ends with.
+"""Builds the programs that call the proved library from C, Rust and Python, runs each on every example and on jobs at
+the limits of buffers, and compares what it ends with.
 
     python3 bindings/run.py
 
-It needs `rt`, and proves and links the library first, unless SMITHY_BIND_LIB names the folder of libsmithy_bind_c.a. A language
-whose tool is missing is skipped.
+It needs `rt`, and proves and links the library first, unless SMITHY_BIND_LIB names the folder of libsmithy_bind_c.a.
+A language whose tool is missing is skipped.
 """
 
 import collections
@@ -24,7 +24,7 @@ Row = collections.namedtuple("Row", "name command job status text")
 
 
 def examples():
-    """Each example with its stored answer, and the command and the status that it has among the rows of the program job_rows."""
+    """Each example with its stored answer, and the command and the status of it among the rows of job_rows."""
     rows = ROOT / "crates" / "job_rows"
     ends = {}
     with open(rows / "stdin", encoding="utf-8") as given, open(rows / "stdout", encoding="utf-8") as wanted:
@@ -80,7 +80,7 @@ def check(language, program, rows):
 
 
 def archives():
-    """The archive of crates/smithy_bind_c, built anew unless its folder is named, and that of the toolchain's allocator."""
+    """The archive of crates/smithy_bind_c, built unless its folder is named, and that of the allocator."""
     folder, allocator = os.environ.get("SMITHY_BIND_LIB"), os.environ.get("SMITHY_BIND_LIBC")
     if folder is None:
         crate = ROOT / "crates" / "smithy_bind_c"

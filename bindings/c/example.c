@@ -24,7 +24,7 @@ static command *command_named(const char *word)
     return NULL;
 }
 
-/* Writes the text of the command's answer, and gives its status. A text that does not fit is asked for again, with its length. */
+/* Writes the text of the answer, and gives the status. A text that does not fit is asked for again, with its length. */
 static int answer(command *call, const uint8_t *job, size_t job_len)
 {
     int status = SMITHY_BIND_MEMORY;

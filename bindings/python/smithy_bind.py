@@ -39,7 +39,7 @@ class TooLong(Refusal):
 
 
 class Library:
-    """The calls of the shared object at this path. Each takes a job, as bytes or what has a buffer of bytes, and gives bytes."""
+    """The calls of the shared object at a path. Each takes a job, as bytes or what lends bytes, and gives bytes."""
 
     def __init__(self, path):
         library = ctypes.CDLL(path)
@@ -52,7 +52,7 @@ class Library:
         return _answer(self._request, job)
 
     def response(self, job):
-        """The value that a job's response hands out, as a line of JSON."""
+        """The value that a job's response hands out, as JSON."""
         return _answer(self._response, job)
 
     def rpc(self, job):

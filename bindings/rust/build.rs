@@ -3,9 +3,13 @@
 use std::env;
 
 fn main() {
-    let built = format!("{}/../../crates/smithy_bind_c/out", env::var("CARGO_MANIFEST_DIR").unwrap());
+    let built = format!(
+        "{}/../../crates/smithy_bind_c/out",
+        env::var("CARGO_MANIFEST_DIR").unwrap()
+    );
     let archive = env::var("SMITHY_BIND_LIB").unwrap_or(built);
-    let allocator = env::var("SMITHY_BIND_LIBC").expect("SMITHY_BIND_LIBC names no folder with liblibc_c.a");
+    let allocator =
+        env::var("SMITHY_BIND_LIBC").expect("SMITHY_BIND_LIBC names no folder with liblibc_c.a");
     println!("cargo:rerun-if-env-changed=SMITHY_BIND_LIB");
     println!("cargo:rerun-if-env-changed=SMITHY_BIND_LIBC");
     println!("cargo:rerun-if-changed={archive}/libsmithy_bind_c.a");

@@ -19,9 +19,27 @@ use std::fmt;
 type Call = unsafe extern "C" fn(*const u8, usize, *mut u8, usize, *mut usize) -> u8;
 
 extern "C" {
-    fn smithy_bind_request(job: *const u8, job_len: usize, text: *mut u8, text_room: usize, text_len: *mut usize) -> u8;
-    fn smithy_bind_response(job: *const u8, job_len: usize, text: *mut u8, text_room: usize, text_len: *mut usize) -> u8;
-    fn smithy_bind_rpc(job: *const u8, job_len: usize, text: *mut u8, text_room: usize, text_len: *mut usize) -> u8;
+    fn smithy_bind_request(
+        job: *const u8,
+        job_len: usize,
+        text: *mut u8,
+        text_room: usize,
+        text_len: *mut usize,
+    ) -> u8;
+    fn smithy_bind_response(
+        job: *const u8,
+        job_len: usize,
+        text: *mut u8,
+        text_room: usize,
+        text_len: *mut usize,
+    ) -> u8;
+    fn smithy_bind_rpc(
+        job: *const u8,
+        job_len: usize,
+        text: *mut u8,
+        text_room: usize,
+        text_len: *mut usize,
+    ) -> u8;
 }
 
 /// Why there is no output.
@@ -53,7 +71,9 @@ impl fmt::Display for Refusal {
     fn fmt(&self, f: &mut fmt::Formatter<'_>) -> fmt::Result {
         match self {
             Refusal::NoJob => f.write_str("the bytes are no job"),
-            Refusal::Fault(line) => f.write_str(String::from_utf8_lossy(line).trim_end_matches('\n')),
+            Refusal::Fault(line) => {
+                f.write_str(String::from_utf8_lossy(line).trim_end_matches('\n'))
+            }
             Refusal::OutOfMemory => f.write_str("out of memory"),
             Refusal::TooLong => f.write_str("the job has more than 16777216 bytes"),
         }
@@ -67,7 +87,7 @@ pub fn request(job: &[u8]) -> Result<Vec<u8>, Refusal> {
     answer(smithy_bind_request, job)
 }
 
-/// The value that a job's response hands out, as a line of JSON.
+/// The value that a job's response hands out, as JSON.
 pub fn response(job: &[u8]) -> Result<Vec<u8>, Refusal> {
     answer(smithy_bind_response, job)
 }
@@ -84,8 +104,17 @@ fn answer(call: Call, job: &[u8]) -> Result<Vec<u8>, Refusal> {
     let mut text = vec![0; FIRST_ROOM];
     loop {
         let mut len = 0;
-        // SAFETY: the pointers are those of two slices, with their lengths, and of `len`; none of the three lies in another.
-        let status = unsafe { call(job.as_ptr(), job.len(), text.as_mut_ptr(), text.len(), &mut len) };
+        // SAFETY: the pointers are those of two slices, with their lengths, and of `len`; none of the three lies in
+        // another.
+        let status = unsafe {
+            call(
+                job.as_ptr(),
+                job.len(),
+                text.as_mut_ptr(),
+                text.len(),
+                &mut len,
+            )
+        };
         if len <= text.len() {
             text.truncate(len);
             return output(status, text);

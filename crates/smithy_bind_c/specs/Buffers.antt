@@ -7,9 +7,10 @@ use Rattle.smithy_bind.specs.declared.top_call.Status.{Status}
 
 -- a buffer after a text was written to its front, where it fits
 abbrev pub filled : List ℕ → List ℕ → List ℕ
-filled text buffer = if nat_le (length text) (length buffer) then text ++ drop (length text) buffer else buffer
+filled text buffer =
+    if nat_le (length text) (length buffer) then text ++ drop (length text) buffer else buffer
 
--- the command ended so over the job, with this text: the caller has the code of the end, the length of the text, and the buffer
+-- how a command answers a job: its end and its text, and by them the result, the length that is told, and the buffer
 pub record Answers (command : Command) (job : List ℕ) (code len : ℕ) (before after : List ℕ) : Type 0 where
   pub status : Status
   pub text : List ℕ

@@ -7,10 +7,10 @@ ghost use Rattle.smithy_bind_c.specs.Buffers.{Answers, filled};
 use smithy_bind::{Command, answer_bytes};
 use std::alloc::Global;
 
-/// The HTTP request of a job's input by AWS restJson1, or the line of its first fault: the text that the program's command
-/// `request` writes. It answers that command's exit status, and sets `text_len` to the length of the whole text in bytes, 0 at a
-/// status that has none. Where that is at most the buffer's length, the text stands at the buffer's front, and what is behind it
-/// is as before; else the whole buffer is. Takes memory.
+/// The HTTP request of a job's input by AWS restJson1, or the line of its first fault: the text that the program's
+/// command `request` writes. It answers that command's exit status, and sets `text_len` to the length of the whole
+/// text in bytes, 0 at a status that has none. Where that is at most the buffer's length, the text stands at the
+/// buffer's front, and what is behind it is as before; else the whole buffer is. Takes memory.
 #[unsafe(no_mangle)]
 pub extern "C" fn smithy_bind_request(
     alloc: Global,
@@ -23,8 +23,8 @@ pub extern "C" fn smithy_bind_request(
     answer_into(alloc, Command::Request, job, text, text_len)
 }
 
-/// The value that a job's response hands out, as one line of JSON, or the line of its first refusal, as the program's command
-/// `response` writes them. What it answers and leaves is as `smithy_bind_request` says. Takes memory.
+/// The value that a job's response hands out, as JSON, or the line of its first refusal: the text that the program's
+/// command `response` writes. What it answers and leaves is as `smithy_bind_request` says. Takes memory.
 #[unsafe(no_mangle)]
 pub extern "C" fn smithy_bind_response(
     alloc: Global,
@@ -37,8 +37,8 @@ pub extern "C" fn smithy_bind_response(
     answer_into(alloc, Command::Response, job, text, text_len)
 }
 
-/// The HTTP request of a job's input by AWS JSON 1.0, or the line of its first fault, as the program's command `rpc` writes
-/// them. What it answers and leaves is as `smithy_bind_request` says. Takes memory.
+/// The HTTP request of a job's input by AWS JSON 1.0, or the line of its first fault: the text that the program's command `rpc`
+/// writes them. What it answers and leaves is as `smithy_bind_request` says. Takes memory.
 #[unsafe(no_mangle)]
 pub extern "C" fn smithy_bind_rpc(
     alloc: Global,
