@@ -1,0 +1,30 @@
+//! Answers the job on standard input by a command, and ends as the program does: answer request < JOB
+use smithy_bind::{request, response, rpc, Refusal};
+use std::io::{self, Read, Write};
+use std::process::ExitCode;
+
+fn main() -> ExitCode {
+    ExitCode::from(run())
+}
+
+fn run() -> u8 {
+    let answer = match std::env::args().nth(1).as_deref() {
+        Some("request") => request,
+        Some("response") => response,
+        Some("rpc") => rpc,
+        _ => return 1,
+    };
+    let mut job = Vec::new();
+    if io::stdin().read_to_end(&mut job).is_err() {
+        return 4;
+    }
+    let (text, status) = match answer(&job) {
+        Ok(text) => (text, 0),
+        Err(Refusal::Fault(line)) => (line, 3),
+        Err(refusal) => (Vec::new(), refusal.status()),
+    };
+    match io::stdout().write_all(&text) {
+        Ok(()) => status,
+        Err(_) => 5,
+    }
+}

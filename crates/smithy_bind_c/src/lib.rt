@@ -1,0 +1,77 @@
+// The commands of the program for callers in C: from the bytes of a job into a buffer of the caller.
+#![tactic(auto)]
+
+ghost use Rattle.std.specs.Prelude.{◌≡◌};
+ghost use Rattle.smithy_bind_c.specs.Buffers.{Answers, filled};
+
+use smithy_bind::{Command, answer_bytes};
+use std::alloc::Global;
+
+/// The HTTP request of a job's input by AWS restJson1, or the line of its first fault: the text that the program's
+/// command `request` writes. It answers that command's exit status, and sets `text_len` to the length of the whole
+/// text in bytes, 0 at a status that has none. Where that is at most the buffer's length, the text stands at the
+/// buffer's front, and what is behind it is as before; else the whole buffer is. Takes memory.
+#[unsafe(no_mangle)]
+pub extern "C" fn smithy_bind_request(
+    alloc: Global,
+    job: &[u8],
+    text: &mut [u8],
+    text_len: &mut usize,
+) -> u8
+    ensures { Answers Command.Request job.now result text_len.new text.old text.new }
+{
+    answer_into(alloc, Command::Request, job, text, text_len)
+}
+
+/// The value that a job's response hands out, as JSON, or the line of its first refusal: the text that the program's
+/// command `response` writes. What it answers and leaves is as `smithy_bind_request` says. Takes memory.
+#[unsafe(no_mangle)]
+pub extern "C" fn smithy_bind_response(
+    alloc: Global,
+    job: &[u8],
+    text: &mut [u8],
+    text_len: &mut usize,
+) -> u8
+    ensures { Answers Command.Response job.now result text_len.new text.old text.new }
+{
+    answer_into(alloc, Command::Response, job, text, text_len)
+}
+
+/// The HTTP request of a job's input by AWS JSON 1.0, or the line of its first fault: the text that the program's
+/// command `rpc` writes. What it answers and leaves is as `smithy_bind_request` says. Takes memory.
+#[unsafe(no_mangle)]
+pub extern "C" fn smithy_bind_rpc(
+    alloc: Global,
+    job: &[u8],
+    text: &mut [u8],
+    text_len: &mut usize,
+) -> u8
+    ensures { Answers Command.Rpc job.now result text_len.new text.old text.new }
+{
+    answer_into(alloc, Command::Rpc, job, text, text_len)
+}
+
+// Answers the command: the code of its end, the length of its text, and the text where it fits.
+fn answer_into(
+    alloc: Global,
+    command: Command,
+    job: &[u8],
+    text: &mut [u8],
+    text_len: &mut usize,
+) -> u8
+    ensures { Answers command job.now result text_len.new text.old text.new }
+{
+    let ended = answer_bytes(alloc, command, job);
+    *text_len = ended.text.len();
+    fill(text, ended.text.as_slice());
+    ended.status.code()
+}
+
+// Writes the text to the front of the buffer, where it fits.
+fn fill(buffer: &mut [u8], text: &[u8])
+    ensures { buffer.new ≡ filled text.now buffer.old }
+{
+    if text.len() <= buffer.len() {
+        buffer[..text.len()].copy_from_slice(text);
+    }
+}
