@@ -10,6 +10,14 @@ mod jobs;
 #[cfg(test)]
 mod readings;
 #[cfg(test)]
+mod registries;
+#[cfg(test)]
+mod responses;
+#[cfg(test)]
+mod shapes;
+#[cfg(test)]
+mod shown;
+#[cfg(test)]
 mod skipping;
 pub mod spaced_json;
 #[cfg(test)]
