@@ -1,0 +1,5 @@
+pub mod GetObjectSchema
+pub mod JobLemmas
+pub mod LenientTexts
+pub mod MemberLemmas
+pub mod RoundTripLemmas

@@ -1,0 +1,5 @@
+pub mod Answering
+pub mod GetObject
+pub mod LenientText
+pub mod Members
+pub mod RoundTrip

@@ -1,0 +1,17 @@
+// Uses of the library, as a caller writes them: requests made, responses read, errors found, documents kept.
+#![tactic(auto)]
+
+mod documents;
+mod errors;
+mod get_object;
+pub mod lenient_json;
+mod requests;
+mod responses;
+#[cfg(test)]
+mod tests;
+
+pub use documents::{structure_in, through_document};
+pub use errors::{error_place, error_registry};
+pub use get_object::{get_object_request, get_object_table, get_object_writes};
+pub use requests::{job_request, lenient_request, rest_request, rpc_request};
+pub use responses::{output_of, text_named};
