@@ -1,4 +1,4 @@
-use Rattle.std.proofs.Common.{rules}
+use Rattle.std.proofs.Common.{rules, inl}
 use Rattle.smithy_schema.specs.References.{schema_of}
 use Rattle.smithy_serde.specs.Values.{label_of}
 use Rattle.smithy_serde.specs.Told.{empty_state}
@@ -7,6 +7,7 @@ use Rattle.smithy_serde.specs.Refusing.{IsFaultRefusal}
 use Rattle.smithy_serde.specs.ValueReading.{structure_of}
 use Rattle.smithy_serde.proofs.Calls.{one_tells, writes_rule}
 use Rattle.smithy_serde.proofs.FinishingLemmas.{refused_alone}
+use Rattle.smithy_bind.proofs.FinishedTexts.{none_open, text_finished, memory_finished}
 use Rattle.smithy_bind.proofs.json_value.struct_text.Goals as goal
 
 pub returns-in_err-write_struct-clause-err : goal.returns-in_err-write_struct-clause-err
@@ -17,10 +18,13 @@ returns-in_err-write_struct-clause-err c =
     = refused_alone (label_of (schema_of c.args.schema)) v e (writes_rule _ _ _ e (one_tells _ _ _ _ _ c.in_err-write_struct.ensures) c.requires.lawful c.requires.unrefused empty_state c.requires.told) in
     search rules
 
--- src/json_value.rt:61:5
 pub finish-requires : goal.finish-requires
-finish-requires c = ?
+finish-requires c = inl (none_open (label_of (schema_of c.args.schema)) (structure_of c.args.value.now) _ _ _ c.requires c.in_ok-write_struct.ensures)
 
--- src/json_value.rt:50:1
 pub returns-clause-ok : goal.returns-clause-ok
-returns-clause-ok c = ?
+returns-clause-ok c =
+    text_finished (label_of (schema_of c.args.schema)) (structure_of c.args.value.now) _ _ _ c.finish.result c.requires c.in_ok-write_struct.ensures c.finish.ensures
+
+pub returns-clause-err : goal.returns-clause-err
+returns-clause-err c =
+    memory_finished (label_of (schema_of c.args.schema)) (structure_of c.args.value.now) _ _ _ c.finish.result c.requires c.in_ok-write_struct.ensures c.finish.ensures
