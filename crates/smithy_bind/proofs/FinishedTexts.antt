@@ -23,7 +23,7 @@ text_finished l v a b u (Err e) ready told finished = tt
 
 memory_alone : (fault : Option DocumentFault) (e : SerdeError) (kept : Option SerdeError) → kept ≡ None → (e ≡ OutOfMemory) ⊎ (kept ≡ Some e) → IsFaultRefusal fault e
 memory_alone fault e kept none (inl is) = rw is tt
-memory_alone fault e kept none (inr is) = absurd (sym none ∙ is)
+memory_alone fault e kept none (inr is) = absurd (cc (sym none ∙ is))
 
 -- it is refused for memory alone
 pub memory_finished : {U : Type 0} (l : Label) (v : Value) (a b : Seen) (u : U) (result : Result (List ℕ) SerdeError) →

@@ -1,12 +1,18 @@
 // The command `generate`: the request of an input of many numbers, told in four lines.
-ghost use Rattle.std.specs.Prelude.{◌≡◌, [], IfOk};
+ghost use Rattle.std.specs.Prelude.{◌≡◌, IfOk, IsTrue, Result};
 ghost use Rattle.std.specs.List.{sum};
+ghost use Rattle.smithy_http.specs.Requests.{Request as Sent};
 ghost use Rattle.smithy_schema.specs.References.{schema_of};
 ghost use Rattle.smithy_serde.specs.Values.{list_of};
 ghost use Rattle.smithy_serde.specs.StructValues.{members_of};
+ghost use Rattle.smithy_binding.specs.Answer.{answer};
+ghost use Rattle.smithy_binding.specs.Checked.{checked_input};
+ghost use Rattle.smithy_binding.specs.DefaultHeaders.{omit_of};
+ghost use Rattle.smithy_binding.specs.Faults.{Fault};
 ghost use Rattle.smithy_binding.specs.Protocols.{codec_of, protocol_of};
+ghost use Rattle.smithy_binding.specs.Refusing.{Answers};
 ghost use Rattle.smithy_bind.specs.Generating as generating;
-ghost use Rattle.smithy_bind.specs.Outcome.{generated_by};
+ghost use Rattle.smithy_bind.specs.Outcome.{generated_by, summed as summed_up};
 ghost use Rattle.smithy_bind.specs.AnswerView.{Gives};
 
 use crate::answer::Answer;
@@ -17,7 +23,7 @@ use smithy_binding::HttpBindingProtocol;
 use smithy_http::Request;
 use smithy_model::JobError;
 use smithy_schema::SchemaRef;
-use smithy_serde::{Codec, OmitFlags, SerializableStruct, StructValue};
+use smithy_serde::{Codec, OmitFlags, SerdeError, SerializableStruct, StructValue};
 use std::alloc::{AllocError, Global};
 
 // The sum of bytes. A `u128` holds that of any bytes that a slice can have.
@@ -66,6 +72,8 @@ pub fn generated<C: Codec>(
     summed_struct(alloc, protocol, schema, &input, count)
 }
 
+// The same of the input as it was made, by its schema.
+#[tactic(auto, using(crate::proofs::GeneratedSchema::generated_is_checked), unfolding(crate::specs::Generating::generated))]
 fn summed_struct<C: Codec>(
     alloc: Global,
     protocol: &HttpBindingProtocol<C>,
@@ -78,23 +86,34 @@ fn summed_struct<C: Codec>(
     requires writes { list_of (members_of input.now) ≡ generating.input count }
     ensures { Gives (generated_by (protocol_of C.text protocol.now) count) result }
 {
-    summed_input(alloc, protocol, schema, input, count)
+    summed_input(alloc, protocol, schema, input, "", OmitFlags::KEEP_ALL)
 }
 
-#[tactic(auto, using(crate::proofs::GeneratedSchema::generated_is_checked), unfolding(crate::specs::Generating::generated))]
+// What is told of an input, by its schema.
 fn summed_input<C: Codec>(
     alloc: Global,
     protocol: &HttpBindingProtocol<C>,
     schema: SchemaRef<'_>,
     input: &dyn SerializableStruct,
-    count: u32,
+    endpoint: &str,
+    omit: OmitFlags,
 ) -> Result<Answer, JobError>
     requires lawful { C.lawful (codec_of protocol.now) }
-    requires schema { schema_of schema ≡ generating.schema_at generating.input_node }
-    requires writes { list_of (writes input.now) ≡ generating.input count }
-    ensures { Gives (generated_by (protocol_of C.text protocol.now) count) result }
+    requires checked { IsTrue (checked_input (schema_of schema)) }
+    ensures { let sent = list_of (writes input.now) in
+        Gives (summed_up (answer (protocol_of C.text protocol.now) (schema_of schema.entry) sent endpoint.now (omit_of omit))) result }
 {
-    match protocol.serialize_request(alloc, input, schema, "", OmitFlags::KEEP_ALL) {
+    summed(
+        alloc,
+        protocol.serialize_request(alloc, input, schema, endpoint, omit),
+    )
+}
+
+// What is told of a request that was made or refused: four lines on it, or the line of the refusal.
+fn summed(alloc: Global, made: Result<Request, SerdeError>) -> Result<Answer, JobError>
+    ensures { (answer : Result Sent Fault) → Answers made answer → Gives (summed_up answer) result }
+{
+    match made {
         Ok(request) => Ok(Answer::Output(summary(alloc, &request)?)),
         Err(refusal) => refused(alloc, &refusal),
     }

@@ -5,6 +5,8 @@ ghost use Rattle.smithy_serde.specs.Finishing.{IsReady, IsTextOf};
 ghost use Rattle.smithy_serde.specs.ReadCalls.{Begins};
 ghost use Rattle.smithy_serde.specs.Refusing.{IsFaultRefusal};
 ghost use Rattle.smithy_serde.specs.ValueReading.{structure_of};
+ghost use Rattle.smithy_serde.specs.Values.{structure};
+ghost use Rattle.smithy_serde.specs.Writing.{TellsOne, label};
 ghost use Rattle.smithy_document.specs.JsonHeld.{json_held};
 ghost use Rattle.smithy_document.specs.JsonText.{json_text};
 ghost use Rattle.smithy_bind.specs.AnswerView.{Gives};
@@ -16,8 +18,8 @@ use smithy_document::{JsonCodec, JsonDeserializer, JsonSerializer, json_is_lawfu
 use smithy_model::JobError;
 use smithy_schema::SchemaRef;
 use smithy_serde::{
-    Codec, FinishSerializer, SerdeError, ShapeDeserializer, ShapeSerializer, StructValue,
-    write_struct,
+    Codec, FinishSerializer, SerdeError, SerializableStruct, ShapeDeserializer, ShapeSerializer,
+    StructValue, write_struct,
 };
 use smithy_types::Blob;
 use std::alloc::{AllocError, Global};
@@ -46,7 +48,19 @@ pub fn json_reader(alloc: Global, bytes: &[u8]) -> Result<JsonDeserializer, Serd
     json_codec().create_deserializer(alloc, bytes)
 }
 
-// The text of a structure's document.
+// Writes a structure, as `write_struct` does.
+fn write_value(
+    serializer: &mut JsonSerializer,
+    schema: SchemaRef<'_>,
+    value: &dyn SerializableStruct,
+) -> Result<(), SerdeError>
+    ensures { let seen = ⟦<JsonSerializer as ShapeSerializer>⟧.seen in
+        TellsOne (label schema.entry) (structure (writes value.now)) (seen serializer.old) (seen serializer.new) result }
+{
+    write_struct(serializer, schema, value)
+}
+
+// The text of the document of a structure that has been read.
 fn struct_text(
     serializer: JsonSerializer,
     schema: SchemaRef<'_>,
@@ -56,8 +70,21 @@ fn struct_text(
     ensures ok { IfOk result (IsTextOf ((⟦<JsonSerializer as ShapeSerializer>⟧.seen serializer).text) (structure_of value.now)) }
     ensures err { IfErr result (IsFaultRefusal (document_fault (structure_of value.now))) }
 {
+    finished_text(serializer, schema, value)
+}
+
+// The text of a structure's document.
+fn finished_text(
+    serializer: JsonSerializer,
+    schema: SchemaRef<'_>,
+    value: &dyn SerializableStruct,
+) -> Result<Blob, SerdeError>
+    requires { IsReady (⟦<JsonSerializer as ShapeSerializer>⟧.seen serializer) }
+    ensures ok { IfOk result (IsTextOf ((⟦<JsonSerializer as ShapeSerializer>⟧.seen serializer).text) (structure (writes value.now))) }
+    ensures err { IfErr result (IsFaultRefusal (document_fault (structure (writes value.now)))) }
+{
     let mut serializer = serializer;
-    write_struct(&mut serializer, schema, value)?;
+    write_value(&mut serializer, schema, value)?;
     serializer.finish()
 }
 

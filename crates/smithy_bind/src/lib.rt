@@ -2,7 +2,6 @@
 #![tactic(auto)]
 
 mod answer;
-mod answer_bytes;
 mod coded;
 mod command;
 mod generate;
@@ -10,6 +9,7 @@ mod generated_schema;
 mod generated_writes;
 mod json_value;
 pub mod laws;
+mod over_bytes;
 mod request;
 mod response;
 mod rpc;
@@ -20,7 +20,7 @@ mod told;
 mod top_call;
 mod work;
 
-pub use answer_bytes::{Ended, answer_bytes};
 pub use command::Command;
+pub use over_bytes::{Ended, answer_bytes};
 pub use texts::{HELP, VERSION};
 pub use top_call::{Status, run, run_request};

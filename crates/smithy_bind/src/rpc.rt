@@ -1,5 +1,6 @@
 // The command `rpc`: the request of an input that is posted whole.
 ghost use Rattle.smithy_binding.specs.Rpc.{rpc_protocol};
+ghost use Rattle.smithy_serde.specs.Values.{list_of, writes_of};
 ghost use Rattle.smithy_bind.specs.Outcome.{sent_whole};
 ghost use Rattle.smithy_bind.specs.AnswerView.{Gives};
 
@@ -43,7 +44,7 @@ fn send_whole<C: Codec>(
     omit: OmitFlags,
 ) -> Result<Answer, JobError>
     requires { C.lawful protocol.now.codec }
-    ensures { Gives (sent_whole (rpc_protocol C.text protocol.now) (writes input.now) endpoint.now omit) result }
+    ensures { Gives (sent_whole (rpc_protocol C.text protocol.now) (writes_of (list_of (writes input.now))) endpoint.now omit) result }
 {
     told(
         alloc,

@@ -47,5 +47,5 @@ fn writes_are_put_in_index_order(rt: HostRuntime) {
 #[test]
 fn a_text_is_a_value(rt: HostRuntime) {
     let value = ShapeValue::text(rt.alloc(), "a").expect(&rt, "no memory");
-    assert!(rt; matches!(value, ShapeValue::String(text) if text.as_str() == "a"));
+    assert!(rt; matches!(&value, ShapeValue::String(text) if text.as_str() == "a"));
 }

@@ -9,5 +9,5 @@ reworded P Q f (Err e) p = _
 pub returns-clause-reader : goal.returns-clause-reader
 returns-clause-reader g c =
     let told = subst (λ s. IfOk c.deserialize_response.result (g.Self.ResponseProtocol.reads c.args.self.now c.args.response.now s c.args.policy))
-        c.prelude-schema.ensures.node c.deserialize_response.ensures.reader in
+    c.prelude-schema.ensures.node c.deserialize_response.ensures.reader in
     reworded _ _ (λ r. g.met.Self.ResponseProtocol.by_default c.args.self.now c.args.response.now c.args.policy r) c.deserialize_response.result told

@@ -46,7 +46,7 @@ pub fn answer_bytes(alloc: Global, command: Command, bytes: &[u8]) -> Ended
         }
         Command::Generate(count) => {
             let protocol = HttpBindingProtocol::rest_json(json_codec());
-            ended(alloc, generated(alloc, &protocol, count))
+            end_of(alloc, generated(alloc, &protocol, count))
         }
         Command::Help => said(alloc, help()),
         Command::Version => said(alloc, version()),
@@ -62,7 +62,7 @@ fn worked<W: Work>(alloc: Global, work: &W, bytes: &[u8]) -> Ended
     if bytes.len() > MAX_JOB_LEN {
         return silent(alloc, Status::TooLong);
     }
-    ended(alloc, answer(alloc, work, bytes))
+    end_of(alloc, answer(alloc, work, bytes))
 }
 
 // What is to be told of the bytes of a job.
@@ -75,7 +75,7 @@ fn answer<W: Work>(alloc: Global, work: &W, bytes: &[u8]) -> Result<Answer, JobE
 }
 
 // The end of what was answered.
-fn ended(alloc: Global, answer: Result<Answer, JobError>) -> Ended
+fn end_of(alloc: Global, answer: Result<Answer, JobError>) -> Ended
     ensures due { (told : Outcome) → Gives told answer → IsSettled result.status → result.status ≡ status_of told }
     ensures text { (told : Outcome) → Gives told answer → HasText result.status (text_of told) result.text.items }
 {
