@@ -4,7 +4,7 @@
 here=$(cd "$(dirname "$0")/.." && pwd)
 work=$(mktemp -d)
 trap 'rm -rf "$work"' EXIT
-"$here/smithy_bind" --version >/dev/null || exit 70
+"$here/smithy_bind" --build || exit 70
 built=$here/crates/smithy_bind_program/out/smithy_bind_program
 
 for count in 0 1000 10000 100000; do

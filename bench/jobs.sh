@@ -6,7 +6,7 @@ here=$(cd "$(dirname "$0")/.." && pwd)
 times=${1:-1000}
 work=$(mktemp -d)
 trap 'rm -rf "$work"' EXIT
-"$here/smithy_bind" --version >/dev/null || exit 70
+"$here/smithy_bind" --build || exit 70
 python3 "$here/bench/large_maps.py" "$here/crates/smithy_bind_program/out/smithy_bind_program" "$work" || exit 70
 
 (cd "$here/crates/placing_bench" && rt run -- get 1) >&2 </dev/null || exit 70

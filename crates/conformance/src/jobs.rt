@@ -135,7 +135,7 @@ fn answers_words(rt: HostRuntime) -> Result<(), Fail> {
     }
     let help = run_of(alloc, &["--help"], b"")?;
     assert_eq!(rt; help.status, Status::Done);
-    let first = b"Places inputs of Smithy operations in HTTP requests.\n";
+    let first = b"Places inputs of Smithy operations in HTTP requests, and reads responses.\n";
     assert!(rt; help.written.starts_with(first));
     Ok(())
 }

@@ -1,7 +1,7 @@
 // Answers to commands over bytes that are at hand.
 ghost use Rattle.std.specs.Prelude.{◌≡◌, [], Some};
 ghost use Rattle.smithy_bind.specs.AnswerView.{Gives};
-ghost use Rattle.smithy_bind.specs.Ends.{due_at, due_of, status_of, text_of, IsSettled, HasText};
+ghost use Rattle.smithy_bind.specs.Ends.{due_at, due_of, status_of, text_of, IsInMemory, IsSettled, HasText};
 ghost use Rattle.smithy_bind.specs.Outcome.{outcome_by};
 ghost use Rattle.smithy_bind.specs.Told.{Outcome, by_json};
 
@@ -31,6 +31,7 @@ pub struct Ended {
 /// How a run of the command ends and what it writes, where these bytes are its input and neither its source nor its sink
 /// fails. Takes memory for the text.
 pub fn answer_bytes(alloc: Global, command: Command, bytes: &[u8]) -> Ended
+    ensures memory { IsInMemory result.status }
     ensures due { IsSettled result.status → result.status ≡ due_of command bytes.now }
     ensures text { HasText result.status (text_of (outcome_by (Some command) bytes.now)) result.text.items }
 {
@@ -56,6 +57,7 @@ pub fn answer_bytes(alloc: Global, command: Command, bytes: &[u8]) -> Ended
 // How the work of a command over the bytes ends.
 fn worked<W: Work>(alloc: Global, work: &W, bytes: &[u8]) -> Ended
     requires { W.may work.now }
+    ensures memory { IsInMemory result.status }
     ensures due { IsSettled result.status → result.status ≡ due_at (by_json (W.does work.now)) bytes.now }
     ensures text { HasText result.status (text_of (by_json (W.does work.now) bytes.now)) result.text.items }
 {
@@ -76,6 +78,7 @@ fn answer<W: Work>(alloc: Global, work: &W, bytes: &[u8]) -> Result<Answer, JobE
 
 // The end of what was answered.
 fn end_of(alloc: Global, answer: Result<Answer, JobError>) -> Ended
+    ensures memory { IsInMemory result.status }
     ensures due { (told : Outcome) → Gives told answer → IsSettled result.status → result.status ≡ status_of told }
     ensures text { (told : Outcome) → Gives told answer → HasText result.status (text_of told) result.text.items }
 {
@@ -95,6 +98,7 @@ fn end_of(alloc: Global, answer: Result<Answer, JobError>) -> Ended
 
 // A text of the program about itself.
 fn said(alloc: Global, text: &[u8]) -> Ended
+    ensures memory { IsInMemory result.status }
     ensures due { IsSettled result.status → result.status ≡ Status.Done }
     ensures text { HasText result.status text.now result.text.items }
 {
