@@ -14,7 +14,7 @@ filled text buffer =
 pub record Answers (command : Command) (job : List ℕ) (code len : ℕ) (before after : List ℕ) : Type 0 where
   pub status : Status
   pub text : List ℕ
-  pub in_memory : IsInMemory status
+  pub memory : IsInMemory status
   pub due : IsSettled status → status ≡ due_of command job
   pub of_outcome : HasText status (text_of (outcome_by (Some command) job)) text
   pub is_code : code ≡ code_of status
