@@ -8,6 +8,8 @@ mod consumers;
 #[cfg(test)]
 mod jobs;
 #[cfg(test)]
+mod own_protocol;
+#[cfg(test)]
 mod readings;
 #[cfg(test)]
 mod registries;
