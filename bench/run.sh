@@ -3,7 +3,7 @@
 here=$(cd "$(dirname "$0")/.." && pwd)
 work=$(mktemp -d)
 trap 'rm -rf "$work"' EXIT
-"$here/smithy_bind" --build || exit 1
+"$here/smithy_bind" --build || exit 70
 built=$here/crates/smithy_bind_program/out/smithy_bind_program
 
 cp "$here/examples/get_object.json" "$work/example"

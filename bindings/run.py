@@ -3,7 +3,8 @@ the limits of buffers, and compares what it ends with.
 
     python3 bindings/run.py
 
-It needs `rt`, and proves and links the library first, unless SMITHY_BIND_LIB names the folder of libsmithy_bind_c.a.
+It needs `rt`, and proves and links the library first, unless SMITHY_BIND_LIB names the folder of libsmithy_bind_c.a
+and SMITHY_BIND_LIBC that of the toolchain's liblibc_c.a.
 A language whose tool is missing is skipped.
 """
 
@@ -40,6 +41,7 @@ def examples():
 def limits():
     """Jobs of no bytes and of too many, and texts that just fit into the first room of 4,096 bytes, and that do not."""
     yield Row("a job of no bytes", "request", b"", 2, b"")
+    yield Row("a job of 16,777,216 bytes", "response", b" " * 16777216, 2, b"")
     yield Row("a job of 16,777,217 bytes", "response", b" " * 16777217, 7, b"")
     job, text = ((ROOT / "examples" / name).read_bytes() for name in ("get_object.json", "get_object.txt"))
     label = b"x/y%20z"

@@ -7,7 +7,8 @@
  * No pointer may be null, also where its length is 0. The job, the buffer and *text_len lie apart. While a call
  * runs, nothing else writes the job, and nothing else reads or writes the buffer or *text_len. A call keeps nothing
  * when it is over, so calls may run in several threads at a time; but none in a signal handler, or in the forked
- * child of a process with threads. Memory is that of malloc, realloc and free.
+ * child of a process with threads. Memory is that of malloc, realloc and free, which are of one allocator; it aligns
+ * a block to each power of two up to 16 that divides its size.
  *
  * docs/JOBS.md has the format of a job and what each command writes.
  */
@@ -35,7 +36,7 @@ uint8_t smithy_bind_request(const uint8_t *job, size_t job_len, uint8_t *text, s
 /* The value that a job's response hands out, as JSON. */
 uint8_t smithy_bind_response(const uint8_t *job, size_t job_len, uint8_t *text, size_t text_room, size_t *text_len);
 
-/* The HTTP request of a job's input, by AWS JSON 1.0. */
+/* The POST of a job's input as one JSON body, of content type application/json, without X-Amz-Target. */
 uint8_t smithy_bind_rpc(const uint8_t *job, size_t job_len, uint8_t *text, size_t text_room, size_t *text_len);
 
 #ifdef __cplusplus

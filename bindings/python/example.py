@@ -1,4 +1,5 @@
-"""Answers the job on standard input by a command, and ends as the program does: example.py LIBRARY request < JOB"""
+"""Answers the job on standard input by a command, and ends as the program does, but for failed reading and writing:
+example.py LIBRARY request < JOB"""
 
 import sys
 

@@ -21,6 +21,9 @@ class NoJob(Refusal):
 
     status = 2
 
+    def __init__(self):
+        super().__init__("the bytes are no job")
+
 
 class Fault(Refusal):
     """The input can't be sent, or the response can't be read: `line`, bytes with the end of the line, says why."""
@@ -36,6 +39,9 @@ class TooLong(Refusal):
     """The job has more than 16,777,216 bytes."""
 
     status = 7
+
+    def __init__(self):
+        super().__init__("the job has more than 16777216 bytes")
 
 
 class Library:
@@ -56,7 +62,7 @@ class Library:
         return _answer(self._response, job)
 
     def rpc(self, job):
-        """The HTTP request of a job's input, by AWS JSON 1.0."""
+        """The POST of a job's input as one JSON body, of content type application/json, without X-Amz-Target."""
         return _answer(self._rpc, job)
 
 

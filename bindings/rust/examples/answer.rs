@@ -23,7 +23,8 @@ fn run() -> u8 {
         Err(Refusal::Fault(line)) => (line, 3),
         Err(refusal) => (Vec::new(), refusal.status()),
     };
-    match io::stdout().write_all(&text) {
+    let mut stdout = io::stdout();
+    match stdout.write_all(&text).and_then(|()| stdout.flush()) {
         Ok(()) => status,
         Err(_) => 5,
     }

@@ -92,7 +92,7 @@ pub fn response(job: &[u8]) -> Result<Vec<u8>, Refusal> {
     answer(smithy_bind_response, job)
 }
 
-/// The HTTP request of a job's input, by AWS JSON 1.0.
+/// The `POST` of a job's input as one JSON body, of content type `application/json`, without `X-Amz-Target`.
 pub fn rpc(job: &[u8]) -> Result<Vec<u8>, Refusal> {
     answer(smithy_bind_rpc, job)
 }
@@ -120,6 +120,8 @@ fn answer(call: Call, job: &[u8]) -> Result<Vec<u8>, Refusal> {
             return output(status, text);
         }
         // The text was not written: there is room for it the next time.
+        text.try_reserve_exact(len - text.len())
+            .map_err(|_| Refusal::OutOfMemory)?;
         text.resize(len, 0);
     }
 }
