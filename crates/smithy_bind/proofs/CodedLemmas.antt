@@ -14,8 +14,16 @@ use Rattle.smithy_registry.specs.Shapes.{with_shape}
 use Rattle.smithy_serde.specs.StoredValues.{HasNode}
 use Rattle.smithy_model.specs.Nodes.{Errors}
 use Rattle.smithy_model.specs.PlacedView.{StandAt}
-use Rattle.smithy_bind.specs.CodedView.{each_value, Registers, AddsError, Registering, IsFound}
+use Rattle.smithy_bind.specs.CodedView.{each_value, Registers, AddsError, IsFound}
 use Rattle.smithy_bind.specs.Responding.{with_errors, error_of}
+
+-- all are registered but those at the places that are left
+pub record Registering {R : Type 0} (table : Table) (all : List Schema) (left : List SchemaIndex) (entries : List (List ℕ × Registered R)) : Type 0 where
+  pub schemas : List (List ℕ × Schema)
+  pub still : List Schema
+  pub places : StandAt table left still
+  pub so_far : Registers table schemas entries
+  pub same : with_errors still schemas ≡ with_errors all []
 
 module _ {X Y : Type 0} (f : X → Y) where
   value-put : (name : List ℕ) (x : X) (es : List (List ℕ × X)) → each_value f (with_value name x es) ≡ with_value name (f x) (each_value f es)

@@ -1,5 +1,5 @@
 -- What a serializer finishes with that was told one value.
-use Rattle.std.proofs.Common.{◌≡◌, ◌∙◌, refl, sym, subst, ◌⊎◌, inl, inr, ℕ, List, Option, None, Some, Result, Ok, Err, IfOk, IfErr}
+use Rattle.std.proofs.Common.{◌≡◌, ◌∙◌, sym, subst, ◌⊎◌, inl, inr, ℕ, List, Option, None, Some, Result, Ok, Err, IfOk, IfErr}
 use Rattle.smithy_serde.specs.declared.error.SerdeError.{SerdeError}
 use Rattle.smithy_serde.specs.declared.error.SerdeError.TheVariants.{OutOfMemory}
 use Rattle.smithy_serde.specs.Values.{Label, Value}

@@ -1,6 +1,6 @@
 -- Writes, one more at the end.
 use Rattle.std.proofs.Common.{◌≡◌, refl, ap, List, [], ◌∷◌, ◌++◌}
-use Rattle.smithy_serde.specs.Values.{Write, Writes, no_writes, write, writes_of}
+use Rattle.smithy_serde.specs.Values.{Write, write, writes_of}
 use Rattle.smithy_serde.specs.Told.{appended, one_write}
 
 -- one more at the end

@@ -1,5 +1,5 @@
 -- The errors of a code, as the registries of the code have them.
-use Rattle.std.specs.Prelude.{◌≡◌, ℕ, List, [], ◌∷◌, map, Option, Some, None, Result}
+use Rattle.std.specs.Prelude.{◌≡◌, ℕ, List, [], map, Option, Some, None}
 use Rattle.smithy_types.specs.Maps.{with_value}
 use Rattle.smithy_schema.specs.Nodes.{Table, Schema, at_place}
 use Rattle.smithy_schema.specs.declared.parts.SchemaIndex.{SchemaIndex}
@@ -24,14 +24,6 @@ AddsError table place old new =
 -- some schemas stand at these places
 abbrev pub Stand : Table → List SchemaIndex → Type 0
 Stand table places = (schemas : List Schema) × StandAt table places schemas
-
--- all are registered but those at the places that are left
-pub record Registering {R : Type 0} (table : Table) (all : List Schema) (left : List SchemaIndex) (entries : List (List ℕ × Registered R)) : Type 0 where
-  pub schemas : List (List ℕ × Schema)
-  pub still : List Schema
-  pub places : StandAt table left still
-  pub so_far : Registers table schemas entries
-  pub same : with_errors still schemas ≡ with_errors all []
 
 -- the errors that stand at these places are registered
 abbrev pub RegistersAll : {R : Type 0} → Table → List SchemaIndex → List (List ℕ × Registered R) → Type 0

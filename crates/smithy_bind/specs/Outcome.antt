@@ -1,5 +1,5 @@
 -- What a run answers.
-use Rattle.std.specs.Prelude.{ℕ, codes, List, Bool, Result, Ok, Err, Option, Some, None, option_and_then, is_some, if◌then◌else◌}
+use Rattle.std.specs.Prelude.{ℕ, codes, List, Result, Ok, Err, Option, Some, None, if◌then◌else◌}
 use Rattle.smithy_http.specs.Requests.{Request}
 use Rattle.smithy_schema.specs.Nodes.{Schema}
 use Rattle.smithy_serde.specs.Values.{Write, Writes, writes_of}
@@ -23,7 +23,7 @@ use Rattle.smithy_bind.specs.Texts.{help_text, version_text}
 use Rattle.smithy_bind.specs.declared.command.Command as commands
 use Rattle.smithy_bind.specs.declared.command.Command.TheVariants as command
 
--- a protocol with bodies of JSON, whose documents have this text (AWS restJson1, AWS JSON 1.0)
+-- a protocol with bodies of JSON, whose documents have this text (AWS restJson1)
 abbrev pub json_bodies : (Document → List ℕ) → Protocol
 json_bodies text_of = record { content_type = codes "application/json"; text_of = text_of }
 

@@ -101,7 +101,8 @@ fn summed_input<C: Codec>(
     requires lawful { C.lawful (codec_of protocol.now) }
     requires checked { IsTrue (checked_input (schema_of schema)) }
     ensures { let sent = list_of (writes input.now) in
-        Gives (summed_up (answer (protocol_of C.text protocol.now) (schema_of schema.entry) sent endpoint.now (omit_of omit))) result }
+        let protocol = protocol_of C.text protocol.now in
+        Gives (summed_up (answer protocol (schema_of schema.entry) sent endpoint.now (omit_of omit))) result }
 {
     summed(
         alloc,

@@ -21,7 +21,8 @@ fn number_at(count: u32, place: u32) -> i32
 
 #[tactic(auto, unfolding(smithy_serde::specs::StoredValues::value_in, smithy_serde::specs::StoredValues::IsDefined))]
 fn number_value(count: u32, place: u32) -> ShapeValue
-    ensures value { (t : Table) → value_in t result ≡ scalar (whole integer (pos (generating.number count place))) }
+    ensures value { (t : Table) →
+        value_in t result ≡ scalar (whole integer (pos (generating.number count place))) }
     ensures defined { (t : Table) → IsDefined t result }
 {
     ShapeValue::Integer(number_at(count, place))
@@ -29,7 +30,8 @@ fn number_value(count: u32, place: u32) -> ShapeValue
 
 // So many numbers.
 fn numbers(alloc: Global, count: u32) -> Result<WriteList, OutOfMemory>
-    ensures writes { IfOk result (λ w. writes_in generating.table w ≡ writes_of (map (generating.number_write count) (range_with_len 0 count))) }
+    ensures writes { IfOk result (λ w.
+        writes_in generating.table w ≡ writes_of (map (generating.number_write count) (range_with_len 0 count))) }
     ensures defined { IfOk result (λ w. AreDefined generating.table w) }
 {
     let mut writes = WriteList::new(alloc);
@@ -48,7 +50,8 @@ fn tag(alloc: Global, place: u32) -> Result<Text, OutOfMemory>
 // So many texts.
 #[tactic(auto, unfolding(smithy_serde::specs::StoredValues::value_in, smithy_serde::specs::StoredValues::IsDefined))]
 fn tags(alloc: Global, count: u32) -> Result<WriteList, OutOfMemory>
-    ensures writes { IfOk result (λ w. writes_in generating.table w ≡ writes_of (map generating.tag_write (range_with_len 0 count))) }
+    ensures writes { IfOk result (λ w.
+        writes_in generating.table w ≡ writes_of (map generating.tag_write (range_with_len 0 count))) }
     ensures defined { IfOk result (λ w. AreDefined generating.table w) }
 {
     let mut writes = WriteList::new(alloc);

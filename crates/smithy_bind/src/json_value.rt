@@ -43,7 +43,8 @@ fn json_serializer(alloc: Global) -> Result<JsonSerializer, SerdeError>
 
 /// A reader of JSON over the bytes. It is refused only for memory.
 pub fn json_reader(alloc: Global, bytes: &[u8]) -> Result<JsonDeserializer, SerdeError>
-    ensures { IfOk result (λ d. Begins (json_held bytes.now) (⟦<JsonDeserializer as ShapeDeserializer>⟧.at_hand d)) }
+    ensures { IfOk result (λ d.
+        Begins (json_held bytes.now) (⟦<JsonDeserializer as ShapeDeserializer>⟧.at_hand d)) }
 {
     json_codec().create_deserializer(alloc, bytes)
 }
@@ -55,7 +56,8 @@ fn write_value(
     value: &dyn SerializableStruct,
 ) -> Result<(), SerdeError>
     ensures { let seen = ⟦<JsonSerializer as ShapeSerializer>⟧.seen in
-        TellsOne (label schema.entry) (structure (writes value.now)) (seen serializer.old) (seen serializer.new) result }
+        let told = structure (writes value.now) in
+        TellsOne (label schema.entry) told (seen serializer.old) (seen serializer.new) result }
 {
     write_struct(serializer, schema, value)
 }
@@ -67,7 +69,8 @@ fn struct_text(
     value: &StructValue<'_>,
 ) -> Result<Blob, SerdeError>
     requires { IsReady (⟦<JsonSerializer as ShapeSerializer>⟧.seen serializer) }
-    ensures ok { IfOk result (IsTextOf ((⟦<JsonSerializer as ShapeSerializer>⟧.seen serializer).text) (structure_of value.now)) }
+    ensures ok { let seen = ⟦<JsonSerializer as ShapeSerializer>⟧.seen serializer in
+        IfOk result (IsTextOf seen.text (structure_of value.now)) }
     ensures err { IfErr result (IsFaultRefusal (document_fault (structure_of value.now))) }
 {
     finished_text(serializer, schema, value)
@@ -80,7 +83,8 @@ fn finished_text(
     value: &dyn SerializableStruct,
 ) -> Result<Blob, SerdeError>
     requires { IsReady (⟦<JsonSerializer as ShapeSerializer>⟧.seen serializer) }
-    ensures ok { IfOk result (IsTextOf ((⟦<JsonSerializer as ShapeSerializer>⟧.seen serializer).text) (structure (writes value.now))) }
+    ensures ok { let seen = ⟦<JsonSerializer as ShapeSerializer>⟧.seen serializer in
+        IfOk result (IsTextOf seen.text (structure (writes value.now))) }
     ensures err { IfErr result (IsFaultRefusal (document_fault (structure (writes value.now)))) }
 {
     let mut serializer = serializer;

@@ -79,8 +79,10 @@ fn answer<W: Work>(alloc: Global, work: &W, bytes: &[u8]) -> Result<Answer, JobE
 // The end of what was answered.
 fn end_of(alloc: Global, answer: Result<Answer, JobError>) -> Ended
     ensures memory { IsInMemory result.status }
-    ensures due { (told : Outcome) → Gives told answer → IsSettled result.status → result.status ≡ status_of told }
-    ensures text { (told : Outcome) → Gives told answer → HasText result.status (text_of told) result.text.items }
+    ensures due { (told : Outcome) → Gives told answer →
+        IsSettled result.status → result.status ≡ status_of told }
+    ensures text { (told : Outcome) → Gives told answer →
+        HasText result.status (text_of told) result.text.items }
 {
     match answer {
         Ok(Answer::Fault(text)) => Ended {

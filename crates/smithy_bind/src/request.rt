@@ -49,7 +49,8 @@ fn send_input<C: Codec>(
 ) -> Result<Answer, JobError>
     requires lawful { C.lawful (codec_of protocol.now) }
     requires checked { IsTrue (checked_input (schema_of schema)) }
-    ensures { SendsWrites (protocol_of C.text protocol.now) (schema_of schema.entry) (writes input.now) endpoint.now omit result }
+    ensures { let protocol = protocol_of C.text protocol.now in
+        SendsWrites protocol (schema_of schema.entry) (writes input.now) endpoint.now omit result }
 {
     told(
         alloc,

@@ -44,7 +44,8 @@ fn send_whole<C: Codec>(
     omit: OmitFlags,
 ) -> Result<Answer, JobError>
     requires { C.lawful protocol.now.codec }
-    ensures { Gives (sent_whole (rpc_protocol C.text protocol.now) (writes_of (list_of (writes input.now))) endpoint.now omit) result }
+    ensures { let listed = writes_of (list_of (writes input.now)) in
+        Gives (sent_whole (rpc_protocol C.text protocol.now) listed endpoint.now omit) result }
 {
     told(
         alloc,

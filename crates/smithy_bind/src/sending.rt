@@ -32,7 +32,8 @@ pub trait Sends {
         omit: OmitFlags,
     ) -> Result<Answer, JobError>
         requires { may self.now }
-        ensures { Gives (sends self.now (job_of (schema_of schema.entry) (members_of input.now) endpoint.now omit)) result };
+        ensures { let job = job_of (schema_of schema.entry) (members_of input.now) endpoint.now omit in
+            Gives (sends self.now job) result };
 }
 
 /// What sends the input of a job by a protocol.

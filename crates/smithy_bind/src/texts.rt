@@ -17,7 +17,7 @@ Usage: smithy_bind request < JOB
 request to standard output: a line of method and target, a line for each
 header, an empty line, and the body. Where the input can't be sent, it writes
 one line that says why.
-`rpc` does the same by AWS JSON 1.0: the whole input is the body.
+`rpc` does the same, but posts the whole input as the body.
 `response` reads a job with a response, and writes the value of the
 operation's output, or of an error, as one line of JSON. Where the response
 can't be read, it writes one line that says why.

@@ -37,7 +37,7 @@ pub extern "C" fn smithy_bind_response(
     answer_into(alloc, Command::Response, job, text, text_len)
 }
 
-/// The HTTP request of a job's input by AWS JSON 1.0, or the line of its first fault: the text that the program's
+/// The `POST` of a job's whole input as a body of JSON, or the line of its first fault: the text that the program's
 /// command `rpc` writes. What it answers and leaves is as `smithy_bind_request` says. Takes memory.
 #[unsafe(no_mangle)]
 pub extern "C" fn smithy_bind_rpc(

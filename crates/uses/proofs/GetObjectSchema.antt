@@ -1,5 +1,5 @@
 -- A request can be placed by the schema that is made in code.
-use Rattle.std.proofs.Common.{◌≡◌, refl, subst, true, List, ℕ, [], Result}
+use Rattle.std.proofs.Common.{◌≡◌, refl, subst, true, [], Result}
 use Rattle.smithy_http.specs.Requests.{Request}
 use Rattle.smithy_schema.specs.Nodes.{Schema}
 use Rattle.smithy_serde.specs.Values.{Writes, list_of}

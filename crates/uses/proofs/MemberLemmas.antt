@@ -1,5 +1,5 @@
 -- The steps of a search for a member's text.
-use Rattle.std.proofs.Common.{◌≡◌, refl, sym, ap, ◌∙◌, ℕ, true, false, List, [], ◌∷◌, Option, None, if◌then◌else◌}
+use Rattle.std.proofs.Common.{◌≡◌, sym, ap, ◌∙◌, ℕ, true, false, List, [], ◌∷◌, Option, None, if◌then◌else◌}
 use Rattle.smithy_schema.specs.Nodes.{Table}
 use Rattle.smithy_serde.specs.StoredValues.{label_at, value_in, listed}
 use Rattle.smithy_serde.specs.declared.value.OneWrite.{OneWrite}

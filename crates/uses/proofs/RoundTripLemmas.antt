@@ -1,14 +1,12 @@
 -- What a document of writes that follow a node is read as.
-use Rattle.std.proofs.Common.{◌≡◌, refl, sym, ap, subst, ◌∙◌, Bool, true, false, IsTrue, IfSome, List, ℕ, Option, Some, None, option_map, Result, Ok, Err}
+use Rattle.std.proofs.Common.{◌≡◌, refl, sym, subst, ◌∙◌, true, false, Option, Some, None, option_map, Result, Ok, Err}
 use Rattle.smithy_types.specs.Documents as tested
 use Rattle.smithy_types.specs.Documents.{Document}
-use Rattle.smithy_schema.specs.Nodes.{Schema, shape}
 use Rattle.smithy_serde.specs.DocumentOf.{DocumentFault, document_fault, document_fault_text, document_of}
 use Rattle.smithy_serde.specs.Held as held
 use Rattle.smithy_serde.specs.Lawful as asked
 use Rattle.smithy_serde.specs.ReadCalls.{Gives}
 use Rattle.smithy_serde.specs.Refusing.{IsFaultRefusal}
-use Rattle.smithy_serde.specs.ValueRead.{value_read, value_of_structure}
 use Rattle.smithy_serde.specs.ValueReading.{structure_of, gives_structure}
 use Rattle.smithy_serde.specs.Values.{Value, Writes, structure}
 use Rattle.smithy_serde.specs.declared.builders.ValueReader.{ValueReader}
@@ -16,9 +14,9 @@ use Rattle.smithy_serde.specs.declared.error.SerdeError.{SerdeError}
 use Rattle.smithy_serde.specs.declared.error.SerdeError.TheVariants.{Custom, OutOfMemory}
 use Rattle.smithy_serde.specs.declared.struct_value.StructValue.{StructValue}
 use Rattle.smithy_document.specs.Canonical.{IsCanonicalTold}
-use Rattle.smithy_document.specs.ReadsBack.{Stands, Follows, HasDocument, HasCanonicalDocument, ReadsNormalStructure, normal_form}
+use Rattle.smithy_document.specs.ReadsBack.{HasDocument, HasCanonicalDocument, ReadsNormalStructure, normal_form}
 use Rattle.smithy_serde.proofs.ReadValue.{gives_memory}
-use Rattle.uses.specs.RoundTrip.{ReadsBy, ComesBack}
+use Rattle.uses.specs.RoundTrip.{ComesBack}
 
 -- a refusal of what breaks no rule is for memory
 no_rule : (o : Option DocumentFault) (e : SerdeError) → o ≡ None → IsFaultRefusal o e → e ≡ OutOfMemory

@@ -1,4 +1,4 @@
--- What protocols with bodies of JSON answer (AWS restJson1, AWS JSON 1.0).
+-- What protocols with bodies of JSON answer (AWS restJson1).
 use Rattle.std.specs.Prelude.{◌≡◌, ℕ, codes, false, true, List, [], Result}
 use Rattle.smithy_document.specs.JsonText.{json_text}
 use Rattle.smithy_http.specs.Requests.{Request}

@@ -10,7 +10,7 @@ use smithy_types::{DiscriminatedDocument, NoSettings};
 use std::alloc::Global;
 
 /// The structure that a document is read as: of a document of writes that follow the reader's node, their normal form.
-/// Takes memory.
+/// It is refused where a number of the document has two forms. Takes memory.
 pub fn structure_in<'t>(
     alloc: Global,
     document: &DiscriminatedDocument<NoSettings>,

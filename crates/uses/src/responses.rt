@@ -70,7 +70,8 @@ fn text_in(value: &ShapeValue) -> Option<&str>
 
 // The text of the first write to a member of this name, where it is one.
 fn text_among<'v>(table: &Schemas, writes: &'v WriteList, name: &str) -> Option<&'v str>
-    ensures { option_map (λ found. found.now) result ≡ text_of_named name.now (writes_in table.now writes.now) }
+    ensures { let writes = writes_in table.now writes.now in
+        option_map (λ found. found.now) result ≡ text_of_named name.now writes }
 {
     for (node, value) in writes.iter() {
         if is_named(table, node, name) {

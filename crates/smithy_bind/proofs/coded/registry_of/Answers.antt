@@ -1,7 +1,6 @@
-use Rattle.std.proofs.Common.{◌∷◌, drop, subst, sym}
+use Rattle.std.proofs.Common.{subst}
 use Rattle.std.proofs.lemmas.List.{drop_more, drop_all}
-use Rattle.smithy_bind.specs.CodedView.{Registering}
-use Rattle.smithy_bind.proofs.CodedLemmas.{registering-begins, registering-more, registering-ends, next-stands}
+use Rattle.smithy_bind.proofs.CodedLemmas.{Registering, registering-begins, registering-more, registering-ends, next-stands}
 use Rattle.smithy_bind.proofs.coded.registry_of.Goals as goal
 
 pub loop-place-init : goal.loop-place-init

@@ -1,7 +1,7 @@
 use Rattle.std.proofs.Common.{List, drop}
 use Rattle.smithy_schema.specs.Nodes.{Schema}
 use Rattle.smithy_model.specs.PlacedView.{StandAt}
-use Rattle.smithy_bind.specs.CodedView.{Registering}
+use Rattle.smithy_bind.proofs.CodedLemmas.{Registering}
 use Rattle.smithy_bind.proofs.coded.registry_of.Given as goal
 
 abbrev pub invariant-loop-place : goal.invariant-loop-place

@@ -1,6 +1,5 @@
-use Rattle.std.proofs.Common.{rules, arith, ◌≡◌, ◌∙◌, ◌≤◌, ap, sym, subst, true, false}
+use Rattle.std.proofs.Common.{arith, ◌≡◌, ◌∙◌, ap, sym, true}
 use Rattle.std.specs.List.{list_all}
-use Rattle.std.specs.Str.Parse.{ParsesUnsigned}
 use Rattle.smithy_types.specs.BigNumbers.{is_digit}
 use Rattle.smithy_bind.proofs.CountLemmas.{too_long, no_digits, unread, too_large, counts}
 use Rattle.smithy_bind.proofs.command.count_of.Goals as goal

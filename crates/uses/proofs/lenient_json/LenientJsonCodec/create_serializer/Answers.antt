@@ -1,4 +1,3 @@
-use Rattle.std.proofs.Common.{refl}
 use Rattle.std.proofs.lemmas.Result.{IfOk-weaker}
 use Rattle.smithy_document.proofs.JsonLaws.{json_is_lawful}
 use Rattle.uses.proofs.lenient_json.LenientJsonCodec.create_serializer.Goals as goal
