@@ -63,7 +63,8 @@ impl<C> HttpRpcProtocol<C> {
         }
     }
 
-    /// Calls with bodies of JSON by this codec, mostly `JsonCodec` (AWS JSON 1.0). Takes no memory.
+    /// Calls with bodies of JSON by this codec, mostly `JsonCodec`: AWS JSON 1.0 but for the content type, which is
+    /// `application/json` here. Takes no memory.
     pub fn aws_json(codec: C) -> Self
         ensures name { (parts_of result.protocol_id).full_name ≡ codes "aws.protocols#awsJson1_0" }
         ensures codec { result.codec ≡ codec }

@@ -78,7 +78,7 @@ text_form (scalar (value.whole value.integer z)) e = absurd (cc e)
 text_form (scalar (value.whole value.long z)) e = absurd (cc e)
 text_form _ e = absurd (cc e)
 
-key_told : (key : Value) (x : Document) (n : List ℕ) → fits_in_range kind.String key ≡ true → document_of key ≡ Ok x → key_text x ≡ Ok n → text_of_key key ≡ n
+pub key_told : (key : Value) (x : Document) (n : List ℕ) → fits_in_range kind.String key ≡ true → document_of key ≡ Ok x → key_text x ≡ Ok n → text_of_key key ≡ n
 key_told key x n fit p q =
     let t = text_form key (and_parts (is_in_range key) (fits kind.String key) fit).1 in
     let one : Ok (doc.string t.0) ≡ Ok x = ap document_of (sym t.1) ∙ p in
@@ -86,7 +86,7 @@ key_told key x n fit p q =
     let three : Ok t.0 ≡ Ok n = ap key_text two ∙ q in
     ap text_of_key t.1 ∙ cc three
 
-name_told : (l : Label) (name : List ℕ) → field_name l ≡ Ok name → l.member_name ≡ Some name
+pub name_told : (l : Label) (name : List ℕ) → field_name l ≡ Ok name → l.member_name ≡ Some name
 name_told l name e = go l.member_name e
   where
     go : (o : Option (List ℕ)) → ok_or o (no_member_name l.full_name) ≡ Ok name → o ≡ Some name

@@ -17,20 +17,20 @@ use Rattle.smithy_serde.specs.Shaped.{is_shaped, are_shaped, are_fields_shaped, 
 use Rattle.smithy_document.proofs.NamedPairs.{text_form}
 
 -- what a result gives
-abbrev Gives : {A : Type 0} → Result A DocumentFault → Type 0
+abbrev pub Gives : {A : Type 0} → Result A DocumentFault → Type 0
 Gives {A = A} r = (x : A) × (r ≡ Ok x)
 
-gives_map : {A B : Type 0} (r : Result A DocumentFault) (f : A → B) → Gives r → Gives (then_give r f)
+pub gives_map : {A B : Type 0} (r : Result A DocumentFault) (f : A → B) → Gives r → Gives (then_give r f)
 gives_map {A = A} {B = B} r f x = (f x.0, ap (λ (q : Result A DocumentFault). then_give q f) x.1)
 
-gives_try : {A B : Type 0} (r : Result A DocumentFault) (f : A → Result B DocumentFault) (x : Gives r) → Gives (f x.0) → Gives (then_try r f)
+pub gives_try : {A B : Type 0} (r : Result A DocumentFault) (f : A → Result B DocumentFault) (x : Gives r) → Gives (f x.0) → Gives (then_try r f)
 gives_try {A = A} {B = B} r f x y = (y.0, ap (λ (q : Result A DocumentFault). then_try q f) x.1 ∙ y.1)
 
-none_named : (ms : List Schema) → find (is_named None) ms ≡ None
+pub none_named : (ms : List Schema) → find (is_named None) ms ≡ None
 none_named [] = refl
 none_named (m ∷ ms) = none_named ms
 
-named_field : (here : Option Schema) (l : Label) → is_some (named_member here l.member_name) ≡ true → Gives (field_name l)
+pub named_field : (here : Option Schema) (l : Label) → is_some (named_member here l.member_name) ≡ true → Gives (field_name l)
 named_field here l known = go l.member_name known
   where
     go : (o : Option (List ℕ)) → is_some (named_member here o) ≡ true → Gives (ok_or o (no_member_name l.full_name))

@@ -1,8 +1,7 @@
 -- What the document of a scalar gives to a read by a node that takes the scalar.
-use denote.Enum.Declared.{tag_of}
-use Rattle.std.proofs.Common.{◌≡◌, refl, sym, ap, ◌∙◌, ℕ, zero, suc, ◌^◌, arith, ltb-true, Bool, true, false, not, ◌&&◌, List, [], ◌∷◌, Some, slice_get, option_map, unwrap_or, Ok, ℤ, pos, negsuc}
+use Rattle.std.proofs.Common.{◌≡◌, refl, sym, ap, ◌∙◌, ℕ, zero, suc, ◌^◌, arith, ltb-true, Bool, true, false, not, ◌&&◌, List, [], ◌∷◌, Some, option_map, unwrap_or, Ok, ℤ, pos, negsuc}
 use Rattle.std.specs.Prelude.{int_le, int_lt, neg_ℤ, nat_lt, if◌then◌else◌}
-use Rattle.std.proofs.lemmas.Bool.{and_parts, eqb-true}
+use Rattle.std.proofs.lemmas.Bool.{and_parts}
 use Rattle.base64.specs.GeneralPurpose.{decoded_of, IsBytes}
 use Rattle.base64.specs.Engines.{standard}
 use Rattle.base64.proofs.EngineFacts.{decode_of-encode_of}
@@ -11,9 +10,9 @@ use Rattle.smithy_types.specs.Documents.{Document, number_of}
 use Rattle.smithy_types.specs.Results.{then_give}
 use Rattle.smithy_types.specs.Settings.{plain_blob, plain_number_timestamp}
 use Rattle.smithy_ids.specs.Kinds.{same_kind}
-use Rattle.smithy_ids.specs.contracts.shape_type.ShapeType.{the_type}
 use Rattle.smithy_ids.specs.declared.shape_type.ShapeType.{ShapeType}
 use Rattle.smithy_ids.specs.declared.shape_type.ShapeType.TheVariants as kind
+use Rattle.smithy_ids.proofs.KindLemmas.{one_kind}
 use Rattle.smithy_schema.specs.Nodes.{Schema}
 use Rattle.smithy_serde.specs.Values as value
 use Rattle.smithy_serde.specs.Values.{Scalar, Value, Width, byte, short, integer, long, scalar}
@@ -30,38 +29,6 @@ use Rattle.smithy_serde.specs.Lawful.{is_canonical}
 use Rattle.smithy_serde.specs.ValueRead.{value_read, value_by_kind}
 use Rattle.smithy_serde.proofs.ReadLevels.{value_once}
 use Rattle.smithy_document.specs.ReadsBack.{ReadsWhatFits, RefusesTheRest}
-
--- ---- kinds
-
--- the kind with a number
-abbrev all_kinds : List ShapeType
-all_kinds = kind.Boolean ∷ kind.Byte ∷ kind.Short ∷ kind.Integer ∷ kind.Long ∷ kind.Float ∷ kind.Double ∷ kind.BigInteger ∷ kind.BigDecimal ∷ kind.String ∷ kind.Blob ∷ kind.Timestamp ∷ kind.Document ∷ kind.List ∷ kind.Map ∷ kind.Structure ∷ kind.Union ∷ kind.Member ∷ []
-
-abbrev kind_at : ℕ → ShapeType
-kind_at n = unwrap_or (slice_get all_kinds n) kind.Member
-
-kind_back : (k : ShapeType) → kind_at (tag_of the_type k) ≡ k
-kind_back kind.Boolean = refl
-kind_back kind.Byte = refl
-kind_back kind.Short = refl
-kind_back kind.Integer = refl
-kind_back kind.Long = refl
-kind_back kind.Float = refl
-kind_back kind.Double = refl
-kind_back kind.BigInteger = refl
-kind_back kind.BigDecimal = refl
-kind_back kind.String = refl
-kind_back kind.Blob = refl
-kind_back kind.Timestamp = refl
-kind_back kind.Document = refl
-kind_back kind.List = refl
-kind_back kind.Map = refl
-kind_back kind.Structure = refl
-kind_back kind.Union = refl
-kind_back kind.Member = refl
-
-one_kind : (a b : ShapeType) → same_kind a b ≡ true → a ≡ b
-one_kind a b e = sym (kind_back a) ∙ ap kind_at (eqb-true (tag_of the_type a) (tag_of the_type b) e) ∙ kind_back b
 
 -- what no structure is is taken by its own kind alone
 takes_own : (k w : ShapeType) → same_kind w kind.Structure ≡ false → kind_takes k w ≡ true → k ≡ w

@@ -1,3 +1,4 @@
+pub mod KindLemmas
 pub mod NameLemmas
 pub mod OnLiterals
 pub mod PartsLemmas
