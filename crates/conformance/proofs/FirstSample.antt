@@ -8,7 +8,7 @@ use Rattle.smithy_binding.specs.Answer.{place}
 use Rattle.smithy_binding.specs.Faults.{fault}
 use Rattle.smithy_binding.specs.Checked.{checked_input}
 use Rattle.smithy_binding.specs.NormalForm.{view}
-use Rattle.smithy_binding.specs.Held.{is_held}
+use Rattle.smithy_schema.specs.WellMade.{is_well_made}
 use Rattle.smithy_document.specs.JsonText.{json_text}
 use Rattle.conformance.proofs.Making.{to, json, keep_all}
 use Rattle.conformance.proofs.Samples.{get_object, bucket, key, get_object_input}
@@ -17,9 +17,9 @@ pub get_object_is_checked : checked_input get_object ≡ true
 unfolding conformance_on_literals
 get_object_is_checked = refl
 
-pub get_object_is_held : is_held get_object ≡ true
+pub get_object_is_well_made : is_well_made get_object ≡ true
 unfolding conformance_on_literals
-get_object_is_held = refl
+get_object_is_well_made = refl
 
 pub get_object_has_no_fault : fault get_object get_object_input [] ≡ None
 unfolding conformance_on_literals

@@ -9,7 +9,7 @@ use Rattle.smithy_binding.specs.Answer.{place}
 use Rattle.smithy_binding.specs.Faults.{fault}
 use Rattle.smithy_binding.specs.Checked.{checked_input}
 use Rattle.smithy_binding.specs.NormalForm.{view}
-use Rattle.smithy_binding.specs.Held.{is_held}
+use Rattle.smithy_schema.specs.WellMade.{is_well_made}
 use Rattle.smithy_binding.specs.Typed.{IsTyped}
 use Rattle.smithy_document.specs.JsonText.{json_text}
 use Rattle.conformance.proofs.Making.{to, string_map, json, keep_all}
@@ -19,9 +19,9 @@ pub put_object_is_checked : checked_input put_object ≡ true
 unfolding conformance_on_literals
 put_object_is_checked = refl
 
-pub put_object_is_held : is_held put_object ≡ true
+pub put_object_is_well_made : is_well_made put_object ≡ true
 unfolding conformance_on_literals
-put_object_is_held = refl
+put_object_is_well_made = refl
 
 pub put_object_has_no_fault : fault put_object put_object_input [] ≡ None
 unfolding conformance_on_literals

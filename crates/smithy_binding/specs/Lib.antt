@@ -9,7 +9,6 @@ pub mod Entries
 pub mod Faults
 pub mod Filling
 pub mod Gather
-pub mod Held
 pub mod LabelTexts
 pub mod Laws
 pub mod NormalForm

@@ -18,7 +18,8 @@ use Rattle.smithy_schema.specs.Outlines.{outline_of}
 use Rattle.smithy_schema.specs.Details.{Details}
 use Rattle.smithy_schema.specs.MemberNames.{is_named_at, HasPositions}
 use Rattle.smithy_schema.specs.Stored.{node_stored, details_full, details_stored, table_stored}
-use Rattle.smithy_schema.specs.Defining.{citing_fault, define_fault, declared_more, is_whole}
+use Rattle.smithy_schema.specs.Defining.{citing_fault, define_fault, declared_more}
+use Rattle.smithy_schema.specs.WellMade.{is_whole}
 use Rattle.smithy_schema.specs.Kept.{IsKept, HasNames, kept_at}
 use Rattle.smithy_schema.proofs.NamedLemmas.{HasPositions-same}
 use Rattle.smithy_schema.proofs.TableLemmas.{length-table_stored, node_at-table_stored, table_stored-push}

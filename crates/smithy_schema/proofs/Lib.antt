@@ -6,3 +6,4 @@ pub mod Rows
 pub mod SoundLemmas
 pub mod TableLemmas
 pub mod TraitMapLemmas
+pub mod WellMadeLemmas

@@ -2,15 +2,16 @@
 use Rattle.std.proofs.Common.{◌≡◌, ◌≢◌, refl, sym, ap, ◌∙◌, ℕ, zero, suc, ◌+◌, ◌<◌, ◌≤◌, ◌==◌, nat_lt, Bool, true, false, ◌||◌, List, [], ◌∷◌, ◌++◌, length, set, arith, Option, Some, None, length-append}
 use Rattle.std.specs.List.{slice_get}
 use Rattle.std.specs.Option.{option_flatten, option_or, is_some, is_none}
-use Rattle.std.proofs.lemmas.Bool.{and_parts, eqb-true, eqb-false, ltb-true, lt-ltb, le-ltb}
-use Rattle.smithy_ids.specs.ShapeIds.{has_hash}
+use Rattle.std.proofs.lemmas.Bool.{eqb-true, eqb-false, ltb-true, lt-ltb, le-ltb}
 use Rattle.smithy_ids.specs.declared.shape_type.ShapeType.{ShapeType}
 use Rattle.smithy_types.specs.Results.{unless}
 use Rattle.smithy_schema.specs.declared.error.SchemaError.{SchemaError}
 use Rattle.smithy_schema.specs.declared.error.SchemaError.TheVariants as refusal
 use Rattle.smithy_schema.specs.Nodes.{Node, Table, Schema, node_at, bare_node}
 use Rattle.smithy_schema.specs.Outlines.{outline_of}
-use Rattle.smithy_schema.specs.Defining.{index_at, position_fault, member_fault, members_fault, citing_fault, define_fault, declared_more, has_declared_places, is_whole, is_member, HasMembersInPlace, IsSound}
+use Rattle.smithy_schema.specs.Defining.{index_at, position_fault, member_fault, members_fault, citing_fault, define_fault, declared_more, has_declared_places, is_member, HasMembersInPlace, IsSound}
+use Rattle.smithy_schema.specs.WellMade.{is_whole}
+use Rattle.smithy_schema.proofs.TableLemmas.{name_of_whole}
 
 -- what stands at a place after one is declared
 pub node_at-declared_more : {X : Type 0} (table : List (Option X)) (place : ℕ) → option_flatten (slice_get (table ++ None ∷ []) place) ≡ option_flatten (slice_get table place)
@@ -77,7 +78,7 @@ no_fault-is_member (Some node) position e whole = go node.member_index refl e
     go None is fault = absurd (cc fault)
     go (Some i) is fault =
         let same : (i == position) ≡ true = unless-none (i == position) refusal.Order fault in
-        let named : (is_some node.member_name || is_none node.member_index) ≡ true = (and_parts (has_hash node.full_name) (is_some node.member_name || is_none node.member_index) (whole node refl)).1 in
+        let named : (is_some node.member_name || is_none node.member_index) ≡ true = name_of_whole node (whole node refl) in
         let name : is_some node.member_name ≡ true = or_false (is_some node.member_name) (rw is at named) in
         rw is (rw (same, name) refl)
 

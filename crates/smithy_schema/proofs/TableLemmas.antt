@@ -1,16 +1,15 @@
 -- What stands at the places of a table that is kept.
-use Rattle.std.proofs.Common.{◌≡◌, refl, sym, ap, ◌∙◌, ℕ, suc, true, ◌||◌, List, [], ◌∷◌, ◌++◌, length, option_map, Option, Some, None}
+use Rattle.std.proofs.Common.{◌≡◌, refl, sym, ap, ◌∙◌, ℕ, suc, Bool, true, false, ◌&&◌, ◌||◌, List, [], ◌∷◌, ◌++◌, length, option_map, Option, Some, None}
 use Rattle.std.specs.List.{slice_get}
 use Rattle.std.specs.Option.{option_flatten, is_some, is_none}
 use Rattle.std.proofs.lemmas.Bool.{and_parts}
 use Rattle.std.proofs.lemmas.Option.{slice_get-map}
 use Rattle.smithy_schema.specs.declared.stored.StoredNode.{StoredNode}
-use Rattle.smithy_schema.specs.declared.stored.StoredMember.{StoredMember}
-use Rattle.smithy_schema.specs.declared.stored.StoredMember.TheVariants.{Shape, Named, Indexed}
 use Rattle.smithy_ids.specs.ShapeIds.{has_hash, parts_in}
 use Rattle.smithy_schema.specs.Nodes.{Node, Table, node_at}
-use Rattle.smithy_schema.specs.Stored.{node_stored, table_stored, name_stored, index_stored}
-use Rattle.smithy_schema.specs.Defining.{is_whole, IsSound}
+use Rattle.smithy_schema.specs.Stored.{node_stored, table_stored}
+use Rattle.smithy_schema.specs.Defining.{IsSound}
+use Rattle.smithy_schema.specs.WellMade.{has_utf8_texts, is_whole}
 
 -- what stands at a place of the kept nodes
 pub node_at-table_stored : (nodes : List (Option StoredNode)) (place : ℕ) → node_at (table_stored nodes) place ≡ option_map node_stored (option_flatten (slice_get nodes place))
@@ -29,18 +28,19 @@ pub table_stored-push : (nodes : List (Option StoredNode)) (o : Option StoredNod
 table_stored-push [] o = refl
 table_stored-push (p ∷ nodes) o = ap (λ (t : Table). option_map node_stored p ∷ t) (table_stored-push nodes o)
 
--- a kept node with an index has a name
-pub is_whole-node_stored : (n : StoredNode) → has_hash n.head.value.full_name ≡ true → is_whole (node_stored n) ≡ true
-is_whole-node_stored n hash = rw hash (go n.head.value.membership)
-  where
-    go : (m : StoredMember) → (is_some (name_stored m) || is_none (index_stored m)) ≡ true
-    go Shape = refl
-    go (Named name) = refl
-    go (Indexed name index) = refl
+-- a whole node has each part of the test
+named_of_whole : (node : Node) → is_whole node ≡ true → (has_hash node.full_name && (is_some node.member_name || is_none node.member_index)) ≡ true
+named_of_whole node whole = (and_parts (has_hash node.full_name && (is_some node.member_name || is_none node.member_index)) (has_utf8_texts node) whole).0
 
--- and its full name has a hash where it is whole
+pub name_of_whole : (node : Node) → is_whole node ≡ true → (is_some node.member_name || is_none node.member_index) ≡ true
+name_of_whole node whole = (and_parts (has_hash node.full_name) (is_some node.member_name || is_none node.member_index) (named_of_whole node whole)).1
+
 pub hash_of_whole : (node : Node) → is_whole node ≡ true → has_hash node.full_name ≡ true
-hash_of_whole node whole = (and_parts (has_hash node.full_name) (is_some node.member_name || is_none node.member_index) whole).0
+hash_of_whole node whole =
+    (and_parts (has_hash node.full_name) (is_some node.member_name || is_none node.member_index) (named_of_whole node whole)).0
+
+pub texts_of_whole : (node : Node) → is_whole node ≡ true → has_utf8_texts node ≡ true
+texts_of_whole node whole = (and_parts (has_hash node.full_name && (is_some node.member_name || is_none node.member_index)) (has_utf8_texts node) whole).1
 
 -- a whole node's full name has parts
 pub whole-parts : (node : Node) (name : List ℕ) → name ≡ node.full_name → is_whole node ≡ true → None ≡ parts_in name → ⊥

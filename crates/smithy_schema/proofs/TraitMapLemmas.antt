@@ -6,13 +6,11 @@ use Rattle.std.specs.Cmp.Lexicographic.{slice_cmp}
 use Rattle.std.specs.Map.{lookup}
 use Rattle.std.specs.Option.{option_copied}
 use Rattle.std.specs.Ordering.{is_eq, match_ordering}
-use Rattle.std.specs.Str.{bytes_eq}
 use Rattle.std.proofs.lemmas.Map.Text.{is_eq-slice_cmp}
 use Rattle.std.proofs.lemmas.Slice.Eq.{bytes_eq-Decides}
 use Rattle.smithy_types.specs.Maps.{with_value}
 use Rattle.smithy_types.specs.Texts.{same_text}
 use Rattle.smithy_schema.specs.declared.owned_trait.Trait.{Trait}
-use Rattle.smithy_schema.specs.Nodes.{TraitValue}
 use Rattle.smithy_schema.specs.OwnedTraits.{name_of, value_of, entry_of}
 use Rattle.smithy_schema.specs.TraitMaps.{entry_named, entries_kept, AreUnderTheirNames}
 

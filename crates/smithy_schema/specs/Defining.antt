@@ -2,11 +2,11 @@
 use Rattle.std.specs.Prelude.{◌≡◌, ℕ, ◌+◌, Bool, true, false, ◌&&◌, ◌||◌, ◌==◌, nat_lt, List, [], ◌∷◌, ◌++◌, length, slice_get, is_some, is_none, Option, Some, None}
 use Rattle.std.specs.List.{list_all}
 use Rattle.std.specs.Option.{option_map_or, option_or}
-use Rattle.smithy_ids.specs.ShapeIds.{has_hash}
 use Rattle.smithy_types.specs.Results.{first_of_all, unless}
 use Rattle.smithy_schema.specs.declared.error.SchemaError.{SchemaError}
 use Rattle.smithy_schema.specs.declared.error.SchemaError.TheVariants.{Order, NotMember, Unknown, Defined}
 use Rattle.smithy_schema.specs.Nodes.{Node, Table, Schema, node_at}
+use Rattle.smithy_schema.specs.WellMade.{is_whole}
 
 -- the place is declared among the first n, where there is one
 abbrev pub is_declared : ℕ → Option ℕ → Bool
@@ -51,10 +51,6 @@ define_fault table index node =
 -- the table with one more place, which is only declared
 abbrev pub declared_more : Table → Table
 declared_more table = table ++ None ∷ []
-
--- the full name is an identifier's, and a node with an index has a name
-abbrev pub is_whole : Node → Bool
-is_whole node = has_hash node.full_name && (is_some node.member_name || is_none node.member_index)
 
 -- the place holds a member with this index and a name
 abbrev pub is_member : Option Node → ℕ → Bool

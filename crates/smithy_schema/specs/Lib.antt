@@ -18,3 +18,4 @@ pub mod ShownBindings
 pub mod Stored
 pub mod Templates
 pub mod TraitMaps
+pub mod WellMade

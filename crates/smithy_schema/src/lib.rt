@@ -4,6 +4,7 @@
 mod cited_nodes;
 mod defining;
 mod error;
+pub mod laws;
 mod member_names;
 mod outline;
 mod owned_trait;

@@ -1,8 +1,7 @@
 // What is left of a node without what it cites.
 ghost use Rattle.std.specs.Prelude.{◌≡◌, ◌++◌, ◌∷◌, [], true, Some, IfOk, OnOk, OnErr, length};
-ghost use Rattle.smithy_ids.specs.ShapeIds.{has_hash};
 ghost use Rattle.smithy_schema.specs.declared.stored.StoredDetails.TheVariants as details;
-ghost use Rattle.smithy_schema.specs.Defining.{is_whole};
+ghost use Rattle.smithy_schema.specs.WellMade.{is_whole};
 ghost use Rattle.smithy_schema.specs.Outlines.{outline_of, named_part};
 ghost use Rattle.smithy_schema.specs.References.{schema_of};
 ghost use Rattle.smithy_schema.specs.Stored.{head_stored, node_stored};
@@ -10,9 +9,9 @@ ghost use Rattle.smithy_schema.specs.Stored.{head_stored, node_stored};
 use crate::parts::SchemaIndex;
 use crate::schema_ref::SchemaRef;
 use crate::schemas::Schemas;
-use crate::stored::{Head, StoredDetails, StoredMember, StoredNode};
+use crate::stored::{Head, StoredDetails, StoredMember, StoredNode, copied_text};
 use smithy_ids::TimestampFormat;
-use smithy_types::{OutOfMemory, Text};
+use smithy_types::OutOfMemory;
 use std::alloc::Global;
 use std::sync::Arc;
 
@@ -34,14 +33,14 @@ impl<'t> SchemaRef<'t> {
 // The head of a node of a table, or a new one of a node of the prelude.
 fn head_of(alloc: Global, schema: SchemaRef<'_>) -> Result<Arc<Head>, OutOfMemory>
     ensures head { IfOk result (λ h. head_stored h.value ≡ named_part (schema_of schema.entry).node) }
-    ensures hash { IfOk result (λ h. has_hash h.value.full_name ≡ true) }
+    ensures whole { IfOk result (λ h. is_whole (head_stored h.value) ≡ true) }
 {
     match schema.stored() {
         Some(node) => Ok(Arc::try_clone(&node.head)?),
         None => Ok(Arc::new(
             alloc,
             Head {
-                full_name: Text::from_str(alloc, schema.full_name())?,
+                full_name: copied_text(alloc, schema.full_name())?,
                 shape_type: schema.shape_type(),
                 membership: StoredMember::Shape,
             },

@@ -38,12 +38,13 @@ pub struct SchemaRef<'t> {
 impl<'t> TableRef<'t> {
     ghost use Rattle.smithy_schema.specs.Stored.{node_stored};
     ghost use Rattle.smithy_schema.specs.References.{node_in};
-    ghost use Rattle.smithy_schema.specs.Defining.{is_whole, HasMembersInPlace, IsSound};
+    ghost use Rattle.smithy_schema.specs.Defining.{HasMembersInPlace, IsSound};
+    ghost use Rattle.smithy_schema.specs.WellMade.{is_whole};
     ghost use Rattle.smithy_schema.specs.Kept.{HasNames};
     ghost use Rattle.smithy_schema.specs.Places.{places_of};
     ghost use Rattle.smithy_schema.specs.Nodes.{position_of_name};
 
-    fn stored(self) -> &'t StoredNode
+    pub(crate) fn stored(self) -> &'t StoredNode
         ensures node { node_stored result.now ≡ node_in self.entry.table.now self.entry.index.0 }
         ensures whole { is_whole (node_stored result.now) ≡ true }
         ensures place { node_at self.entry.table.now self.entry.index.0 ≡ Some (node_stored result.now) }
@@ -96,7 +97,8 @@ impl<'t> SchemaRef<'t> {
     ghost use Rattle.smithy_schema.specs.Nodes.{at_place, position_of_name};
     ghost use Rattle.smithy_schema.specs.Places.{place_of, places_of};
     ghost use Rattle.smithy_schema.specs.PreludeNodes.{prelude_node, IsBare};
-    ghost use Rattle.smithy_schema.specs.Defining.{HasMembersInPlace, IsSound, is_whole};
+    ghost use Rattle.smithy_schema.specs.Defining.{HasMembersInPlace, IsSound};
+    ghost use Rattle.smithy_schema.specs.WellMade.{is_whole};
     ghost use Rattle.smithy_schema.specs.References.{schema_of, index_of};
     ghost use Rattle.smithy_schema.specs.Details.{details_of, outlined};
     ghost use Rattle.smithy_schema.specs.Stored.{node_stored, details_full};

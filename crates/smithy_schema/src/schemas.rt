@@ -12,7 +12,8 @@ use std::alloc::Global;
 use std::marker::Model;
 
 /// A table of nodes, each at a place that was declared first. A place that has no node yet is a hole.
-/// Each node with an index has a name, and at each position of a node's members stands a member with that index.
+/// The names of nodes and the texts of their bindings are UTF-8, each node with an index has a name, and at each position of
+/// a node's members stands a member with that index.
 #[derive(Drop)]
 pub struct Schemas {
     pub(crate) alloc: Global,
@@ -38,10 +39,11 @@ impl Model for Schemas {
 }
 
 impl Schemas {
-    ghost use Rattle.std.specs.Prelude.{◌≡◌, ◌++◌, ◌∷◌, [], length, slice_set, Some, None, Ok, Err, IfOk, OnOk, OnErr, IsOkUnless, MatchOption, IfSome, option_map};
+    ghost use Rattle.std.specs.Prelude.{◌≡◌, ◌++◌, ◌∷◌, [], length, slice_set, Some, None, Ok, Err, IfOk, OnOk, OnErr, IsOkUnless, MatchOption, IfSome, IsTrue, option_map};
     ghost use Rattle.smithy_schema.specs.Nodes.{at_place};
     ghost use Rattle.smithy_schema.specs.Defining.{IsSound, citing_fault, define_fault, declared_more};
     ghost use Rattle.smithy_schema.specs.References.{schema_of, index_of};
+    ghost use Rattle.smithy_schema.specs.WellMade.{is_well_made};
 
     /// A table without places.
     pub fn new(alloc: Global) -> Schemas
@@ -65,6 +67,7 @@ impl Schemas {
         ensures node { option_map schema_of result ≡ at_place self.now index.0 }
         ensures place { IfSome result (λ s. index_of s ≡ Some index.0) }
         ensures sound { IsSound self.now }
+        ensures well_made { IfSome result (λ s. IsTrue (is_well_made (schema_of s))) }
     {
         let _ = &self.nodes;
         SchemaRef::at(self, index)

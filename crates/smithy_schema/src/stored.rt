@@ -1,13 +1,14 @@
 // A node as a table keeps it: with texts of its own.
-ghost use Rattle.std.specs.Prelude.{◌≡◌, true, IfOk, option_map};
+ghost use Rattle.std.specs.Prelude.{◌≡◌, true, IfOk, IsTrue, option_map};
+ghost use Rattle.std.specs.Str.{is_utf8};
 ghost use Rattle.smithy_schema.specs.Details.{details_of};
 ghost use Rattle.smithy_schema.specs.Stored.{http_stored, namespace_stored, name_stored, index_stored, node_stored, table_stored, traits_stored, details_full};
 ghost use Rattle.smithy_schema.specs.MemberNames.{HasPositions};
 ghost use Rattle.smithy_schema.specs.Kept.{HasNames};
-ghost use Rattle.smithy_schema.specs.Defining.{is_whole};
 ghost use Rattle.smithy_schema.specs.Described.{name_in, index_in};
 ghost use Rattle.smithy_schema.specs.DescribedTraits.{traits_described};
 ghost use Rattle.smithy_schema.specs.MarksOf.{marks_of};
+ghost use Rattle.smithy_schema.specs.WellMade.{has_utf8, has_utf8_traits, is_whole};
 
 use crate::member_names::{Positions, first_positions};
 use crate::parts::{Marks, Places, SchemaIndex};
@@ -97,12 +98,21 @@ impl StoredNode {
     }
 }
 
+/// A copy of the text.
+pub(crate) fn copied_text(alloc: Global, text: &str) -> Result<Text, OutOfMemory>
+    ensures text { IfOk result (λ t. t ≡ text.now) }
+    ensures utf8 { IfOk result (λ t. IsTrue (is_utf8 t)) }
+{
+    Ok(Text::from_str(alloc, text)?)
+}
+
 // A copy of the text, where there is one.
 fn copied(alloc: Global, text: Option<&str>) -> Result<Option<Text>, OutOfMemory>
-    ensures { IfOk result (λ t. t ≡ option_map (λ s. s.now) text.entry) }
+    ensures text { IfOk result (λ t. t ≡ option_map (λ s. s.now) text.entry) }
+    ensures utf8 { IfOk result (λ t. IsTrue (has_utf8 t)) }
 {
     match text {
-        Some(text) => Ok(Some(Text::from_str(alloc, text)?)),
+        Some(text) => Ok(Some(copied_text(alloc, text)?)),
         None => Ok(None),
     }
 }
@@ -111,12 +121,13 @@ fn copied_http(
     alloc: Global,
     http: &Option<HttpTrait<'_>>,
 ) -> Result<Option<StoredHttp>, OutOfMemory>
-    ensures { IfOk result (λ h. option_map http_stored h ≡ http.now) }
+    ensures http { IfOk result (λ h. option_map http_stored h ≡ http.now) }
+    ensures utf8 { IfOk result (λ h. IsTrue (has_utf8 (option_map (λ k. k.uri) h))) }
 {
     match http {
         Some(http) => Ok(Some(StoredHttp {
-            method: Text::from_str(alloc, http.method())?,
-            uri: Text::from_str(alloc, http.uri())?,
+            method: copied_text(alloc, http.method())?,
+            uri: copied_text(alloc, http.uri())?,
             code: http.code(),
         })),
         None => Ok(None),
@@ -131,7 +142,7 @@ fn copied_namespace(
 {
     match namespace {
         Some(namespace) => Ok(Some(StoredNamespace {
-            uri: Text::from_str(alloc, namespace.uri())?,
+            uri: copied_text(alloc, namespace.uri())?,
             prefix: copied(alloc, namespace.prefix())?,
         })),
         None => Ok(None),
@@ -141,12 +152,13 @@ fn copied_namespace(
 fn copied_membership(alloc: Global, membership: Membership<'_>) -> Result<StoredMember, OutOfMemory>
     ensures name { IfOk result (λ m. name_stored m ≡ name_in membership.entry) }
     ensures index { IfOk result (λ m. index_stored m ≡ index_in membership.entry) }
+    ensures utf8 { IfOk result (λ m. IsTrue (has_utf8 (name_stored m))) }
 {
     match membership {
         Membership::Shape => Ok(StoredMember::Shape),
-        Membership::Named(name) => Ok(StoredMember::Named(Text::from_str(alloc, name)?)),
+        Membership::Named(name) => Ok(StoredMember::Named(copied_text(alloc, name)?)),
         Membership::Indexed(name, index) => {
-            Ok(StoredMember::Indexed(Text::from_str(alloc, name)?, index))
+            Ok(StoredMember::Indexed(copied_text(alloc, name)?, index))
         }
     }
 }
@@ -176,7 +188,8 @@ fn copied_traits(
     traits: &Traits<'_>,
     others: Option<TraitMap>,
 ) -> Result<StoredTraits, OutOfMemory>
-    ensures { IfOk result (λ t. traits_stored t ≡ record (traits_described traits.now) { others = others }) }
+    ensures traits { IfOk result (λ t. traits_stored t ≡ record (traits_described traits.now) { others = others }) }
+    ensures utf8 { IfOk result (λ t. IsTrue (has_utf8_traits (traits_stored t))) }
 {
     Ok(StoredTraits {
         marks: marks_in(traits),
@@ -200,6 +213,7 @@ fn copied_details(
 ) -> Result<FullDetails, OutOfMemory>
     ensures details { IfOk result (λ d. details_full d ≡ details_of schema.entry) }
     ensures names { IfOk result (λ d. HasPositions (table_stored nodes.now) schema.entry.members d.positions) }
+    ensures utf8 { IfOk result (λ d. IsTrue (has_utf8_traits (traits_stored d.traits))) }
 {
     let others = schema.others;
     let traits = copied_traits(alloc, &schema.traits, others)?;
@@ -227,7 +241,7 @@ pub(crate) fn copied_node(
     ensures names { IfOk result (λ n. HasNames (table_stored nodes.now) n.details) }
 {
     let head = Head {
-        full_name: Text::from_str(alloc, schema.id.as_str())?,
+        full_name: copied_text(alloc, schema.id.as_str())?,
         shape_type: schema.shape_type,
         membership: copied_membership(alloc, schema.membership)?,
     };

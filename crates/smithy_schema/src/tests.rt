@@ -1,7 +1,7 @@
 // What tables refuse, and the names of the prelude.
 use crate::{
     AnnotationTrait, Binding, DocumentTrait, Schema, SchemaError, SchemaIndex, SchemaRef, Schemas,
-    ShapeIdBuf, StringTrait, Trait, TraitMap, Traits, prelude,
+    ShapeIdBuf, StringTrait, Trait, TraitMap, Traits, laws, prelude,
 };
 use smithy_ids::{HttpTrait, PayloadHint, ShapeId, ShapeType, TimestampFormat};
 use smithy_types::Document;
@@ -146,6 +146,7 @@ fn a_structure_has_its_members(rt: HostRuntime) {
     assert_eq!(rt; named.member_name(), Some("name"));
     assert_eq!(rt; named.member_index(), Some(0));
     assert!(rt; schema.member_schema("nome").is_none());
+    laws::schema_is_well_made(schema);
 }
 
 #[test]
@@ -196,6 +197,7 @@ fn a_kind_of_a_simple_shape_is_told(rt: HostRuntime) {
     let string = SchemaRef::prelude(ShapeType::String);
     assert!(rt; blob.is_blob() & !blob.is_string());
     assert!(rt; string.is_string() & !string.is_blob());
+    laws::schema_is_well_made(string);
 }
 
 #[test]

@@ -1,0 +1,21 @@
+//! Laws of schemas, each the contract of a function that only looks at one.
+ghost use Rattle.std.specs.Prelude.{IsTrue};
+ghost use Rattle.smithy_schema.specs.References.{schema_of};
+ghost use Rattle.smithy_schema.specs.WellMade.{is_well_made};
+
+use crate::schema_ref::{SchemaRef, Spot};
+
+/// Each schema that a program holds is well made: the names and the texts of bindings, its own and its table's, are UTF-8,
+/// and at each position of a node's members stands a member with that index and a name.
+pub fn schema_is_well_made(schema: SchemaRef<'_>)
+    ensures { IsTrue (is_well_made (schema_of schema.entry)) }
+{
+    match schema.spot {
+        Spot::Table(place) => {
+            let _ = place.stored();
+        }
+        Spot::Prelude(_) => {
+            let _ = schema.full_name();
+        }
+    }
+}
