@@ -1,5 +1,5 @@
 -- What stands at the places of a table that is kept.
-use Rattle.std.proofs.Common.{◌≡◌, refl, sym, ap, ◌∙◌, ℕ, suc, Bool, true, false, ◌&&◌, ◌||◌, List, [], ◌∷◌, ◌++◌, length, option_map, Option, Some, None}
+use Rattle.std.proofs.Common.{◌≡◌, refl, sym, ap, ◌∙◌, ℕ, suc, true, ◌&&◌, ◌||◌, List, [], ◌∷◌, ◌++◌, length, option_map, Option, Some, None}
 use Rattle.std.specs.List.{slice_get}
 use Rattle.std.specs.Option.{option_flatten, is_some, is_none}
 use Rattle.std.proofs.lemmas.Bool.{and_parts}
@@ -38,9 +38,6 @@ name_of_whole node whole = (and_parts (has_hash node.full_name) (is_some node.me
 pub hash_of_whole : (node : Node) → is_whole node ≡ true → has_hash node.full_name ≡ true
 hash_of_whole node whole =
     (and_parts (has_hash node.full_name) (is_some node.member_name || is_none node.member_index) (named_of_whole node whole)).0
-
-pub texts_of_whole : (node : Node) → is_whole node ≡ true → has_utf8_texts node ≡ true
-texts_of_whole node whole = (and_parts (has_hash node.full_name && (is_some node.member_name || is_none node.member_index)) (has_utf8_texts node) whole).1
 
 -- a whole node's full name has parts
 pub whole-parts : (node : Node) (name : List ℕ) → name ≡ node.full_name → is_whole node ≡ true → None ≡ parts_in name → ⊥

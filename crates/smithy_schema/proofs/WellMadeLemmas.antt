@@ -14,7 +14,7 @@ use Rattle.smithy_schema.specs.Defining.{is_member, IsSound}
 use Rattle.smithy_schema.specs.References.{schema_in, schema_of}
 use Rattle.smithy_schema.specs.WellMade.{is_whole, are_in_place, is_node_well_made, is_table_well_made, is_well_made}
 
-pub both_true : (x y : Bool) → x ≡ true → y ≡ true → (x && y) ≡ true
+both_true : (x y : Bool) → x ≡ true → y ≡ true → (x && y) ≡ true
 both_true true y p q = q
 both_true false y p q = p
 

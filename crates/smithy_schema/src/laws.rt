@@ -5,8 +5,9 @@ ghost use Rattle.smithy_schema.specs.WellMade.{is_well_made};
 
 use crate::schema_ref::{SchemaRef, Spot};
 
-/// Each schema that a program holds is well made: the names and the texts of bindings, its own and its table's, are UTF-8,
-/// and at each position of a node's members stands a member with that index and a name.
+/// Each schema that a program holds is well made, and so is each node of its table: its full name is an identifier's, its
+/// names and the texts of its bindings are UTF-8, and at each position of its members stands a member with that index and
+/// a name.
 pub fn schema_is_well_made(schema: SchemaRef<'_>)
     ensures { IsTrue (is_well_made (schema_of schema.entry)) }
 {
