@@ -15,4 +15,6 @@ pub mod SecondSample
 pub mod Sizes
 pub mod SpacedTexts
 pub mod Told
+pub mod ToldApart
+pub mod TypedTests
 pub mod Untold

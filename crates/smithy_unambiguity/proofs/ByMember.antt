@@ -1,0 +1,49 @@
+-- What the first writes give, where only the writes to one member give something.
+use Rattle.std.proofs.Common.{◌≡◌, ◌≢◌, refl, sym, ◌∙◌, ap, ℕ, List, [], ◌∷◌, ◌++◌, flat_map, Option, Some, None, option_map}
+use Rattle.std.specs.List.{AllByRecursion}
+use Rattle.std.specs.Option.{option_map_or}
+use Rattle.smithy_schema.specs.Nodes.{Schema, member_at}
+use Rattle.smithy_serde.specs.Values.{Value, Write}
+use Rattle.smithy_serde.specs.Writes.{Resolved, all_resolved, first, firsts}
+use Rattle.smithy_unambiguity.proofs.Firsts.{only_one_gives}
+use Rattle.smithy_unambiguity.proofs.Conforming.{resolved_at}
+use Rattle.smithy_unambiguity.proofs.ByName.{all_apply, find_has}
+
+-- the value of a member's first write, with the member
+abbrev pub at_member : ℕ → Schema → Value → Resolved
+at_member i m v = record { position = i; member = m; value = v }
+
+-- the value of the first write to a position
+abbrev pub first_value : Schema → List Write → ℕ → Option Value
+first_value schema ws i = option_map (λ r. r.value) (first schema ws i)
+
+-- the first write to a member's position is one to the member
+pub first_at : (schema : Schema) (ws : List Write) (i : ℕ) (m : Schema) → member_at schema i ≡ Some m → first schema ws i ≡ option_map (at_member i m) (first_value schema ws i)
+first_at schema ws i m at = go (first schema ws i) refl
+  where
+    go : (o : Option Resolved) → first schema ws i ≡ o → o ≡ option_map (at_member i m) (option_map (λ r. r.value) o)
+    go None e = refl
+    go (Some r) e =
+        let has = find_has (λ x. member_at schema x.position ≡ Some x.member) i (all_resolved schema ws) r (resolved_at schema ws) e in
+        let both : Some r.member ≡ Some m = sym has.0 ∙ ap (member_at schema) has.1 ∙ at in
+        let same : r.member ≡ m = cc both in
+        let position : r.position ≡ i = has.1 in
+        λ k. Some (record { position = position k; member = same k; value = r.value })
+
+pub only_member : {X : Type 0} (g : Resolved → List X) (schema : Schema) (ws : List Write) (i : ℕ) (m : Schema) → member_at schema i ≡ Some m
+    → ((r : Resolved) → member_at schema r.position ≡ Some r.member → r.position ≢ i → g r ≡ [])
+    → flat_map g (firsts schema ws) ≡ option_map_or (λ v. g (at_member i m v)) (first_value schema ws i) []
+only_member {X = X} g schema ws i m at others =
+    only_one_gives X g i (all_resolved schema ws)
+    (all_apply {P = λ r. member_at schema r.position ≡ Some r.member} {Q = λ r. r.position ≢ i → g r ≡ []} (all_resolved schema ws) others (resolved_at schema ws))
+    ∙ ap (λ o. option_map_or g o []) (first_at schema ws i m at)
+    ∙ go (first_value schema ws i)
+  where
+    go : (o : Option Value) → option_map_or g (option_map (at_member i m) o) [] ≡ option_map_or (λ v. g (at_member i m v)) o []
+    go None = refl
+    go (Some v) = refl
+
+-- where no write gives anything, all give nothing
+pub no_member : {X : Type 0} (g : Resolved → List X) (schema : Schema) (rs : List Resolved) → AllByRecursion (λ r. g r ≡ []) rs → flat_map g rs ≡ []
+no_member g schema [] all = refl
+no_member g schema (r ∷ rs) all = (λ k. all.0 k ++ no_member g schema rs all.1 k)

@@ -1,0 +1,209 @@
+-- What stands at a name, in the query and in headers.
+use Rattle.std.proofs.Common.{◌≡◌, ◌≢◌, refl, sym, ◌∙◌, ap, subst, ℕ, Bool, true, false, not, cond, ◌==◌, List, [], ◌∷◌, ◌++◌, map, filter, find, flat_map, Option, Some, None, option_map, option_to_list, unwrap_or, if◌then◌else◌}
+use Rattle.std.specs.List.{AllByRecursion}
+use Rattle.std.specs.Option.{option_map_or, option_or}
+use Rattle.std.specs.Cmp.Lexicographic.{same_text as same_from_test}
+use Rattle.std.proofs.lemmas.Bool.{eqb-true}
+use Rattle.smithy_types.specs.Texts.{found, same_text, is_one_of}
+use Rattle.smithy_schema.specs.Nodes.{Schema, member_at, Binding, to_header, to_prefix, to_query, to_query_map, to_label, to_payload, to_body, binding_at, binding_of}
+use Rattle.smithy_serde.specs.Values.{Value, Write}
+use Rattle.smithy_serde.specs.Writes.{Resolved, all_resolved, first, firsts, is_of}
+use Rattle.smithy_binding.specs.Bindings.{pairs, pairs_at, pairs_of, query_names, has_key_outside, entry_texts, entry_pairs, texts, map_entries}
+use Rattle.smithy_http.specs.Headers.{without, put, put_all}
+use Rattle.smithy_http.specs.Facts.{values_at}
+use Rattle.smithy_binding.proofs.Tests.{same_text_self}
+use Rattle.smithy_unambiguity.proofs.LastTexts.{last_value, last_at}
+use Rattle.smithy_unambiguity.proofs.Queries.{values_at-append}
+use Rattle.smithy_unambiguity.proofs.Firsts.{only_one_gives}
+use Rattle.smithy_unambiguity.proofs.Conforming.{resolved_at}
+use Rattle.smithy_unambiguity.proofs.Positions.{HasApartQueries}
+
+-- Headers: each name once.
+
+without_self : (name : List ℕ) (ps : List (List ℕ × List ℕ)) → values_at name (without name ps) ≡ []
+without_self name [] = refl
+without_self name (p ∷ ps) = go (same_text p.0 name) refl (without_self name ps)
+  where
+    go : (t : Bool) → same_text p.0 name ≡ t → values_at name (without name ps) ≡ [] → values_at name (cond (not t) (p ∷ without name ps) (without name ps)) ≡ []
+    go true e rest = rest
+    go false e rest = ap (λ t. map (λ q. q.1) (cond t (p ∷ filter (λ q. same_text q.0 name) (without name ps)) (filter (λ q. same_text q.0 name) (without name ps)))) e ∙ rest
+
+without_other : (name other : List ℕ) (ps : List (List ℕ × List ℕ)) → same_text other name ≡ false → values_at name (without other ps) ≡ values_at name ps
+without_other name other [] apart = refl
+without_other name other (p ∷ ps) apart = go (same_text p.0 other) (same_text p.0 name) refl refl (without_other name other ps apart)
+  where
+    go : (s t : Bool) → same_text p.0 other ≡ s → same_text p.0 name ≡ t → values_at name (without other ps) ≡ values_at name ps
+        → values_at name (cond (not s) (p ∷ without other ps) (without other ps)) ≡ map (λ q. q.1) (cond t (p ∷ filter (λ q. same_text q.0 name) ps) (filter (λ q. same_text q.0 name) ps))
+    go true true es et rest = let q : true ≡ false = sym et ∙ ap (λ n. same_text n name) (same_from_test p.0 other (sym es)) ∙ apart in absurd (cc q)
+    go true false es et rest = rest
+    go false true es et rest = ap (λ t. map (λ q. q.1) (cond t (p ∷ filter (λ q. same_text q.0 name) (without other ps)) (filter (λ q. same_text q.0 name) (without other ps)))) et ∙ ap (λ xs. p.1 ∷ xs) rest
+    go false false es et rest = ap (λ t. map (λ q. q.1) (cond t (p ∷ filter (λ q. same_text q.0 name) (without other ps)) (filter (λ q. same_text q.0 name) (without other ps)))) et ∙ rest
+
+abbrev pub front : List (List ℕ) → Option (List ℕ)
+front [] = None
+front (x ∷ xs) = Some x
+
+pub found-front : (name : List ℕ) (ps : List (List ℕ × List ℕ)) → found name ps ≡ front (values_at name ps)
+found-front name [] = refl
+found-front name (p ∷ ps) = go (same_text p.0 name) (found-front name ps)
+  where
+    go : (t : Bool) → found name ps ≡ front (values_at name ps)
+        → option_map (λ q. q.1) (cond t (Some p) (find (λ q. same_text q.0 name) ps)) ≡ front (map (λ q. q.1) (cond t (p ∷ filter (λ q. same_text q.0 name) ps) (filter (λ q. same_text q.0 name) ps)))
+    go true rest = refl
+    go false rest = rest
+
+-- what is put stands alone at its name
+values_at-put : (ps : List (List ℕ × List ℕ)) (p : List ℕ × List ℕ) → values_at p.0 (put ps p) ≡ p.1 ∷ []
+values_at-put [] p = rw (same_text_self p.0) refl
+values_at-put (q ∷ qs) p = go (same_text q.0 p.0) refl (values_at-put qs p)
+  where
+    go : (b : Bool) → same_text q.0 p.0 ≡ b → values_at p.0 (put qs p) ≡ p.1 ∷ [] → values_at p.0 (if b then (q.0, p.1) ∷ without p.0 qs else q ∷ put qs p) ≡ p.1 ∷ []
+    go true e rest = rw e (ap (λ xs. p.1 ∷ xs) (without_self p.0 qs))
+    go false e rest = rw e rest
+
+-- and changes nothing at another name
+values_at-put_other : (name : List ℕ) (ps : List (List ℕ × List ℕ)) (p : List ℕ × List ℕ) → same_text p.0 name ≡ false → values_at name (put ps p) ≡ values_at name ps
+values_at-put_other name [] p unlike = rw unlike refl
+values_at-put_other name (q ∷ qs) p unlike = go (same_text q.0 p.0) refl (values_at-put_other name qs p unlike)
+  where
+    go : (b : Bool) → same_text q.0 p.0 ≡ b → values_at name (put qs p) ≡ values_at name qs → values_at name (if b then (q.0, p.1) ∷ without p.0 qs else q ∷ put qs p) ≡ values_at name (q ∷ qs)
+    go true e rest = let unlike_q : same_text q.0 name ≡ false = ap (λ t. same_text t name) (same_from_test q.0 p.0 (sym e)) ∙ unlike in rw unlike_q (without_other name p.0 qs unlike)
+    go false e rest = go_kept (same_text q.0 name) refl
+      where
+        go_kept : (c : Bool) → same_text q.0 name ≡ c → values_at name (q ∷ put qs p) ≡ values_at name (q ∷ qs)
+        go_kept true h = rw h (ap (λ xs. q.1 ∷ xs) rest)
+        go_kept false h = rw h rest
+
+abbrev or_else : Option (List ℕ) → List (List ℕ) → List (List ℕ)
+or_else (Some x) before = x ∷ []
+or_else None before = before
+
+or_else-later : (o : Option (List ℕ)) (v : List ℕ) (before : List (List ℕ)) → or_else o (v ∷ []) ≡ or_else (option_or o (Some v)) before
+or_else-later None v before = refl
+or_else-later (Some x) v before = refl
+
+values_at-put_all : (name : List ℕ) (done ps : List (List ℕ × List ℕ)) → values_at name (put_all done ps) ≡ or_else (last_value (values_at name ps)) (values_at name done)
+values_at-put_all name done [] = refl
+values_at-put_all name done (p ∷ ps) = values_at-put_all name (put done p) ps ∙ go (same_text p.0 name) refl
+  where
+    go : (t : Bool) → same_text p.0 name ≡ t → or_else (last_value (values_at name ps)) (values_at name (put done p)) ≡ or_else (last_value (values_at name (p ∷ ps))) (values_at name done)
+    go true e =
+        let here : values_at name (put done p) ≡ p.1 ∷ [] = subst (λ (n : List ℕ). values_at n (put done p) ≡ p.1 ∷ []) (same_from_test p.0 name (sym e)) (values_at-put done p) in
+        rw (e, here) (or_else-later (last_value (values_at name ps)) p.1 (values_at name done))
+    go false e = rw (e, values_at-put_other name done p e) refl
+
+-- a name stands once, with its last value
+pub each_once_at : (name : List ℕ) (ps : List (List ℕ × List ℕ)) → values_at name (put_all [] ps) ≡ last_at name ps
+each_once_at name ps = values_at-put_all name [] ps ∙ go (last_value (values_at name ps))
+  where
+    go : (o : Option (List ℕ)) → or_else o [] ≡ option_to_list o
+    go None = refl
+    go (Some x) = refl
+
+-- The query.
+
+-- the trait of a member that stands there
+query_at : (h p q : Option (List ℕ)) (query_map label payload : Bool) (name : List ℕ) → binding_at h p q query_map label payload ≡ to_query name → q ≡ Some name
+query_at (Some h) p q query_map label payload name e = absurd (cc e)
+query_at None (Some p) q query_map label payload name e = absurd (cc e)
+query_at None None (Some q) query_map label payload name e = let same : q ≡ name = cc e in ap Some same
+query_at None None None true label payload name e = absurd (cc e)
+query_at None None None false true payload name e = absurd (cc e)
+query_at None None None false false true name e = absurd (cc e)
+query_at None None None false false false name e = absurd (cc e)
+
+pub query_of : (m : Schema) (name : List ℕ) → binding_of m ≡ to_query name → m.node.traits.http_query ≡ Some name
+query_of m name e = query_at m.node.traits.http_header m.node.traits.http_prefix_headers m.node.traits.http_query m.node.traits.http_query_params m.node.traits.http_label m.node.traits.http_payload name e
+
+pub values_at-flat_map : (name : List ℕ) (g : Resolved → List (List ℕ × List ℕ)) (rs : List Resolved) → values_at name (flat_map g rs) ≡ flat_map (λ r. values_at name (g r)) rs
+values_at-flat_map name g [] = refl
+values_at-flat_map name g (r ∷ rs) = values_at-append name (g r) (flat_map g rs) ∙ ap (λ xs. values_at name (g r) ++ xs) (values_at-flat_map name g rs)
+
+pub under_name : (name other : List ℕ) (t : Bool) (texts : List (List ℕ)) → same_text other name ≡ t → values_at name (map (λ x. (other, x)) texts) ≡ cond t texts []
+under_name name other true [] e = refl
+under_name name other false [] e = refl
+under_name name other t (x ∷ texts) e =
+    ap (λ s. map (λ (q : List ℕ × List ℕ). q.1) (cond s ((other, x) ∷ filter (λ (q : List ℕ × List ℕ). same_text q.0 name) (map (λ y. (other, y)) texts)) (filter (λ (q : List ℕ × List ℕ). same_text q.0 name) (map (λ y. (other, y)) texts)))) e
+    ∙ go t (under_name name other t texts e)
+  where
+    go : (s : Bool) → values_at name (map (λ y. (other, y)) texts) ≡ cond s texts []
+        → map (λ (q : List ℕ × List ℕ). q.1) (cond s ((other, x) ∷ filter (λ (q : List ℕ × List ℕ). same_text q.0 name) (map (λ y. (other, y)) texts)) (filter (λ (q : List ℕ × List ℕ). same_text q.0 name) (map (λ y. (other, y)) texts))) ≡ cond s (x ∷ texts) []
+    go true rest = ap (λ xs. x ∷ xs) rest
+    go false rest = rest
+
+abbrev pub no_values : List (List ℕ)
+no_values = []
+
+-- what a map's entries of other keys than these names give at a name
+pub entries_at : (name : List ℕ) (names : List (List ℕ)) (es : List (List ℕ × Value)) → values_at name (flat_map entry_pairs (filter (has_key_outside names) es)) ≡ cond (is_one_of name names) [] (values_at name (flat_map entry_pairs es))
+entries_at name names [] = go (is_one_of name names)
+  where
+    go : (t : Bool) → no_values ≡ cond t no_values no_values
+    go true = refl
+    go false = refl
+entries_at name names (e ∷ es) = go (same_text e.0 name) (is_one_of e.0 names) (is_one_of name names) refl refl refl (entries_at name names es)
+  where
+    here : (t : Bool) → same_text e.0 name ≡ t → (more : List (List ℕ × Value)) → values_at name (flat_map entry_pairs (e ∷ more)) ≡ cond t (entry_texts e.1) [] ++ values_at name (flat_map entry_pairs more)
+    here t is more = values_at-append name (entry_pairs e) (flat_map entry_pairs more) ∙ ap (λ vs. vs ++ values_at name (flat_map entry_pairs more)) (under_name name e.0 t (entry_texts e.1) is)
+
+    go : (s t u : Bool) → same_text e.0 name ≡ s → is_one_of e.0 names ≡ t → is_one_of name names ≡ u
+        → values_at name (flat_map entry_pairs (filter (has_key_outside names) es)) ≡ cond (is_one_of name names) [] (values_at name (flat_map entry_pairs es))
+        → values_at name (flat_map entry_pairs (cond (not (is_one_of e.0 names)) (e ∷ filter (has_key_outside names) es) (filter (has_key_outside names) es))) ≡ cond (is_one_of name names) [] (values_at name (flat_map entry_pairs (e ∷ es)))
+    go s true true is et eu rest = rw (et, eu) (rw eu at rest)
+    go false false u is et eu rest = rw et (here false is (filter (has_key_outside names) es) ∙ rest ∙ ap (cond (is_one_of name names) []) (sym (here false is es)))
+    go false true u is et eu rest = rw et (rest ∙ ap (cond (is_one_of name names) []) (sym (here false is es)))
+    go true false false is et eu rest = rw (et, eu) (here true is (filter (has_key_outside names) es) ∙ ap (λ vs. entry_texts e.1 ++ vs) (rw eu at rest) ∙ sym (here true is es))
+    go true true false is et eu rest = let q : true ≡ false = sym et ∙ ap (λ n. is_one_of n names) (same_from_test e.0 name (sym is)) ∙ eu in absurd (cc q)
+    go true false true is et eu rest = let q : true ≡ false = sym eu ∙ ap (λ n. is_one_of n names) (sym (same_from_test e.0 name (sym is))) ∙ et in absurd (cc q)
+
+abbrev given : Schema → List ℕ → Resolved → List (List ℕ)
+given schema name r = values_at name (pairs_of schema r)
+
+others_give_nothing : (schema : Schema) (name : List ℕ) (i : ℕ) (m : Schema) → HasApartQueries schema → member_at schema i ≡ Some m → m.node.traits.http_query ≡ Some name → is_one_of name (query_names schema) ≡ true
+    → (r : Resolved) → member_at schema r.position ≡ Some r.member → r.position ≢ i → given schema name r ≡ []
+others_give_nothing schema name i m apart at query one r at_r other = go (binding_of r.member) refl
+  where
+    go : (b : Binding) → binding_of r.member ≡ b → values_at name (pairs_at b (query_names schema) r.member r.value) ≡ []
+    go to_query_map e = entries_at name (query_names schema) (map_entries r.value) ∙ ap (λ t. cond t [] (values_at name (flat_map entry_pairs (map_entries r.value)))) one
+    go (to_query n) e = under_name name n (same_text n name) (unwrap_or (texts r.member r.value) []) refl ∙ by (same_text n name) refl
+      where
+        by : (t : Bool) → same_text n name ≡ t → cond t (unwrap_or (texts r.member r.value) []) [] ≡ []
+        by true et = absurd (other (apart r.position i r.member m name at_r at (query_of r.member n e ∙ ap Some (same_from_test n name (sym et))) query))
+        by false et = refl
+    go (to_header n) e = refl
+    go (to_prefix n) e = refl
+    go to_label e = refl
+    go to_payload e = refl
+    go to_body e = refl
+
+pub all_apply : {P Q : Resolved → Type 0} (rs : List Resolved) → ((r : Resolved) → P r → Q r) → AllByRecursion (λ r. P r) rs → AllByRecursion (λ r. Q r) rs
+all_apply [] f all = tt
+all_apply (r ∷ rs) f all = (f r all.0, all_apply rs f all.1)
+
+pub find_has : (P : Resolved → Type 0) (i : ℕ) (rs : List Resolved) (r : Resolved) → AllByRecursion P rs → find (is_of i) rs ≡ Some r → P r × (r.position ≡ i)
+find_has P i [] r all e = absurd (cc e)
+find_has P i (x ∷ rs) r all e = go (x.position == i) refl (find_has P i rs r all.1) e
+  where
+    go : (t : Bool) → (x.position == i) ≡ t → (find (is_of i) rs ≡ Some r → P r × (r.position ≡ i)) → cond t (Some x) (find (is_of i) rs) ≡ Some r → P r × (r.position ≡ i)
+    go true et rest h = let same : x ≡ r = cc h in (subst P same all.0, ap (λ y. y.position) (sym same) ∙ eqb-true x.position i et)
+    go false et rest h = rest h
+
+-- at a query member's name stand the texts of its first write
+pub pairs_of_member : (schema : Schema) → HasApartQueries schema → (ws : List Write) (i : ℕ) (m : Schema) (name : List ℕ) → member_at schema i ≡ Some m → binding_of m ≡ to_query name → is_one_of name (query_names schema) ≡ true
+    → values_at name (pairs schema ws) ≡ option_map_or (λ r. unwrap_or (texts m r.value) []) (first schema ws i) []
+unfolding pairs
+pairs_of_member schema apart ws i m name at query one =
+    values_at-flat_map name (pairs_of schema) (firsts schema ws)
+    ∙ only_one_gives (List ℕ) (given schema name) i (all_resolved schema ws)
+    (all_apply {P = λ r. member_at schema r.position ≡ Some r.member} {Q = λ r. r.position ≢ i → given schema name r ≡ []} (all_resolved schema ws) (λ r at_r other. others_give_nothing schema name i m apart at (query_of m name query) one r at_r other) (resolved_at schema ws))
+    ∙ go (first schema ws i) refl
+  where
+    go : (o : Option Resolved) → first schema ws i ≡ o → option_map_or (given schema name) o [] ≡ option_map_or (λ r. unwrap_or (texts m r.value) []) o []
+    go None e = refl
+    go (Some r) e =
+        let has = find_has (λ x. member_at schema x.position ≡ Some x.member) i (all_resolved schema ws) r (resolved_at schema ws) e in
+        let both : Some r.member ≡ Some m = sym has.0 ∙ ap (member_at schema) has.1 ∙ at in
+        let same : r.member ≡ m = cc both in
+        ap (λ x. values_at name (pairs_at (binding_of x) (query_names schema) x r.value)) same
+        ∙ ap (λ b. values_at name (pairs_at b (query_names schema) m r.value)) query
+        ∙ under_name name name true (unwrap_or (texts m r.value) []) (same_text_self name)

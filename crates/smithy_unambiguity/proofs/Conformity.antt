@@ -1,0 +1,71 @@
+-- What no fault says of an input: each of its parts has none.
+use Rattle.std.proofs.Common.{◌≡◌, refl, ◌∙◌, ap, ℕ, List, [], Option, Some, None, Result, Ok, Err}
+use Rattle.std.specs.Result.{result_ok, result_err}
+use Rattle.smithy_types.specs.Results.{then_give}
+use Rattle.smithy_schema.specs.Nodes.{Schema}
+use Rattle.smithy_schema.specs.Templates.{pieces}
+use Rattle.smithy_serde.specs.Values.{Write}
+use Rattle.smithy_binding.specs.Answer.{answer, place, request_at}
+use Rattle.smithy_binding.specs.Bindings.{pairs, labels}
+use Rattle.smithy_binding.specs.Faults.{Fault, behind, fault, writes_fault, body_fault, legal_fault, legal_or_fault, legal_target}
+use Rattle.smithy_binding.specs.Filling.{fill}
+use Rattle.smithy_binding.specs.Placing.{Protocol, Omit, target_of, template_of, with_query}
+
+-- The writes and the body have no fault, the template is filled to a path, and the target over it is legal.
+pub record IsConforming (schema : Schema) (ws : List Write) (endpoint : List ℕ) : Type 0 where
+  pub writes : writes_fault schema [] ws ≡ None
+  pub body : body_fault schema ws ≡ None
+  pub path : List ℕ
+  pub fills : fill (pieces (template_of schema endpoint)) (labels schema ws) ≡ Ok path
+  pub legal : legal_fault (with_query path (pairs schema ws)) ≡ None
+
+none_before : {A : Type 0} (o : Option Fault) (r : Result A Fault) → result_err (behind o r) ≡ None → (o ≡ None) × (result_err r ≡ None)
+none_before None r e = (refl, e)
+none_before (Some f) r e = absurd (cc e)
+
+-- a target without a fault has its holes filled, and is legal
+pub record IsFilledTarget (schema : Schema) (ws : List Write) (endpoint : List ℕ) : Type 0 where
+  pub path : List ℕ
+  pub fills : fill (pieces (template_of schema endpoint)) (labels schema ws) ≡ Ok path
+  pub legal : legal_fault (with_query path (pairs schema ws)) ≡ None
+
+filled_target : (schema : Schema) (ws : List Write) (endpoint : List ℕ) → result_err (legal_or_fault (target_of schema ws endpoint)) ≡ None → IsFilledTarget schema ws endpoint
+unfolding target_of
+filled_target schema ws endpoint e = go (fill (pieces (template_of schema endpoint)) (labels schema ws)) refl e
+  where
+    go : (r : Result (List ℕ) (List ℕ)) → fill (pieces (template_of schema endpoint)) (labels schema ws) ≡ r
+        → result_err (legal_or_fault (then_give r λ path. with_query path (pairs schema ws))) ≡ None → IsFilledTarget schema ws endpoint
+    go (Ok path) is h = record { path = path; fills = is; legal = (none_before (legal_fault (with_query path (pairs schema ws))) (Ok (with_query path (pairs schema ws))) h).0 }
+    go (Err hole) is h = absurd (cc h)
+
+pub conforming : (schema : Schema) (ws : List Write) (endpoint : List ℕ) → fault schema ws endpoint ≡ None → IsConforming schema ws endpoint
+unfolding legal_target
+conforming schema ws endpoint e =
+    let first = none_before (writes_fault schema [] ws) (behind (body_fault schema ws) (legal_or_fault (target_of schema ws endpoint))) e in
+    let second = none_before (body_fault schema ws) (legal_or_fault (target_of schema ws endpoint)) first.1 in
+    let target = filled_target schema ws endpoint second.1 in
+    record { writes = first.0; body = second.0; path = target.path; fills = target.fills; legal = target.legal }
+
+target_filled : (schema : Schema) (ws : List Write) (endpoint path : List ℕ) → fill (pieces (template_of schema endpoint)) (labels schema ws) ≡ Ok path → target_of schema ws endpoint ≡ Ok (with_query path (pairs schema ws))
+unfolding target_of
+target_filled schema ws endpoint path e = ap (λ (r : Result (List ℕ) (List ℕ)). then_give r λ p. with_query p (pairs schema ws)) e
+
+-- such an input has its target
+pub target_of_conforming : (schema : Schema) (ws : List Write) (endpoint : List ℕ) (c : IsConforming schema ws endpoint) → legal_target schema ws endpoint ≡ Ok (with_query c.path (pairs schema ws))
+unfolding legal_target
+target_of_conforming schema ws endpoint c =
+    let target = with_query c.path (pairs schema ws) in
+    ap (λ (o : Option Fault). behind o (behind (body_fault schema ws) (legal_or_fault (target_of schema ws endpoint)))) c.writes
+    ∙ ap (λ (o : Option Fault). behind o (legal_or_fault (target_of schema ws endpoint))) c.body
+    ∙ ap legal_or_fault (target_filled schema ws endpoint c.path c.fills)
+    ∙ ap (λ (o : Option Fault). behind o (Ok target)) c.legal
+
+pub from_conforming : (schema : Schema) (ws : List Write) (endpoint : List ℕ) → IsConforming schema ws endpoint → fault schema ws endpoint ≡ None
+from_conforming schema ws endpoint c = ap result_err (target_of_conforming schema ws endpoint c)
+
+-- and its request
+pub place_conforming : (protocol : Protocol) (schema : Schema) (ws : List Write) (endpoint : List ℕ) (omit : Omit) (c : IsConforming schema ws endpoint)
+    → place protocol schema ws endpoint omit ≡ Some (request_at protocol schema ws omit (with_query c.path (pairs schema ws)))
+unfolding answer
+place_conforming protocol schema ws endpoint omit c =
+    ap (λ (r : Result (List ℕ) Fault). result_ok (then_give r (request_at protocol schema ws omit))) (target_of_conforming schema ws endpoint c)

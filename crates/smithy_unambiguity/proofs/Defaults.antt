@@ -1,0 +1,69 @@
+-- A default header changes nothing at a name under which none is added.
+use Rattle.std.proofs.Common.{◌≡◌, refl, sym, ◌∙◌, ap, subst, ℕ, Bool, true, false, not, cond, ◌&&◌, ◌||◌, List, [], ◌∷◌, ◌++◌, map, length, codes, decimal, Option, Some, None, is_some, is_none, if◌then◌else◌}
+use Rattle.std.specs.Cmp.Lexicographic.{same_text as same_from_test}
+use Rattle.std.proofs.lemmas.List.{append-nil}
+use Rattle.smithy_types.specs.Texts.{found, same_text, is_one_of}
+use Rattle.smithy_http.specs.Facts.{values_at}
+use Rattle.smithy_binding.specs.Bodies.{Body}
+use Rattle.smithy_binding.specs.Placing.{Protocol, Omit, with_default, adds_content_type, adds_content_length, all_headers}
+use Rattle.smithy_binding.specs.Typed.{leaves_default, default_names}
+use Rattle.smithy_binding.proofs.Tests.{same_text_self}
+use Rattle.smithy_unambiguity.proofs.Queries.{values_at-append}
+use Rattle.smithy_unambiguity.proofs.ByName.{front, found-front}
+
+-- what is not added at a name changes nothing there
+values_at-with_default : (wanted : Bool) (name value at : List ℕ) (pairs : List (List ℕ × List ℕ)) → (same_text name at ≡ true → wanted ≡ true → is_some (found name pairs) ≡ true)
+    → values_at at (with_default wanted name value pairs) ≡ values_at at pairs
+values_at-with_default wanted name value at pairs stands = go wanted (found name pairs) (same_text name at) refl stands
+  where
+    go : (w : Bool) (o : Option (List ℕ)) (t : Bool) → same_text name at ≡ t → (t ≡ true → w ≡ true → is_some o ≡ true)
+        → values_at at (if w && is_none o then pairs ++ (name, value) ∷ [] else pairs) ≡ values_at at pairs
+    go false o t e h = refl
+    go true (Some x) t e h = refl
+    go true None true e h = absurd (let q = h refl refl in cc q)
+    go true None false e h = values_at-append at pairs ((name, value) ∷ []) ∙ ap (λ b. values_at at pairs ++ map (λ (q : List ℕ × List ℕ). q.1) (cond b ((name, value) ∷ []) [])) e ∙ append-nil (values_at at pairs)
+
+-- the test of a default, taken apart
+wanted_stands : (a b c d s : Bool) → (not ((a && b) || (c && d)) || s) ≡ true → ((a ≡ true → b ≡ true → s ≡ true) × (c ≡ true → d ≡ true → s ≡ true))
+wanted_stands a b c d true h = ((λ p q. refl), (λ p q. refl))
+wanted_stands true true c d false h = absurd (cc h)
+wanted_stands true false true true false h = absurd (cc h)
+wanted_stands true false true false false h = ((λ p q. q), (λ p q. q))
+wanted_stands true false false d false h = ((λ p q. q), (λ p q. p))
+wanted_stands false b true true false h = absurd (cc h)
+wanted_stands false b true false false h = ((λ p q. p), (λ p q. q))
+wanted_stands false b false d false h = ((λ p q. p), (λ p q. p))
+
+same_text_back : (a b : List ℕ) → same_text a b ≡ true → same_text b a ≡ true
+same_text_back a b e = ap (same_text b) (same_from_test a b (sym e)) ∙ same_text_self b
+
+pub all_headers_at : (protocol : Protocol) (b : Body) (omit : Omit) (pairs : List (List ℕ × List ℕ)) (name : List ℕ) → leaves_default b omit pairs name ≡ true
+    → values_at name (all_headers protocol b omit pairs) ≡ values_at name pairs
+all_headers_at protocol b omit pairs name leaves =
+    values_at-with_default (adds_content_length b omit) (codes "content-length") (decimal (length b.bytes)) name typed long ∙ kept
+  where
+    typed : List (List ℕ × List ℕ)
+    typed = with_default (adds_content_type b omit) (codes "content-type") protocol.content_type pairs
+
+    parts : (same_text name (codes "content-type") ≡ true → adds_content_type b omit ≡ true → is_some (found name pairs) ≡ true)
+        × (same_text name (codes "content-length") ≡ true → adds_content_length b omit ≡ true → is_some (found name pairs) ≡ true)
+    parts = wanted_stands (same_text name (codes "content-type")) (adds_content_type b omit) (same_text name (codes "content-length")) (adds_content_length b omit) (is_some (found name pairs)) leaves
+
+    kept : values_at name (with_default (adds_content_type b omit) (codes "content-type") protocol.content_type pairs) ≡ values_at name pairs
+    kept = values_at-with_default (adds_content_type b omit) (codes "content-type") protocol.content_type name pairs
+        (λ same wanted. subst (λ (n : List ℕ). is_some (found n pairs) ≡ true) (sym (same_from_test (codes "content-type") name (sym same))) (parts.0 (same_text_back (codes "content-type") name same) wanted))
+
+    long : same_text (codes "content-length") name ≡ true → adds_content_length b omit ≡ true → is_some (found (codes "content-length") typed) ≡ true
+    long same wanted =
+        let here = parts.1 (same_text_back (codes "content-length") name same) wanted in
+        let there : is_some (found name typed) ≡ true = ap is_some (found-front name typed ∙ ap front kept ∙ sym (found-front name pairs)) ∙ here in
+        subst (λ (n : List ℕ). is_some (found n typed) ≡ true) (sym (same_from_test (codes "content-length") name (sym same))) there
+
+-- at another name than the two defaults' none is added
+pub leaves-elsewhere : (b : Body) (omit : Omit) (pairs : List (List ℕ × List ℕ)) (name : List ℕ) → is_one_of name default_names ≡ false → leaves_default b omit pairs name ≡ true
+leaves-elsewhere b omit pairs name e = go (same_text name (codes "content-type")) (same_text name (codes "content-length")) e
+  where
+    go : (s t : Bool) → (s || (t || false)) ≡ false → (not ((s && adds_content_type b omit) || (t && adds_content_length b omit)) || is_some (found name pairs)) ≡ true
+    go true t h = absurd (cc h)
+    go false true h = absurd (cc h)
+    go false false h = refl

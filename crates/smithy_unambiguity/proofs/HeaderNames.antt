@@ -1,0 +1,101 @@
+-- Which member gives a header of a name: names in lower case tell positions apart, and no prefix begins one.
+use Rattle.std.proofs.Common.{◌≡◌, ◌≢◌, refl, sym, ◌∙◌, ap, ℕ, zero, suc, ◌≤◌, nat_eq, Bool, true, false, not, ◌&&◌, ◌||◌, ◌==◌, List, [], ◌∷◌, ◌++◌, length, map, filter, filter_map, slice_get, Option, Some, None, option_map, is_some, eq-eqb}
+use Rattle.std.specs.List.{list_all, list_any, starts_with, cons_option}
+use Rattle.std.specs.Str.{str_to_ascii_lowercase}
+use Rattle.std.proofs.lemmas.Bool.{and_parts, leb-true}
+use Rattle.std.proofs.lemmas.List.{map-append}
+use Rattle.smithy_types.specs.Texts.{are_distinct, AreDistinct}
+use Rattle.smithy_types.specs.Grammars.{is_token}
+use Rattle.smithy_schema.specs.Nodes.{Schema, member_at, members_of}
+use Rattle.smithy_binding.specs.Bindings.{query_names}
+use Rattle.smithy_binding.specs.Checked.{IsCheckedInput, lower_header_names, prefixes, is_sound_prefix, has_sound_headers}
+use Rattle.smithy_binding.proofs.Tests.{AreDistinct-from_test}
+use Rattle.smithy_unambiguity.proofs.Positions.{members_by_position, apart_at}
+use Rattle.smithy_unambiguity.proofs.Singles.{single}
+use Rattle.smithy_unambiguity.proofs.SoundMaps.{sound_maps}
+
+-- the name of a header member in lower case
+abbrev pub lower_name : Schema → Option (List ℕ)
+lower_name m = option_map str_to_ascii_lowercase m.node.traits.http_header
+
+lower_names : (ms : List Schema) → map str_to_ascii_lowercase (filter_map (λ m. m.node.traits.http_header) ms) ≡ filter_map lower_name ms
+lower_names [] = refl
+lower_names (m ∷ ms) = go m.node.traits.http_header (lower_names ms)
+  where
+    go : (o : Option (List ℕ)) → map str_to_ascii_lowercase (filter_map (λ m. m.node.traits.http_header) ms) ≡ filter_map lower_name ms
+        → map str_to_ascii_lowercase (cons_option o (filter_map (λ m. m.node.traits.http_header) ms)) ≡ cons_option (option_map str_to_ascii_lowercase o) (filter_map lower_name ms)
+    go None rest = rest
+    go (Some n) rest = ap (λ ns. str_to_ascii_lowercase n ∷ ns) rest
+
+starts-self : (a b : List ℕ) → starts_with nat_eq (a ++ b) a ≡ true
+starts-self [] b = refl
+starts-self (x ∷ a) b = ap (λ t. t && starts_with nat_eq (a ++ b) a) (eq-eqb x x refl) ∙ starts-self a b
+
+-- a test that holds of all names holds of a member's
+all_at : (p : List ℕ → Bool) (h : Schema → Option (List ℕ)) (ms : List Schema) (j : ℕ) (n : Schema) (name : List ℕ) → list_all p (filter_map h ms) ≡ true → slice_get ms j ≡ Some n → h n ≡ Some name → p name ≡ true
+all_at p h [] j n name all e is = absurd (cc e)
+all_at p h (x ∷ ms) zero n name all e is = let same : x ≡ n = cc e in go (h x) (ap h same ∙ is) all
+  where
+    go : (o : Option (List ℕ)) → o ≡ Some name → list_all p (cons_option o (filter_map h ms)) ≡ true → p name ≡ true
+    go None q rest = absurd (cc q)
+    go (Some y) q rest = let names : y ≡ name = cc q in ap p (sym names) ∙ (and_parts (p y) (list_all p (filter_map h ms)) rest).0
+all_at p h (x ∷ ms) (suc j) n name all e is = all_at p h ms j n name (go (h x) all) e is
+  where
+    go : (o : Option (List ℕ)) → list_all p (cons_option o (filter_map h ms)) ≡ true → list_all p (filter_map h ms) ≡ true
+    go None rest = rest
+    go (Some y) rest = (and_parts (p y) (list_all p (filter_map h ms)) rest).1
+
+-- a test that some name passes
+any_at : (p : List ℕ → Bool) (h : Schema → Option (List ℕ)) (ms : List Schema) (j : ℕ) (n : Schema) (name : List ℕ) → slice_get ms j ≡ Some n → h n ≡ Some name → p name ≡ true → list_any p (filter_map h ms) ≡ true
+any_at p h [] j n name e is pass = absurd (cc e)
+any_at p h (x ∷ ms) zero n name e is pass = let same : x ≡ n = cc e in go (h x) (ap h same ∙ is)
+  where
+    go : (o : Option (List ℕ)) → o ≡ Some name → list_any p (cons_option o (filter_map h ms)) ≡ true
+    go None q = absurd (cc q)
+    go (Some y) q = let names : y ≡ name = cc q in ap (λ t. t || list_any p (filter_map h ms)) (ap p names ∙ pass)
+any_at p h (x ∷ ms) (suc j) n name e is pass = go (h x) (any_at p h ms j n name e is pass)
+  where
+    go : (o : Option (List ℕ)) → list_any p (filter_map h ms) ≡ true → list_any p (cons_option o (filter_map h ms)) ≡ true
+    go None rest = rest
+    go (Some y) rest = ap (λ t. p y || t) rest ∙ by (p y)
+      where
+        by : (t : Bool) → (t || true) ≡ true
+        by true = refl
+        by false = refl
+
+-- what a checked schema says of its headers
+pub record HasApartHeaders (schema : Schema) : Type 0 where
+  pub apart : (i j : ℕ) (m n : Schema) (name : List ℕ) → member_at schema i ≡ Some m → member_at schema j ≡ Some n → lower_name m ≡ Some name → lower_name n ≡ Some name → i ≡ j
+  pub unlike_prefix : (i j : ℕ) (m n : Schema) (name prefix key : List ℕ) → member_at schema i ≡ Some m → member_at schema j ≡ Some n → lower_name m ≡ Some name
+      → n.node.traits.http_prefix_headers ≡ Some prefix → str_to_ascii_lowercase (prefix ++ key) ≢ name
+  pub one_prefix : (i j : ℕ) (m n : Schema) → member_at schema i ≡ Some m → member_at schema j ≡ Some n → is_some m.node.traits.http_prefix_headers ≡ true → is_some n.node.traits.http_prefix_headers ≡ true → i ≡ j
+
+pub headers_apart : (schema : Schema) → IsCheckedInput schema → HasApartHeaders schema
+headers_apart schema checked =
+    let at : (i : ℕ) (m : Schema) → member_at schema i ≡ Some m → slice_get (members_of schema) i ≡ Some m = λ i m e. members_by_position schema checked i ∙ e in
+    record {
+      apart = λ i j m n name at_i at_j is_m is_n. apart_at lower_name (members_of schema) distinct i j m n name (at i m at_i) (at j n at_j) is_m is_n;
+      unlike_prefix = λ i j m n name prefix key at_i at_j is_m is_n same.
+          let sound = all_at (is_sound_prefix schema) (λ m. m.node.traits.http_prefix_headers) (members_of schema) j n prefix sound_prefixes (at j n at_j) is_n in
+          let outside = (and_parts ((length prefix == 0) || is_token prefix) (not (list_any (λ name. starts_with nat_eq name (str_to_ascii_lowercase prefix)) (lower_header_names schema))) sound).1 in
+          let begins : starts_with nat_eq name (str_to_ascii_lowercase prefix) ≡ true =
+          ap (λ t. starts_with nat_eq t (str_to_ascii_lowercase prefix)) (sym same ∙ map-append _ prefix key) ∙ starts-self (str_to_ascii_lowercase prefix) (str_to_ascii_lowercase key) in
+          let inside : list_any (λ name. starts_with nat_eq name (str_to_ascii_lowercase prefix)) (lower_header_names schema) ≡ true =
+          ap (list_any (λ name. starts_with nat_eq name (str_to_ascii_lowercase prefix))) (lower_names (members_of schema))
+          ∙ any_at (λ name. starts_with nat_eq name (str_to_ascii_lowercase prefix)) lower_name (members_of schema) i m name (at i m at_i) is_m begins in
+          let q : false ≡ true = sym (ap not inside) ∙ outside in cc q;
+      one_prefix = λ i j m n at_i at_j is_m is_n.
+          single (λ m. is_some m.node.traits.http_prefix_headers) (members_of schema) one i j m n (at i m at_i) (at j n at_j) is_m is_n;
+    }
+  where
+    tests : ((list_all is_token (lower_header_names schema) && are_distinct (lower_header_names schema)) ≡ true) × (list_all (is_sound_prefix schema) (prefixes schema) ≡ true)
+    tests = and_parts (list_all is_token (lower_header_names schema) && are_distinct (lower_header_names schema)) (list_all (is_sound_prefix schema) (prefixes schema)) (and_parts (has_sound_headers schema) (are_distinct (query_names schema)) checked.unlike_names).0
+
+    sound_prefixes : list_all (is_sound_prefix schema) (prefixes schema) ≡ true
+    sound_prefixes = tests.1
+
+    distinct : AreDistinct (filter_map lower_name (members_of schema))
+    distinct = AreDistinct-from_test (filter_map lower_name (members_of schema)) (ap are_distinct (sym (lower_names (members_of schema))) ∙ (and_parts (list_all is_token (lower_header_names schema)) (are_distinct (lower_header_names schema)) tests.0).1)
+
+    one : length (filter (λ m. is_some m.node.traits.http_prefix_headers) (members_of schema)) ≤ 1
+    one = leb-true (length (filter (λ m. is_some m.node.traits.http_prefix_headers) (members_of schema))) 1 (sound_maps schema checked).one_prefix_map

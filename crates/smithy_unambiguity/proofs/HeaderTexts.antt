@@ -1,0 +1,101 @@
+-- A header's text tells the value as the normal form has it.
+use Rattle.std.proofs.Common.{◌≡◌, ◌≢◌, refl, sym, ◌∙◌, ap, subst, ℕ, ◌^◌, Bool, true, false, List, [], Option, Some, ℤ}
+use Rattle.std.specs.List.{AllByRecursion}
+use Rattle.std.specs.Str.{is_utf8}
+use Rattle.std.specs.Fmt.{signed_decimal}
+use Rattle.std.proofs.lemmas.Bool.{and_parts}
+use Rattle.smithy_types.specs.Results.{each}
+use Rattle.smithy_types.specs.declared.date_time.Format.{Format}
+use Rattle.smithy_types.specs.declared.date_time.Format.TheVariants as text
+use Rattle.smithy_types.specs.Timestamps.{timestamp_text}
+use Rattle.smithy_ids.specs.declared.shape_type.ShapeType.{ShapeType}
+use Rattle.smithy_ids.specs.declared.shape_type.ShapeType.TheVariants as kind
+use Rattle.smithy_ids.specs.declared.traits.TimestampFormat.{TimestampFormat}
+use Rattle.smithy_ids.specs.Kinds.{same_kind}
+use Rattle.smithy_ids.proofs.KindLemmas.{one_kind}
+use Rattle.smithy_schema.specs.Nodes.{Schema}
+use Rattle.smithy_serde.specs.Values as value
+use Rattle.smithy_serde.specs.Values.{Value, Width, Label, Writes, no_writes, write, Write, list_of, label_of}
+use Rattle.smithy_serde.specs.Ranges.{is_in_range, is_signed_within}
+use Rattle.smithy_serde.specs.Fits.{fits}
+use Rattle.smithy_serde.specs.NormalBody.{settled_elements}
+use Rattle.smithy_strings.specs.declared.wire.Place.{Place}
+use Rattle.smithy_strings.specs.declared.wire.Place.TheVariants.{Header}
+use Rattle.smithy_strings.specs.Wire.{wire, time_format}
+use Rattle.smithy_strings.specs.Lists.{listed}
+use Rattle.smithy_binding.specs.Bindings.{element_text}
+use Rattle.smithy_unambiguity.proofs.Fits.{is_flat}
+use Rattle.smithy_unambiguity.proofs.ListedTold.{IsCuttable, Plain, OneComma, plain_cuttable, one_comma_cuttable, listed_times, listed_tells}
+use Rattle.smithy_unambiguity.proofs.TimeTexts.{plain_epoch, plain_date_time, one_comma_http_date}
+use Rattle.smithy_unambiguity.proofs.Stamps.{calendar_time, mag-long}
+use Rattle.smithy_unambiguity.proofs.Values.{AreItems, HaveFormat, each_first, elements_told}
+use Rattle.smithy_unambiguity.proofs.WireTexts.{wire_utf8}
+
+-- The texts of times of one format can be cut off where a comma follows.
+
+abbrev pub TimeForm : Format → List ℕ → Type 0
+TimeForm text.HttpDate t = OneComma t
+TimeForm _ t = Plain t
+
+pub time_cuttable : (f : Format) → IsCuttable (TimeForm f)
+time_cuttable text.HttpDate = one_comma_cuttable
+time_cuttable text.EpochSeconds = plain_cuttable
+time_cuttable text.DateTime = plain_cuttable
+
+pub time_form : (f : Format) (z : ℤ) (t : List ℕ) → is_signed_within (2 ^ 63) z ≡ true → timestamp_text f z ≡ Some t → TimeForm f t
+time_form text.EpochSeconds z t small e = let same : signed_decimal z ≡ t = cc e in subst Plain same (plain_epoch z (mag-long z small))
+time_form text.DateTime z t small e = let x = calendar_time text.DateTime z t e in subst Plain x.2 (plain_date_time x.0 x.1)
+time_form text.HttpDate z t small e = let x = calendar_time text.HttpDate z t e in subst OneComma x.2 (one_comma_http_date x.0 x.1)
+
+time_value : (v : Value) → fits kind.Timestamp v ≡ true → (z : ℤ) × (v ≡ value.scalar (value.timestamp z))
+time_value (value.scalar (value.timestamp z)) e = (z, refl)
+time_value (value.scalar (value.whole value.byte z)) e = absurd (cc e)
+time_value (value.scalar (value.whole value.short z)) e = absurd (cc e)
+time_value (value.scalar (value.whole value.integer z)) e = absurd (cc e)
+time_value (value.scalar (value.whole value.long z)) e = absurd (cc e)
+time_value _ e = absurd (cc e)
+
+time_items : (f : Option TimestampFormat) (place : Place) (ws : Writes) (ts : List (List ℕ)) → AreItems kind.Timestamp ws → HaveFormat f ws → each (element_text place) (list_of ws) ≡ Some ts → AllByRecursion (TimeForm (time_format f place)) ts
+time_items f place no_writes ts fit own e = let same : [] ≡ ts = cc e in subst (AllByRecursion (TimeForm (time_format f place))) same tt
+time_items f place (write l v ws) ts fit own e =
+    let x = each_first (element_text place) (record { label = l; value = v }) (list_of ws) ts e in
+    let parts = and_parts (is_in_range v) (fits kind.Timestamp v) fit.0 in
+    let z = time_value v parts.1 in
+    let small : is_signed_within (2 ^ 63) z.0 ≡ true = ap is_in_range (sym z.1) ∙ parts.0 in
+    let first : timestamp_text (time_format f place) z.0 ≡ Some x.text = ap (λ g. wire g false place (value.scalar (value.timestamp z.0))) (sym own.0) ∙ ap (λ u. wire l.time_format false place u) (sym z.1) ∙ x.first in
+    subst (AllByRecursion (TimeForm (time_format f place))) x.is (time_form (time_format f place) z.0 x.text small first, time_items f place ws x.rest fit.1 own.1 x.later)
+
+-- lists of times are told by their header
+pub times_told : (f : Option TimestampFormat) (place : Place) (vs us : Writes) (ts others : List (List ℕ)) → AreItems kind.Timestamp vs → AreItems kind.Timestamp us → HaveFormat f vs → HaveFormat f us
+    → each (element_text place) (list_of vs) ≡ Some ts → each (element_text place) (list_of us) ≡ Some others → listed kind.Timestamp ts ≡ listed kind.Timestamp others → ts ≡ others
+times_told f place vs us ts others fit_v fit_u own_v own_u p q e =
+    listed_times (TimeForm (time_format f place)) (time_cuttable (time_format f place)) ts others (time_items f place vs ts fit_v own_v p) (time_items f place us others fit_u own_u q) e
+
+-- Lists of other elements.
+
+items_utf8 : (k : ShapeType) (place : Place) (ws : Writes) (ts : List (List ℕ)) → AreItems k ws → each (element_text place) (list_of ws) ≡ Some ts → AllByRecursion (λ t. is_utf8 t ≡ true) ts
+items_utf8 k place no_writes ts fit e = let same : [] ≡ ts = cc e in subst (AllByRecursion (λ t. is_utf8 t ≡ true)) same tt
+items_utf8 k place (write l v ws) ts fit e =
+    let x = each_first (element_text place) (record { label = l; value = v }) (list_of ws) ts e in
+    subst (AllByRecursion (λ t. is_utf8 t ≡ true)) x.is (wire_utf8 l.time_format false place v x.text (and_parts (is_in_range v) (fits k v) fit.0).0 x.first, items_utf8 k place ws x.rest fit.1 x.later)
+
+pub none_written : (place : Place) (ws : Writes) → each (element_text place) (list_of ws) ≡ Some [] → ws ≡ no_writes
+none_written place no_writes e = refl
+none_written place (write l v ws) e = let x = each_first (element_text place) (record { label = l; value = v }) (list_of ws) [] e in let z = x.is in absurd (cc z)
+
+-- lists of a header are told, as the normal form has them
+pub lists_told : (e : Schema) (f : Option TimestampFormat) (vs us : Writes) (ts others : List (List ℕ)) → is_flat e.node.kind ≡ true → AreItems e.node.kind vs → AreItems e.node.kind us → HaveFormat f vs → HaveFormat f us
+    → each (element_text Header) (list_of vs) ≡ Some ts → each (element_text Header) (list_of us) ≡ Some others → listed e.node.kind ts ≡ listed e.node.kind others
+    → settled_elements (Some e) vs ≡ settled_elements (Some e) us
+lists_told e f vs us ts others flat fit_v fit_u own_v own_u p q same =
+    elements_told e.node.kind f e Header vs us ts flat fit_v fit_u own_v own_u p (q ∙ ap Some (sym (go (same_kind e.node.kind kind.Timestamp) refl)))
+  where
+    go : (t : Bool) → same_kind e.node.kind kind.Timestamp ≡ t → ts ≡ others
+    go true is =
+        let times = one_kind e.node.kind kind.Timestamp is in
+        times_told f Header vs us ts others (subst (λ k. AreItems k vs) times fit_v) (subst (λ k. AreItems k us) times fit_u) own_v own_u p q
+        (ap (λ k. listed k ts) (sym times) ∙ same ∙ ap (λ k. listed k others) times)
+    go false is = listed_tells e.node.kind ts others other (items_utf8 e.node.kind Header vs ts fit_v p) (items_utf8 e.node.kind Header us others fit_u q) same
+      where
+        other : e.node.kind ≢ kind.Timestamp
+        other h = let z : true ≡ false = ap (λ k. same_kind k kind.Timestamp) (sym h) ∙ is in cc z

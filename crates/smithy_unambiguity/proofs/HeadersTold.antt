@@ -1,0 +1,148 @@
+-- What is seen of a request tells the normal form's part of each member in its target or headers.
+use Rattle.std.proofs.Common.{◌≡◌, refl, sym, ◌∙◌, ap, ℕ, nat_eq, codes, length, ◌==◌, Bool, true, false, ◌&&◌, ◌||◌, List, [], ◌∷◌, Option, Some, None, option_map, option_and_then, option_to_list, is_some, is_none, if◌then◌else◌}
+use Rattle.std.specs.List.{starts_with}
+use Rattle.std.specs.Option.{option_map_or}
+use Rattle.std.specs.Str.{str_to_ascii_lowercase}
+use Rattle.std.proofs.lemmas.Bool.{and_parts}
+use Rattle.smithy_types.specs.Grammars.{is_token}
+use Rattle.smithy_schema.specs.Nodes.{Schema, Http, member_at, members_of, to_header, binding_of, is_bound}
+use Rattle.smithy_serde.specs.Values.{Value, Write}
+use Rattle.smithy_strings.specs.declared.wire.Place.TheVariants.{Header}
+use Rattle.smithy_http.specs.Facts.{values_at}
+use Rattle.smithy_binding.specs.Bindings.{headers, header_texts, query_names, place_of, place_at, member_text}
+use Rattle.smithy_binding.specs.Bodies.{body}
+use Rattle.smithy_binding.specs.Clear.{is_clear}
+use Rattle.smithy_binding.specs.Checked.{IsCheckedInput, is_header_kind, has_element, has_bound_kind, has_header_kind, has_query_kind, has_label_kind}
+use Rattle.smithy_binding.specs.Faults.{is_placed_at}
+use Rattle.smithy_binding.specs.Placing.{Protocol, Omit, template_of, all_headers}
+use Rattle.smithy_binding.specs.Typed.{IsTyped, writes_default, has_clear_template}
+use Rattle.smithy_binding.specs.NormalForm.{member_view, bound_view_at}
+use Rattle.smithy_binding.proofs.CheckedLaws.{IsCheckedInput-from_test}
+use Rattle.smithy_unambiguity.proofs.LastTexts.{last_value}
+use Rattle.smithy_unambiguity.specs.Laws.{SeesSame}
+use Rattle.smithy_unambiguity.proofs.Setting.{IsSetting}
+use Rattle.smithy_unambiguity.proofs.ByMember.{first_value}
+use Rattle.smithy_unambiguity.proofs.Defaults.{all_headers_at}
+use Rattle.smithy_unambiguity.proofs.Fits.{is_flat}
+use Rattle.smithy_unambiguity.proofs.HeaderNames.{headers_apart}
+use Rattle.smithy_unambiguity.proofs.Conformity.{conforming}
+use Rattle.smithy_unambiguity.proofs.Headers.{header_values, headers_of_member, header_of}
+use Rattle.smithy_unambiguity.proofs.MemberTexts.{header_told, bound_list, list_of_element}
+use Rattle.smithy_unambiguity.proofs.Placed.{HasTypedWrites, IsPlacedValue, placed_value, bound_member_view, member_has, placed_bound}
+use Rattle.smithy_unambiguity.proofs.Positions.{members_by_position}
+use Rattle.smithy_unambiguity.proofs.Requests.{IsPlacedRequest, placed_request, SeeSame, see_same}
+use Rattle.smithy_unambiguity.proofs.Values.{flat_value, flat_texts, flat_header}
+
+-- Two typed inputs with the same facts, in one setting.
+pub record AreSeenSame (protocol : Protocol) (schema : Schema) (endpoint : List ℕ) (omit : Omit) (v w : List Write) : Type 0 where
+  pub setting : IsSetting protocol schema
+  pub checked : IsCheckedInput schema
+  pub typed_v : IsTyped protocol schema endpoint omit v
+  pub typed_w : IsTyped protocol schema endpoint omit w
+  pub request_v : IsPlacedRequest protocol schema v endpoint omit
+  pub request_w : IsPlacedRequest protocol schema w endpoint omit
+  pub seen : SeeSame protocol schema omit v w request_v.path request_w.path
+
+pub seen_same : (protocol : Protocol) (schema : Schema) (endpoint : List ℕ) (omit : Omit) (v w : List Write) → IsSetting protocol schema
+    → IsTyped protocol schema endpoint omit v → IsTyped protocol schema endpoint omit w → SeesSame protocol schema endpoint omit v w → AreSeenSame protocol schema endpoint omit v w
+seen_same protocol schema endpoint omit v w setting typed_v typed_w same =
+    let x = placed_request protocol schema v endpoint omit typed_v.conforming in
+    let y = placed_request protocol schema w endpoint omit typed_w.conforming in
+    record {
+      setting = setting;
+      checked = IsCheckedInput-from_test schema setting.checked;
+      typed_v = typed_v;
+      typed_w = typed_w;
+      request_v = x;
+      request_w = y;
+      seen = see_same protocol schema endpoint omit v w x y same;
+    }
+
+pub typed_writes : (protocol : Protocol) (schema : Schema) (endpoint : List ℕ) (omit : Omit) (ws : List Write) → IsTyped protocol schema endpoint omit ws → HasTypedWrites schema ws
+typed_writes protocol schema endpoint omit ws typed =
+    record { conforming = (conforming schema ws endpoint typed.conforming).writes; in_range = typed.in_range; bound = typed.placed_values }
+
+-- the template that is taken is clear
+pub clear_template : (schema : Schema) (endpoint : List ℕ) → IsCheckedInput schema → has_clear_template schema endpoint ≡ true → is_clear (template_of schema endpoint) schema ≡ true
+clear_template schema endpoint checked clear = go schema.node.traits.http refl checked.http clear
+  where
+    go : (o : Option Http) → schema.node.traits.http ≡ o
+        → option_map_or (λ (h : Http). is_token h.method && is_clear h.uri schema && starts_with nat_eq h.uri (codes "/")) o true ≡ true
+        → (is_some o || is_clear (option_map_or (λ (h : Http). h.uri) o (if length endpoint == 0 then codes "/" else endpoint)) schema) ≡ true
+        → is_clear (option_map_or (λ (h : Http). h.uri) schema.node.traits.http (if length endpoint == 0 then codes "/" else endpoint)) schema ≡ true
+    go None is sound h = ap (λ (o : Option Http). is_clear (option_map_or (λ (h : Http). h.uri) o (if length endpoint == 0 then codes "/" else endpoint)) schema) is ∙ h
+    go (Some t) is sound h =
+        ap (λ (o : Option Http). is_clear (option_map_or (λ (h : Http). h.uri) o (if length endpoint == 0 then codes "/" else endpoint)) schema) is
+        ∙ (and_parts (is_token t.method) (is_clear t.uri schema) (and_parts (is_token t.method && is_clear t.uri schema) (starts_with nat_eq t.uri (codes "/")) sound).0).1
+
+-- Headers.
+
+pub header_kinds : (m : Schema) (name : List ℕ) → m.node.traits.http_header ≡ Some name → has_bound_kind m ≡ true → (is_flat m.node.kind || has_element is_header_kind m) ≡ true
+header_kinds m name is kinds =
+    let h = (and_parts (has_label_kind m && has_query_kind m) (has_header_kind m) kinds).1 in
+    ap (λ (o : Option (List ℕ)). is_none o || is_header_kind m.node.kind || has_element is_header_kind m) (sym is) ∙ h
+
+-- a header member's value gives one text
+one_header_value : (m : Schema) (v : Value) → (is_flat m.node.kind || has_element is_header_kind m) ≡ true → IsPlacedValue m v → (t : List ℕ) × (header_values m v ≡ t ∷ [])
+one_header_value m v kinds is = go (is_flat m.node.kind) refl kinds
+  where
+    there : header_values m v ≡ header_texts m v is.ts
+    there = ap (λ (o : Option (List (List ℕ))). option_map_or (header_texts m v) o []) is.texts
+
+    go : (b : Bool) → is_flat m.node.kind ≡ b → (b || has_element is_header_kind m) ≡ true → (t : List ℕ) × (header_values m v ≡ t ∷ [])
+    go true flat h =
+        let flat_v = flat_value m.node.kind v flat is.value.fits in
+        by (member_text (place_of m) m v) (sym (flat_texts m v flat_v) ∙ is.texts) (there ∙ flat_header m v is.ts flat_v)
+      where
+        by : (o : Option (List ℕ)) → option_map (λ (t : List ℕ). t ∷ []) o ≡ Some is.ts → header_values m v ≡ is.ts → (t : List ℕ) × (header_values m v ≡ t ∷ [])
+        by None e q = absurd (cc e)
+        by (Some t) e q = let same : t ∷ [] ≡ is.ts = cc e in (t, q ∙ sym same)
+    go false flat h =
+        let l = list_of_element is_header_kind m h in
+        let a = bound_list is_header_kind m l v is.value in
+        (_, there ∙ ap (λ u. header_texts m u is.ts) a.is)
+
+header_part : (m : Schema) (names : List (List ℕ)) (name : List ℕ) (o p : Option Value) → (is_flat m.node.kind || has_element is_header_kind m) ≡ true → place_of m ≡ Header
+    → ((v : Value) → o ≡ Some v → IsPlacedValue m v) → ((v : Value) → p ≡ Some v → IsPlacedValue m v)
+    → option_to_list (last_value (option_map_or (header_values m) o [])) ≡ option_to_list (last_value (option_map_or (header_values m) p []))
+    → option_and_then (bound_view_at (to_header name) names m) o ≡ option_and_then (bound_view_at (to_header name) names m) p
+header_part m names name None None kinds here is_o is_p e = refl
+header_part m names name (Some v) None kinds here is_o is_p e =
+    let x = one_header_value m v kinds (is_o v refl) in let q : x.0 ∷ [] ≡ [] = ap (λ vs. option_to_list (last_value vs)) (sym x.1) ∙ e in absurd (cc q)
+header_part m names name None (Some w) kinds here is_o is_p e =
+    let y = one_header_value m w kinds (is_p w refl) in let q : [] ≡ y.0 ∷ [] = e ∙ ap (λ vs. option_to_list (last_value vs)) y.1 in absurd (cc q)
+header_part m names name (Some v) (Some w) kinds here is_o is_p e =
+    let x = one_header_value m v kinds (is_o v refl) in
+    let y = one_header_value m w kinds (is_p w refl) in
+    let q : x.0 ∷ [] ≡ y.0 ∷ [] = ap (λ vs. option_to_list (last_value vs)) (sym x.1) ∙ e ∙ ap (λ vs. option_to_list (last_value vs)) y.1 in
+    let same : x.0 ≡ y.0 = cc q in
+    ap Some (header_told m v w x.0 kinds here (is_o v refl).value (is_p w refl).value x.1 (y.1 ∙ ap (λ t. t ∷ []) (sym same)))
+
+-- no default is added at a header member's name
+header_leaves : (protocol : Protocol) (schema : Schema) (endpoint : List ℕ) (omit : Omit) (ws : List Write) (i : ℕ) (m : Schema) (name : List ℕ) → IsCheckedInput schema → IsTyped protocol schema endpoint omit ws
+    → member_at schema i ≡ Some m → binding_of m ≡ to_header name
+    → values_at (str_to_ascii_lowercase name) (all_headers protocol (body protocol.text_of schema ws) omit (headers schema ws)) ≡ values_at (str_to_ascii_lowercase name) (headers schema ws)
+header_leaves protocol schema endpoint omit ws i m name checked typed at header =
+    all_headers_at protocol (body protocol.text_of schema ws) omit (headers schema ws) (str_to_ascii_lowercase name)
+    (ap (writes_default (body protocol.text_of schema ws) omit (headers schema ws)) (sym header)
+    ∙ member_has (λ m. writes_default (body protocol.text_of schema ws) omit (headers schema ws) (binding_of m)) (members_of schema) i m typed.defaults (members_by_position schema checked i ∙ at))
+
+pub header_member_told : (protocol : Protocol) (schema : Schema) (endpoint : List ℕ) (omit : Omit) (v w : List Write) → AreSeenSame protocol schema endpoint omit v w → (i : ℕ) (m : Schema) (name : List ℕ)
+    → member_at schema i ≡ Some m → has_bound_kind m ≡ true → binding_of m ≡ to_header name → member_view schema v i m ≡ member_view schema w i m
+header_member_told protocol schema endpoint omit v w are i m name at kinds header =
+    let bound : is_bound m ≡ true = placed_bound (binding_of m) placed in
+    bound_member_view schema v i m at bound
+    ∙ ap (λ b. option_and_then (bound_view_at b (query_names schema) m) (first_value schema v i)) header
+    ∙ header_part m (query_names schema) name (first_value schema v i) (first_value schema w i) (header_kinds m name (header_of m name header) kinds) (ap place_at header)
+    (λ u e. placed_value schema v i m u (typed_writes protocol schema endpoint omit v are.typed_v) at placed e)
+    (λ u e. placed_value schema w i m u (typed_writes protocol schema endpoint omit w are.typed_w) at placed e)
+    (sym (headers_of_member schema v i m name (headers_apart schema are.checked) at header)
+    ∙ sym (header_leaves protocol schema endpoint omit v i m name are.checked are.typed_v at header)
+    ∙ are.seen.headers (str_to_ascii_lowercase name)
+    ∙ header_leaves protocol schema endpoint omit w i m name are.checked are.typed_w at header
+    ∙ headers_of_member schema w i m name (headers_apart schema are.checked) at header)
+    ∙ ap (λ b. option_and_then (bound_view_at b (query_names schema) m) (first_value schema w i)) (sym header)
+    ∙ sym (bound_member_view schema w i m at bound)
+  where
+    placed : is_placed_at (binding_of m) ≡ true
+    placed = ap is_placed_at header

@@ -1,0 +1,255 @@
+-- What is seen of a request tells the normal form's part of the prefix map and of the query map.
+use Rattle.std.proofs.Common.{◌≡◌, refl, sym, ◌∙◌, ap, subst, ℕ, ◌⊎◌, inl, inr, arith, nat_lt, ltb-true, ltb-false, Bool, true, false, not, ◌&&◌, List, [], ◌∷◌, ◌++◌, filter, flat_map, Option, Some, None, option_and_then, option_to_list, is_some, IsTrue}
+use Rattle.std.specs.List.{AllByRecursion, list_all}
+use Rattle.std.specs.Option.{option_map_or}
+use Rattle.std.specs.Cmp.Lexicographic.{same_text as same_from_test}
+use Rattle.std.specs.Str.{str_to_ascii_lowercase}
+use Rattle.std.proofs.lemmas.Bool.{and_parts, not-true}
+use Rattle.std.proofs.lemmas.Str.Ascii.{lowercase-lowercase}
+use Rattle.smithy_types.specs.Texts.{same_text, is_one_of, are_distinct}
+use Rattle.smithy_ids.specs.declared.shape_type.ShapeType.TheVariants as kind
+use Rattle.smithy_ids.specs.Kinds.{same_kind}
+use Rattle.smithy_schema.specs.Nodes.{Schema, member_at, members_of, key_of, value_of, to_prefix, to_query_map, binding_of}
+use Rattle.smithy_serde.specs.Values.{Value, Write}
+use Rattle.smithy_serde.specs.NormalBody.{map_value, in_key_order}
+use Rattle.smithy_strings.specs.Escapes.{AreBytes}
+use Rattle.smithy_http.specs.Facts.{values_at}
+use Rattle.smithy_binding.specs.Bindings.{headers, inserted_at, pairs, query_names, map_entries, entry_texts}
+use Rattle.smithy_binding.specs.Bodies.{body}
+use Rattle.smithy_binding.specs.Checked.{IsCheckedInput, is_text_map, is_query_map, is_plain_string}
+use Rattle.smithy_binding.specs.Faults.{is_placed_at}
+use Rattle.smithy_binding.specs.Placing.{Protocol, Omit, all_headers}
+use Rattle.smithy_binding.specs.Typed.{IsTyped, default_names, has_no_default_name}
+use Rattle.smithy_binding.specs.NormalForm.{member_view, bound_view_at, unless_empty, in_lower_case, has_pairs}
+use Rattle.smithy_binding.proofs.Tests.{same_text_self}
+use Rattle.smithy_document.proofs.OrderedPairs.{all_put}
+use Rattle.smithy_unambiguity.proofs.LastTexts.{last_value, last_at, lowered}
+use Rattle.smithy_unambiguity.proofs.ByMember.{first_value, at_member}
+use Rattle.smithy_unambiguity.proofs.Defaults.{all_headers_at, leaves-elsewhere}
+use Rattle.smithy_unambiguity.proofs.EntriesTold.{as_text, is_text_node, own_value, key_texts, written_texts, text_pairs, query_texts, own_query_entries, own_text_entries, query_entries, query_texts_told, entries_distinct, in_order, SameLast, ordered_told, lower_entries}
+use Rattle.smithy_unambiguity.proofs.HeaderNames.{headers_apart}
+use Rattle.smithy_unambiguity.proofs.Headers.{headers_of_prefix, inserted_entries, map_pairs, prefix_of, under_prefix}
+use Rattle.smithy_unambiguity.proofs.HeadersTold.{AreSeenSame, typed_writes}
+use Rattle.smithy_unambiguity.proofs.PairLemmas.{valued, names as keys, names-valued}
+use Rattle.smithy_unambiguity.proofs.Placed.{HasTypedWrites, IsPlacedValue, placed_value, bound_member_view, member_among, placed_bound, first_has}
+use Rattle.smithy_unambiguity.proofs.Positions.{members_by_position}
+use Rattle.smithy_unambiguity.proofs.QueryMap.{pairs_of_map, query_map_of}
+use Rattle.smithy_unambiguity.proofs.SoundMaps.{sound_maps}
+use Rattle.smithy_unambiguity.proofs.TargetTold.{pairs_told}
+use Rattle.smithy_unambiguity.proofs.TextsBytes.{pairs_are_bytes, IsBytePair}
+
+-- The maps of a checked schema.
+
+-- what holds of each member that passes a test holds of a member that does
+mapped_at : (test : Schema → Bool) (is_map : Schema → Bool) (schema : Schema) → IsCheckedInput schema → (i : ℕ) (m : Schema) → list_all is_map (filter test (members_of schema)) ≡ true → member_at schema i ≡ Some m → test m ≡ true → is_map m ≡ true
+mapped_at test is_map schema checked i m all at is =
+    member_among (λ m. is_map m ≡ true) test (members_of schema) i m (facts (filter test (members_of schema)) all) (members_by_position schema checked i ∙ at) is
+  where
+    facts : (ms : List Schema) → list_all is_map ms ≡ true → AllByRecursion (λ m. is_map m ≡ true) ms
+    facts [] e = tt
+    facts (n ∷ ms) e = let parts = and_parts (is_map n) (list_all is_map ms) e in (parts.0, facts ms parts.1)
+
+pub text_map_at : (schema : Schema) → IsCheckedInput schema → (i : ℕ) (m : Schema) (prefix : List ℕ) → member_at schema i ≡ Some m → binding_of m ≡ to_prefix prefix → is_text_map m ≡ true
+text_map_at schema checked i m prefix at begins =
+    mapped_at (λ m. is_some m.node.traits.http_prefix_headers) is_text_map schema checked i m (sound_maps schema checked).prefix_maps at (ap is_some (prefix_of m prefix begins))
+
+pub query_map_at : (schema : Schema) → IsCheckedInput schema → (i : ℕ) (m : Schema) → member_at schema i ≡ Some m → binding_of m ≡ to_query_map → is_query_map m ≡ true
+query_map_at schema checked i m at query_map =
+    mapped_at (λ m. m.node.traits.http_query_params) is_query_map schema checked i m (sound_maps schema checked).query_maps at (query_map_of m query_map)
+
+-- The query map.
+
+-- the normal form of the map, from its texts: none of no entries
+pub query_map_view : (m : Schema) (names : List (List ℕ)) (v : Value) → is_query_map m ≡ true → IsPlacedValue m v
+    → bound_view_at to_query_map names m v ≡ unless_empty (map_value (Some m) (valued (own_value (value_of m)) (query_texts names (key_texts v))))
+query_map_view m names v query_map is =
+    let node = (and_parts (same_kind m.node.kind kind.Map && is_plain_string (key_of m)) (is_text_node (value_of m)) query_map).1 in
+    ap (λ es. unless_empty (map_value (Some m) (filter (has_pairs names) (in_key_order es)))) (own_query_entries m v node is.value.items)
+    ∙ ap (λ es. unless_empty (map_value (Some m) es)) (query_entries (value_of m) names (key_texts v))
+
+query_map_part : (m : Schema) (names : List (List ℕ)) (o : Option Value) → is_query_map m ≡ true → ((v : Value) → o ≡ Some v → IsPlacedValue m v)
+    → option_and_then (bound_view_at to_query_map names m) o ≡ unless_empty (map_value (Some m) (valued (own_value (value_of m)) (query_texts names (written_texts o))))
+query_map_part m names None query_map is = refl
+query_map_part m names (Some v) query_map is = query_map_view m names v query_map (is v refl)
+
+-- each key stands once
+pub keys_distinct : (m : Schema) (v : Value) → IsPlacedValue m v → are_distinct (keys (key_texts v)) ≡ true
+keys_distinct m v is = ap are_distinct (names-valued entry_texts (map_entries v)) ∙ entries_distinct m v is.keys is.paired
+
+pub query_map_told : (protocol : Protocol) (schema : Schema) (endpoint : List ℕ) (omit : Omit) (v w : List Write) → AreSeenSame protocol schema endpoint omit v w → (i : ℕ) (m : Schema)
+    → member_at schema i ≡ Some m → binding_of m ≡ to_query_map → ((key : List ℕ) → values_at key (pairs schema v) ≡ values_at key (pairs schema w)) → member_view schema v i m ≡ member_view schema w i m
+query_map_told protocol schema endpoint omit v w are i m at query_map same =
+    shown v typed_v
+    ∙ ap (λ es. unless_empty (map_value (Some m) (valued (own_value (value_of m)) es))) (query_texts_told (query_names schema) (written_texts (first_value schema v i)) (written_texts (first_value schema w i)) (distinct v typed_v) (distinct w typed_w) told)
+    ∙ sym (shown w typed_w)
+  where
+    placed : is_placed_at (binding_of m) ≡ true
+    placed = ap is_placed_at query_map
+
+    typed_v : HasTypedWrites schema v
+    typed_v = typed_writes protocol schema endpoint omit v are.typed_v
+
+    typed_w : HasTypedWrites schema w
+    typed_w = typed_writes protocol schema endpoint omit w are.typed_w
+
+    shown : (ws : List Write) → HasTypedWrites schema ws → member_view schema ws i m ≡ unless_empty (map_value (Some m) (valued (own_value (value_of m)) (query_texts (query_names schema) (written_texts (first_value schema ws i)))))
+    shown ws typed =
+        bound_member_view schema ws i m at (placed_bound (binding_of m) placed)
+        ∙ ap (λ b. option_and_then (bound_view_at b (query_names schema) m) (first_value schema ws i)) query_map
+        ∙ query_map_part m (query_names schema) (first_value schema ws i) (query_map_at schema are.checked i m at query_map) (λ u e. placed_value schema ws i m u typed at placed e)
+
+    distinct : (ws : List Write) → HasTypedWrites schema ws → are_distinct (keys (written_texts (first_value schema ws i))) ≡ true
+    distinct ws typed = go (first_value schema ws i) (λ u e. placed_value schema ws i m u typed at placed e)
+      where
+        go : (o : Option Value) → ((u : Value) → o ≡ Some u → IsPlacedValue m u) → are_distinct (keys (written_texts o)) ≡ true
+        go None is = refl
+        go (Some u) is = keys_distinct m u (is u refl)
+
+    told : (key : List ℕ) → is_one_of key (query_names schema) ≡ false → values_at key (flat_map text_pairs (written_texts (first_value schema v i))) ≡ values_at key (flat_map text_pairs (written_texts (first_value schema w i)))
+    told key outside = sym (pairs_of_map schema are.checked v i m key at query_map outside) ∙ same key ∙ pairs_of_map schema are.checked w i m key at query_map outside
+
+-- no pair stands at a name that is not of bytes
+pub no_bytes : (name : List ℕ) (ps : List (List ℕ × List ℕ)) → AllByRecursion IsBytePair ps → (AreBytes name → ⊥) → values_at name ps ≡ []
+no_bytes name [] all not_bytes = refl
+no_bytes name (p ∷ ps) all not_bytes = go (same_text p.0 name) refl (no_bytes name ps all.1 not_bytes)
+  where
+    go : (t : Bool) → same_text p.0 name ≡ t → values_at name ps ≡ [] → values_at name (p ∷ ps) ≡ []
+    go true e rest = absurd (not_bytes (subst AreBytes (same_from_test p.0 name (sym e)) all.0.0))
+    go false e rest = rw e rest
+
+pub are_bytes_or : (name : List ℕ) → AreBytes name ⊎ (AreBytes name → ⊥)
+are_bytes_or [] = inl tt
+are_bytes_or (b ∷ name) = go (nat_lt b 256) refl (are_bytes_or name)
+  where
+    go : (t : Bool) → nat_lt b 256 ≡ t → AreBytes name ⊎ (AreBytes name → ⊥) → AreBytes (b ∷ name) ⊎ (AreBytes (b ∷ name) → ⊥)
+    go true e (inl rest) = inl (ltb-true b 256 e, rest)
+    go true e (inr rest) = inr (λ h. rest h.1)
+    go false e rest = inr (λ h. let big = ltb-false b 256 e in let small = h.0 in absurd (omega (arith, big, small)))
+
+-- so at every name the same texts stand
+pub all_pairs_told : (protocol : Protocol) (schema : Schema) (endpoint : List ℕ) (omit : Omit) (v w : List Write) → AreSeenSame protocol schema endpoint omit v w → (name : List ℕ) → values_at name (pairs schema v) ≡ values_at name (pairs schema w)
+all_pairs_told protocol schema endpoint omit v w are name = go (are_bytes_or name)
+  where
+    bytes_of : (ws : List Write) → HasTypedWrites schema ws → AllByRecursion IsBytePair (pairs schema ws)
+    bytes_of ws typed = pairs_are_bytes schema ws are.setting.held typed.conforming typed.in_range
+
+    go : AreBytes name ⊎ (AreBytes name → ⊥) → values_at name (pairs schema v) ≡ values_at name (pairs schema w)
+    go (inl bytes) = pairs_told protocol schema endpoint omit v w are name bytes
+    go (inr other) =
+        no_bytes name (pairs schema v) (bytes_of v (typed_writes protocol schema endpoint omit v are.typed_v)) other
+        ∙ sym (no_bytes name (pairs schema w) (bytes_of w (typed_writes protocol schema endpoint omit w are.typed_w)) other)
+
+-- The prefix map.
+
+-- the pairs of a map that may be written
+abbrev pub written_pairs : Option Value → List (List ℕ × List ℕ)
+written_pairs o = option_map_or map_pairs o []
+
+-- the normal form of the map, from its texts
+pub prefix_map_view : (m : Schema) (names : List (List ℕ)) (prefix : List ℕ) (v : Value) → is_text_map m ≡ true → IsPlacedValue m v
+    → bound_view_at (to_prefix prefix) names m v ≡ unless_empty (map_value (Some m) (valued as_text (all_put (lowered (map_pairs v)) [])))
+prefix_map_view m names prefix v text_map is =
+    let plain = (and_parts (same_kind m.node.kind kind.Map && is_plain_string (key_of m)) (is_plain_string (value_of m)) text_map).1 in
+    ap (λ es. unless_empty (map_value (Some m) (in_key_order (in_lower_case es)))) (own_text_entries m v plain is.value.items)
+    ∙ ap (λ es. unless_empty (map_value (Some m) es)) (ap in_key_order (lower_entries (map_pairs v)) ∙ in_order as_text (lowered (map_pairs v)))
+
+prefix_part : (m : Schema) (names : List (List ℕ)) (prefix : List ℕ) (o : Option Value) → is_text_map m ≡ true → ((v : Value) → o ≡ Some v → IsPlacedValue m v)
+    → option_and_then (bound_view_at (to_prefix prefix) names m) o ≡ unless_empty (map_value (Some m) (valued as_text (all_put (lowered (written_pairs o)) [])))
+prefix_part m names prefix None text_map is = refl
+prefix_part m names prefix (Some v) text_map is = prefix_map_view m names prefix v text_map (is v refl)
+
+list-injective : (o p : Option (List ℕ)) → option_to_list o ≡ option_to_list p → o ≡ p
+list-injective None None e = refl
+list-injective (Some x) (Some y) e = let same : x ≡ y = cc e in ap Some same
+list-injective None (Some y) e = absurd (cc e)
+list-injective (Some x) None e = absurd (cc e)
+
+last_of_entries : (key : List ℕ) (o : Option Value) → option_map_or (λ v. last_at key (lowered (map_pairs v))) o [] ≡ last_at key (lowered (written_pairs o))
+last_of_entries key None = refl
+last_of_entries key (Some v) = refl
+
+pub lower_again : (name : List ℕ) → str_to_ascii_lowercase (str_to_ascii_lowercase name) ≡ str_to_ascii_lowercase name
+lower_again [] = refl
+lower_again (b ∷ name) = λ i. lowercase-lowercase b i ∷ lower_again name i
+
+-- only names in lower case stand among these
+not_lower : (name : List ℕ) (ps : List (List ℕ × List ℕ)) → same_text (str_to_ascii_lowercase name) name ≡ false → values_at name (lowered ps) ≡ []
+not_lower name [] e = refl
+not_lower name (p ∷ ps) e = go (same_text (str_to_ascii_lowercase p.0) name) refl (not_lower name ps e)
+  where
+    go : (t : Bool) → same_text (str_to_ascii_lowercase p.0) name ≡ t → values_at name (lowered ps) ≡ [] → values_at name (lowered (p ∷ ps)) ≡ []
+    go false h rest = rw h rest
+    go true h rest =
+        let same = same_from_test (str_to_ascii_lowercase p.0) name (sym h) in
+        let lower : str_to_ascii_lowercase name ≡ name = ap str_to_ascii_lowercase (sym same) ∙ lower_again p.0 ∙ same in
+        let q : true ≡ false = sym (same_text_self name) ∙ ap (λ n. same_text n name) (sym lower) ∙ e in
+        absurd (cc q)
+
+-- under a default's name no entry stands
+no_default_at : (name : List ℕ) (ps : List (List ℕ × List ℕ)) → list_all (λ (p : List ℕ × List ℕ). not (is_one_of p.0 default_names)) ps ≡ true → is_one_of name default_names ≡ true → values_at name ps ≡ []
+no_default_at name [] all is = refl
+no_default_at name (p ∷ ps) all is =
+    let parts = and_parts (not (is_one_of p.0 default_names)) (list_all (λ (p : List ℕ × List ℕ). not (is_one_of p.0 default_names)) ps) all in
+    go (same_text p.0 name) refl (not-true (is_one_of p.0 default_names) parts.0) (no_default_at name ps parts.1 is)
+  where
+    go : (t : Bool) → same_text p.0 name ≡ t → is_one_of p.0 default_names ≡ false → values_at name ps ≡ [] → values_at name (p ∷ ps) ≡ []
+    go true e outside rest = let q : true ≡ false = sym is ∙ ap (λ n. is_one_of n default_names) (sym (same_from_test p.0 name (sym e))) ∙ outside in absurd (cc q)
+    go false e outside rest = rw e rest
+
+pub prefix_member_told : (protocol : Protocol) (schema : Schema) (endpoint : List ℕ) (omit : Omit) (v w : List Write) → AreSeenSame protocol schema endpoint omit v w → (i : ℕ) (m : Schema) (prefix : List ℕ)
+    → member_at schema i ≡ Some m → binding_of m ≡ to_prefix prefix → member_view schema v i m ≡ member_view schema w i m
+prefix_member_told protocol schema endpoint omit v w are i m prefix at begins =
+    shown v typed_v
+    ∙ ap (λ ps. unless_empty (map_value (Some m) (valued as_text ps))) (ordered_told (lowered (written_pairs (first_value schema v i))) (lowered (written_pairs (first_value schema w i))) told)
+    ∙ sym (shown w typed_w)
+  where
+    placed : is_placed_at (binding_of m) ≡ true
+    placed = ap is_placed_at begins
+
+    typed_v : HasTypedWrites schema v
+    typed_v = typed_writes protocol schema endpoint omit v are.typed_v
+
+    typed_w : HasTypedWrites schema w
+    typed_w = typed_writes protocol schema endpoint omit w are.typed_w
+
+    shown : (ws : List Write) → HasTypedWrites schema ws → member_view schema ws i m ≡ unless_empty (map_value (Some m) (valued as_text (all_put (lowered (written_pairs (first_value schema ws i))) [])))
+    shown ws typed =
+        bound_member_view schema ws i m at (placed_bound (binding_of m) placed)
+        ∙ ap (λ b. option_and_then (bound_view_at b (query_names schema) m) (first_value schema ws i)) begins
+        ∙ prefix_part m (query_names schema) prefix (first_value schema ws i) (text_map_at schema are.checked i m prefix at begins) (λ u e. placed_value schema ws i m u typed at placed e)
+
+    of_headers : (ws : List Write) (key : List ℕ) → values_at (str_to_ascii_lowercase (prefix ++ key)) (headers schema ws) ≡ last_at (str_to_ascii_lowercase key) (lowered (written_pairs (first_value schema ws i)))
+    of_headers ws key = headers_of_prefix schema ws i m prefix key (headers_apart schema are.checked) at begins ∙ last_of_entries (str_to_ascii_lowercase key) (first_value schema ws i)
+
+    elsewhere : (ws : List Write) (name : List ℕ) → is_one_of name default_names ≡ false
+        → values_at name (all_headers protocol (body protocol.text_of schema ws) omit (headers schema ws)) ≡ values_at name (headers schema ws)
+    elsewhere ws name outside = all_headers_at protocol (body protocol.text_of schema ws) omit (headers schema ws) name (leaves-elsewhere (body protocol.text_of schema ws) omit (headers schema ws) name outside)
+
+    -- no entry of a typed input has a default's name
+    none_there : (ws : List Write) (key : List ℕ) → IsTyped protocol schema endpoint omit ws → is_one_of (str_to_ascii_lowercase (prefix ++ key)) default_names ≡ true → values_at (str_to_ascii_lowercase key) (lowered (written_pairs (first_value schema ws i))) ≡ []
+    none_there ws key typed is = go (first_value schema ws i) refl
+      where
+        go : (o : Option Value) → first_value schema ws i ≡ o → values_at (str_to_ascii_lowercase key) (lowered (written_pairs o)) ≡ []
+        go None e = refl
+        go (Some u) e =
+            let one : has_no_default_name (to_prefix prefix) (at_member i m u) ≡ true =
+            ap (λ b. has_no_default_name b (at_member i m u)) (sym begins) ∙ first_has (λ r. IsTrue (has_no_default_name (binding_of r.member) r)) schema ws i m u at e typed.prefixed in
+            let tested : list_all (λ (p : List ℕ × List ℕ). not (is_one_of p.0 default_names)) (inserted_at (to_prefix prefix) m u) ≡ true =
+            ap (λ b. list_all (λ (p : List ℕ × List ℕ). not (is_one_of p.0 default_names)) (inserted_at b m u)) (sym begins) ∙ one in
+            sym (ap (values_at (str_to_ascii_lowercase (prefix ++ key))) (inserted_entries prefix m u) ∙ under_prefix prefix key (map_pairs u)) ∙ no_default_at (str_to_ascii_lowercase (prefix ++ key)) (inserted_at (to_prefix prefix) m u) tested is
+
+    lower_told : (key : List ℕ) (t : Bool) → is_one_of (str_to_ascii_lowercase (prefix ++ key)) default_names ≡ t → last_at (str_to_ascii_lowercase key) (lowered (written_pairs (first_value schema v i))) ≡ last_at (str_to_ascii_lowercase key) (lowered (written_pairs (first_value schema w i)))
+    lower_told key true is = ap (λ vs. option_to_list (last_value vs)) (none_there v key are.typed_v is ∙ sym (none_there w key are.typed_w is))
+    lower_told key false is =
+        sym (of_headers v key) ∙ sym (elsewhere v (str_to_ascii_lowercase (prefix ++ key)) is) ∙ are.seen.headers (str_to_ascii_lowercase (prefix ++ key))
+        ∙ elsewhere w (str_to_ascii_lowercase (prefix ++ key)) is ∙ of_headers w key
+
+    told : (name : List ℕ) → SameLast (lowered (written_pairs (first_value schema v i))) (lowered (written_pairs (first_value schema w i))) name
+    told name = go (same_text (str_to_ascii_lowercase name) name) refl
+      where
+        go : (t : Bool) → same_text (str_to_ascii_lowercase name) name ≡ t → SameLast (lowered (written_pairs (first_value schema v i))) (lowered (written_pairs (first_value schema w i))) name
+        go false e = ap last_value (not_lower name (written_pairs (first_value schema v i)) e ∙ sym (not_lower name (written_pairs (first_value schema w i)) e))
+        go true e =
+            let lower = same_from_test (str_to_ascii_lowercase name) name (sym e) in
+            subst (λ (n : List ℕ). SameLast (lowered (written_pairs (first_value schema v i))) (lowered (written_pairs (first_value schema w i))) n) lower
+            (list-injective _ _ (lower_told name (is_one_of (str_to_ascii_lowercase (prefix ++ name)) default_names) refl))

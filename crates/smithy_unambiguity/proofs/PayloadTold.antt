@@ -1,0 +1,294 @@
+-- The body of a payload tells its normal form.
+use Rattle.std.proofs.Common.{◌≡◌, refl, sym, ◌∙◌, ap, ℕ, ◌≤◌, nat_le, ◌⊎◌, inl, inr, Bool, true, false, not, ◌&&◌, ◌||◌, ◌==◌, List, [], ◌∷◌, length, filter, find, Result, Ok, Err, Option, Some, None, option_map, option_and_then, unwrap_or, if◌then◌else◌, eq-eqb}
+use Rattle.std.specs.List.{AllByRecursion, list_all}
+use Rattle.std.specs.Result.{result_ok, result_err}
+use Rattle.std.proofs.lemmas.Bool.{and_parts, eqb-true, leb-true}
+use Rattle.smithy_types.specs.Documents.{Document, nesting}
+use Rattle.smithy_ids.specs.declared.shape_type.ShapeType.{ShapeType}
+use Rattle.smithy_ids.specs.declared.shape_type.ShapeType.TheVariants as kind
+use Rattle.smithy_schema.specs.Nodes.{Schema, member_at, members_of, to_payload, binding_at, binding_of, is_outside_body, is_bound}
+use Rattle.smithy_serde.specs.Values as value
+use Rattle.smithy_serde.specs.Values.{Value, Write}
+use Rattle.smithy_serde.specs.Fits.{fits, is_null}
+use Rattle.smithy_serde.specs.Held as held
+use Rattle.smithy_serde.specs.Held.{Held}
+use Rattle.smithy_serde.specs.Lawful.{IsLawfulText, TellsApart, is_sound, max_nesting}
+use Rattle.smithy_serde.specs.DocumentOf.{DocumentFault, document_of, doc_of, document_fault_text}
+use Rattle.smithy_serde.specs.Shaped.{is_shaped}
+use Rattle.smithy_serde.specs.NormalBody.{settled}
+use Rattle.smithy_serde.specs.Writes.{Resolved, all_resolved, firsts, is_of}
+use Rattle.smithy_binding.specs.Bindings.{query_names}
+use Rattle.smithy_binding.specs.Bodies.{is_payload, is_codec_kind, payload_kind, has_unbound_member, is_raw_kind, unbound_form, form_at, form_in, body_parts, body, document_value, document_by, raw_bytes, text_of_document, bytes_by}
+use Rattle.smithy_binding.specs.declared.body_form.BodyForm.{BodyForm}
+use Rattle.smithy_binding.specs.declared.body_form.BodyForm.TheVariants as form
+use Rattle.smithy_binding.specs.Checked.{IsCheckedInput, has_at_most_one, is_sound_payload, is_payload_kind}
+use Rattle.smithy_binding.specs.Faults.{custom, body_fault, fault_of_document}
+use Rattle.smithy_schema.specs.WellMade.{is_well_made}
+use Rattle.smithy_binding.specs.Placing.{Protocol, Omit}
+use Rattle.smithy_binding.specs.Typed.{IsTyped, is_codec_payload, is_shaped_write, is_shallow}
+use Rattle.smithy_binding.specs.NormalForm.{member_view, bound_view_at, unless_empty}
+use Rattle.smithy_unambiguity.proofs.Bodies.{document_tells}
+use Rattle.smithy_unambiguity.proofs.ByMember.{first_value}
+use Rattle.smithy_unambiguity.proofs.Conforming.{resolved_at}
+use Rattle.smithy_unambiguity.proofs.Conformity.{conforming}
+use Rattle.smithy_unambiguity.proofs.Firsts.{first_finds, all_firsts}
+use Rattle.smithy_unambiguity.proofs.HeadersTold.{AreSeenSame, typed_writes}
+use Rattle.smithy_unambiguity.proofs.Members.{held_member}
+use Rattle.smithy_unambiguity.proofs.Placed.{HasTypedWrites, bound_member_view, bound_fits, first_held, first_has}
+use Rattle.smithy_unambiguity.proofs.Positions.{members_by_position}
+use Rattle.smithy_unambiguity.proofs.Settled.{text_form}
+use Rattle.smithy_unambiguity.proofs.Singles.{single, find_single, find_same}
+use Rattle.smithy_unambiguity.proofs.Sound.{sound}
+
+payload_flag : (h p q : Option (List ℕ)) (query_map label payload : Bool) → is_payload (binding_at h p q query_map label payload) ≡ true → payload ≡ true
+payload_flag (Some h) p q query_map label payload e = absurd (cc e)
+payload_flag None (Some p) q query_map label payload e = absurd (cc e)
+payload_flag None None (Some q) query_map label payload e = absurd (cc e)
+payload_flag None None None true label payload e = absurd (cc e)
+payload_flag None None None false true payload e = absurd (cc e)
+payload_flag None None None false false true e = refl
+payload_flag None None None false false false e = absurd (cc e)
+
+pub payload_of : (m : Schema) → is_payload (binding_of m) ≡ true → m.node.traits.http_payload ≡ true
+payload_of m e = payload_flag m.node.traits.http_header m.node.traits.http_prefix_headers m.node.traits.http_query m.node.traits.http_query_params m.node.traits.http_label m.node.traits.http_payload e
+
+pub one_payload : (schema : Schema) → IsCheckedInput schema → length (filter (λ m. m.node.traits.http_payload) (members_of schema)) ≤ 1
+one_payload schema checked =
+    leb-true (length (filter (λ m. m.node.traits.http_payload) (members_of schema))) 1
+    (and_parts (has_at_most_one (λ t. t.http_payload) schema) (is_sound_payload (payload_kind schema) (has_unbound_member schema)) checked.payload).0
+
+-- the payload member is the one that is found
+pub payload_kind_is : (schema : Schema) → IsCheckedInput schema → (i : ℕ) (m : Schema) → member_at schema i ≡ Some m → binding_of m ≡ to_payload → payload_kind schema ≡ Some m.node.kind
+payload_kind_is schema checked i m at payload =
+    ap (option_map (λ n. n.node.kind)) (find_single (λ n. is_payload (binding_of n)) (λ n. n.node.traits.http_payload) (members_of schema) (λ n e. payload_of n e) (one_payload schema checked) i m (members_by_position schema checked i ∙ at) (ap is_payload payload))
+
+-- and its first write is the payload
+pub payload_value : (schema : Schema) → IsCheckedInput schema → (ws : List Write) (i : ℕ) (m : Schema) → member_at schema i ≡ Some m → binding_of m ≡ to_payload
+    → option_map (λ (r : Resolved). r.value) (find (λ (r : Resolved). is_payload (binding_of r.member)) (firsts schema ws)) ≡ first_value schema ws i
+payload_value schema checked ws i m at payload =
+    ap (option_map (λ (r : Resolved). r.value))
+    (find_same (λ (r : Resolved). is_payload (binding_of r.member)) (is_of i) (firsts schema ws)
+    (all_firsts (λ r. is_payload (binding_of r.member) ≡ is_of i r) (all_resolved schema ws) (agree (all_resolved schema ws) (resolved_at schema ws)))
+    ∙ first_finds i (all_resolved schema ws))
+  where
+    same_test : (r : Resolved) → member_at schema r.position ≡ Some r.member → is_payload (binding_of r.member) ≡ is_of i r
+    same_test r at_r = go (r.position == i) (is_payload (binding_of r.member)) refl refl
+      where
+        go : (t s : Bool) → (r.position == i) ≡ t → is_payload (binding_of r.member) ≡ s → s ≡ t
+        go true true e is = refl
+        go false false e is = refl
+        go true false e is =
+            let members : Some r.member ≡ Some m = sym at_r ∙ ap (member_at schema) (eqb-true r.position i e) ∙ at in
+            let same : r.member ≡ m = cc members in
+            let q : false ≡ true = sym is ∙ ap (λ n. is_payload (binding_of n)) same ∙ ap is_payload payload in
+            q
+        go false true e is =
+            let position = single (λ n. n.node.traits.http_payload) (members_of schema) (one_payload schema checked) r.position i r.member m (members_by_position schema checked r.position ∙ at_r) (members_by_position schema checked i ∙ at)
+            (payload_of r.member is) (payload_of m (ap is_payload payload)) in
+            let q : true ≡ false = sym (eq-eqb r.position i position) ∙ e in
+            q
+
+    agree : (rs : List Resolved) → AllByRecursion (λ r. member_at schema r.position ≡ Some r.member) rs → AllByRecursion (λ r. is_payload (binding_of r.member) ≡ is_of i r) rs
+    agree [] all = tt
+    agree (r ∷ rs) all = (same_test r all.0, agree rs all.1)
+
+-- the bytes of the body, by its form
+pub body_bytes : (text_of : Document → List ℕ) (schema : Schema) (ws : List Write) → (body text_of schema ws).bytes ≡ bytes_by (form_in schema) text_of (body_parts schema ws)
+unfolding body
+body_bytes text_of schema ws = refl
+
+-- Raw payloads.
+
+raw_text : (o p : Option Value) → ((v : Value) → o ≡ Some v → fits kind.String v ≡ true) → ((v : Value) → p ≡ Some v → fits kind.String v ≡ true)
+    → unwrap_or (option_map raw_bytes o) [] ≡ unwrap_or (option_map raw_bytes p) [] → option_and_then unless_empty o ≡ option_and_then unless_empty p
+raw_text o p is_o is_p e = shown o is_o ∙ ap view_of e ∙ sym (shown p is_p)
+  where
+    view_of : List ℕ → Option Value
+    view_of t = unless_empty (value.scalar (value.text t))
+
+    shown : (o : Option Value) → ((v : Value) → o ≡ Some v → fits kind.String v ≡ true) → option_and_then unless_empty o ≡ unless_empty (value.scalar (value.text (unwrap_or (option_map raw_bytes o) [])))
+    shown None is = refl
+    shown (Some v) is = let x = text_form v (is v refl) in ap unless_empty x.1 ∙ ap (λ u. unless_empty (value.scalar (value.text (raw_bytes u)))) (sym x.1)
+
+blob_form : (v : Value) → fits kind.Blob v ≡ true → (b : List ℕ) × (v ≡ value.scalar (value.blob b))
+blob_form (value.scalar (value.blob b)) e = (b, refl)
+blob_form (value.scalar (value.whole value.byte z)) e = absurd (cc e)
+blob_form (value.scalar (value.whole value.short z)) e = absurd (cc e)
+blob_form (value.scalar (value.whole value.integer z)) e = absurd (cc e)
+blob_form (value.scalar (value.whole value.long z)) e = absurd (cc e)
+blob_form _ e = absurd (cc e)
+
+raw_blob : (o p : Option Value) → ((v : Value) → o ≡ Some v → fits kind.Blob v ≡ true) → ((v : Value) → p ≡ Some v → fits kind.Blob v ≡ true)
+    → unwrap_or (option_map raw_bytes o) [] ≡ unwrap_or (option_map raw_bytes p) [] → option_and_then unless_empty o ≡ option_and_then unless_empty p
+raw_blob o p is_o is_p e = shown o is_o ∙ ap (λ t. unless_empty (value.scalar (value.blob t))) e ∙ sym (shown p is_p)
+  where
+    shown : (o : Option Value) → ((v : Value) → o ≡ Some v → fits kind.Blob v ≡ true) → option_and_then unless_empty o ≡ unless_empty (value.scalar (value.blob (unwrap_or (option_map raw_bytes o) [])))
+    shown None is = refl
+    shown (Some v) is = let x = blob_form v (is v refl) in ap unless_empty x.1 ∙ ap (λ u. unless_empty (value.scalar (value.blob (raw_bytes u)))) (sym x.1)
+
+-- Payloads that the codec writes.
+
+-- what the normal form has of a payload
+abbrev pub payload_view : Schema → Value → Option Value
+payload_view m u = if is_codec_kind m.node.kind then Some (settled (Some m) u) else unless_empty u
+
+pub codec_view : (m : Schema) (o : Option Value) → is_codec_kind m.node.kind ≡ true → option_and_then (payload_view m) o ≡ option_map (settled (Some m)) o
+codec_view m None codec = refl
+codec_view m (Some u) codec = ap (λ t. if t then Some (settled (Some m) u) else unless_empty u) codec
+
+raw_view : (m : Schema) (o : Option Value) → is_codec_kind m.node.kind ≡ false → option_and_then (payload_view m) o ≡ option_and_then unless_empty o
+raw_view m o raw = ap (λ t. option_and_then (λ u. if t then Some (settled (Some m) u) else unless_empty u) o) raw
+
+-- a codec that reads back what it wrote tells documents apart
+pub tells_apart : (text_of : Document → List ℕ) (holds : List ℕ → Option Held) → IsLawfulText text_of holds → TellsApart text_of
+tells_apart text_of holds lawful d e sound_d sound_e low_d low_e same =
+    let both : Some (held.document d) ≡ Some (held.document e) = sym (lawful.reads_back d sound_d low_d) ∙ ap holds same ∙ lawful.reads_back e sound_e low_e in cc both
+
+-- a shaped value whose document a codec tells apart
+pub record HasOwnText (here : Option Schema) (v : Value) : Type 0 where
+  pub shaped : is_shaped here v ≡ true
+  pub doc : Document
+  pub has : document_of v ≡ Ok doc
+  pub sound : is_sound doc ≡ true
+  pub shallow : nesting doc ≤ max_nesting
+
+own_bytes : (text_of : Document → List ℕ) (here : Option Schema) (v : Value) (is : HasOwnText here v) → text_of_document text_of (Some v) ≡ text_of is.doc
+own_bytes text_of here v is = ap (λ (r : Result Document DocumentFault). unwrap_or (option_map text_of (result_ok r)) []) is.has
+
+pub texts_tell : (text_of : Document → List ℕ) (holds : List ℕ → Option Held) → IsLawfulText text_of holds → (here : Option Schema) (o p : Option Value) → ((v : Value) → o ≡ Some v → HasOwnText here v) → ((v : Value) → p ≡ Some v → HasOwnText here v)
+    → text_of_document text_of o ≡ text_of_document text_of p → option_map (settled here) o ≡ option_map (settled here) p
+texts_tell text_of holds lawful here None None is_o is_p e = refl
+texts_tell text_of holds lawful here (Some v) None is_o is_p e =
+    let is = is_o v refl in absurd (lawful.is_not_empty is.doc is.sound (sym (own_bytes text_of here v is) ∙ e))
+texts_tell text_of holds lawful here None (Some w) is_o is_p e =
+    let is = is_p w refl in absurd (lawful.is_not_empty is.doc is.sound (sym (own_bytes text_of here w is) ∙ sym e))
+texts_tell text_of holds lawful here (Some v) (Some w) is_o is_p e =
+    let a = is_o v refl in
+    let b = is_p w refl in
+    let same = tells_apart text_of holds lawful a.doc b.doc a.sound b.sound a.shallow b.shallow (sym (own_bytes text_of here v a) ∙ e ∙ own_bytes text_of here w b) in
+    ap Some (document_tells here v w a.doc a.shaped b.shaped a.has (b.has ∙ ap Ok (sym same)))
+
+-- where no rule of documents is broken there is a document
+pub documented : (v : Value) → fault_of_document (Some v) ≡ None → (d : Document) × (document_of v ≡ Ok d)
+documented v e = go (document_of v) refl e
+  where
+    go : (r : Result Document DocumentFault) → document_of v ≡ r → option_map (λ (f : DocumentFault). custom (document_fault_text f)) (result_err r) ≡ None → (d : Document) × (document_of v ≡ Ok d)
+    go (Ok d) is h = (d, is)
+    go (Err f) is h = absurd (cc h)
+
+-- the document of a typed input's body
+pub record HasDocument (u : Value) : Type 0 where
+  pub doc : Document
+  pub has : document_of u ≡ Ok doc
+  pub shallow : nesting doc ≤ max_nesting
+
+pub body_document : (protocol : Protocol) (schema : Schema) (endpoint : List ℕ) (omit : Omit) (ws : List Write) (u : Value) → IsTyped protocol schema endpoint omit ws → document_value schema ws ≡ Some u → HasDocument u
+unfolding body_fault
+body_document protocol schema endpoint omit ws u typed is =
+    let fault : fault_of_document (Some u) ≡ None = ap fault_of_document (sym is) ∙ (conforming schema ws endpoint typed.conforming).body in
+    let x = documented u fault in
+    let low : nat_le (nesting x.0) max_nesting ≡ true =
+    ap (λ (r : Result Document DocumentFault). is_shallow (result_ok r)) (sym x.1) ∙ ap (λ (o : Option Value). is_shallow (option_and_then doc_of o)) (sym is) ∙ typed.shallow in
+    record { doc = x.0; has = x.1; shallow = leb-true (nesting x.0) max_nesting low }
+
+pub document_value_is : (schema : Schema) (ws : List Write) (f : BodyForm) → form_in schema ≡ f → document_value schema ws ≡ document_by f (body_parts schema ws)
+unfolding document_value
+document_value_is schema ws f e = ap (λ g. document_by g (body_parts schema ws)) e
+
+pub all_tests : (t : Resolved → Bool) (rs : List Resolved) → list_all t rs ≡ true → AllByRecursion (λ r. t r ≡ true) rs
+all_tests t [] e = tt
+all_tests t (r ∷ rs) e = let parts = and_parts (t r) (list_all t rs) e in (parts.0, all_tests t rs parts.1)
+
+data_kind : (k : ShapeType) → is_payload_kind k ≡ true → (k ≡ kind.Blob) ⊎ ((k ≡ kind.String) ⊎ (is_codec_kind k ≡ true))
+data_kind kind.Blob e = inl refl
+data_kind kind.String e = inr (inl refl)
+data_kind _ e = inr (inr e)
+
+codec_form : (k : ShapeType) (b : Bool) → is_codec_kind k ≡ true → form_at (Some k) b ≡ form.Payload
+codec_form kind.Structure b e = refl
+codec_form kind.Union b e = refl
+codec_form kind.List b e = refl
+codec_form kind.Map b e = refl
+codec_form kind.Document b e = refl
+codec_form _ b e = absurd (cc e)
+
+-- the form of the bodies, by the kind of the payload
+payload_form : (schema : Schema) → IsCheckedInput schema → (i : ℕ) (m : Schema) → member_at schema i ≡ Some m → binding_of m ≡ to_payload → form_in schema ≡ form_at (Some m.node.kind) (has_unbound_member schema)
+payload_form schema checked i m at payload = ap (λ o. form_at o (has_unbound_member schema)) (payload_kind_is schema checked i m at payload)
+
+-- the kind of a payload
+payload_is_data : (schema : Schema) → IsCheckedInput schema → (i : ℕ) (m : Schema) → member_at schema i ≡ Some m → binding_of m ≡ to_payload → is_payload_kind m.node.kind ≡ true
+payload_is_data schema checked i m at payload =
+    let tests = and_parts (has_at_most_one (λ t. t.http_payload) schema) (is_sound_payload (payload_kind schema) (has_unbound_member schema)) checked.payload in
+    (and_parts (is_payload_kind m.node.kind) (not (has_unbound_member schema)) (ap (λ o. is_sound_payload o (has_unbound_member schema)) (sym (payload_kind_is schema checked i m at payload)) ∙ tests.1)).0
+
+-- the codec writes the payload, where bodies have that form
+pub codec_payload : (schema : Schema) → IsCheckedInput schema → (i : ℕ) (m : Schema) → member_at schema i ≡ Some m → binding_of m ≡ to_payload → form_in schema ≡ form.Payload → is_codec_kind m.node.kind ≡ true
+codec_payload schema checked i m at payload is = go (is_raw_kind m.node.kind) (is_codec_kind m.node.kind) (payload_is_data schema checked i m at payload) (sym (payload_form schema checked i m at payload) ∙ is)
+  where
+    go : (r c : Bool) → (r || c) ≡ true → (if r then form.Raw else if c then form.Payload else unbound_form (has_unbound_member schema)) ≡ form.Payload → c ≡ true
+    go true c taken h = absurd (cc h)
+    go false c taken h = taken
+
+-- the payload of a typed input is shaped, with a document that a codec tells apart
+pub payload_own_text : (protocol : Protocol) (schema : Schema) (endpoint : List ℕ) (omit : Omit) (ws : List Write) (i : ℕ) (m : Schema) → IsCheckedInput schema → is_well_made schema ≡ true → IsTyped protocol schema endpoint omit ws
+    → member_at schema i ≡ Some m → binding_of m ≡ to_payload → form_in schema ≡ form.Payload → (u : Value) → first_value schema ws i ≡ Some u → HasOwnText (Some m) u
+payload_own_text protocol schema endpoint omit ws i m checked held typed at payload is u e =
+    let d = body_document protocol schema endpoint omit ws u typed (document_value_is schema ws form.Payload is ∙ payload_value schema checked ws i m at payload ∙ e) in
+    let tested = first_has (λ r. (not (is_codec_payload r.member) || is_shaped_write r) ≡ true) schema ws i m u at e (all_tests (λ r. not (is_codec_payload r.member) || is_shaped_write r) (firsts schema ws) typed.payload_shaped) in
+    let asked : is_codec_payload m ≡ true = ap (λ b. is_payload b && is_codec_kind m.node.kind) payload ∙ codec_payload schema checked i m at payload is in
+    let shaped : is_shaped (Some m) u ≡ true = ap (λ t. not t || is_shaped (Some m) u) (sym asked) ∙ tested in
+    record { shaped = shaped; doc = d.doc; has = d.has; sound = sound (Some m) u d.doc (held_member schema i m held at).table shaped d.has; shallow = d.shallow }
+
+pub payload_member_told : (protocol : Protocol) (schema : Schema) (endpoint : List ℕ) (omit : Omit) (v w : List Write) → AreSeenSame protocol schema endpoint omit v w → (i : ℕ) (m : Schema)
+    → member_at schema i ≡ Some m → binding_of m ≡ to_payload → member_view schema v i m ≡ member_view schema w i m
+payload_member_told protocol schema endpoint omit v w are i m at payload = shown v ∙ go (data_kind m.node.kind (payload_is_data schema are.checked i m at payload)) ∙ sym (shown w)
+  where
+    bound : is_bound m ≡ true
+    bound = ap is_outside_body payload
+
+    shown : (ws : List Write) → member_view schema ws i m ≡ option_and_then (payload_view m) (first_value schema ws i)
+    shown ws = bound_member_view schema ws i m at bound ∙ ap (λ b. option_and_then (bound_view_at b (query_names schema) m) (first_value schema ws i)) payload
+
+    value_of : (ws : List Write) → (body_parts schema ws).payload ≡ first_value schema ws i
+    value_of ws = payload_value schema are.checked ws i m at payload
+
+    fitting : (ws : List Write) → HasTypedWrites schema ws → (k : ShapeType) → m.node.kind ≡ k → (u : Value) → first_value schema ws i ≡ Some u → fits k u ≡ true
+    fitting ws typed k is u e = ap (λ k. fits k u) (sym is) ∙ bound_fits (fits m.node.kind u) (is_null u) (is_bound m) bound (first_held schema ws i m u typed.conforming typed.in_range at e).fits
+
+    typed_v : HasTypedWrites schema v
+    typed_v = typed_writes protocol schema endpoint omit v are.typed_v
+
+    typed_w : HasTypedWrites schema w
+    typed_w = typed_writes protocol schema endpoint omit w are.typed_w
+
+    bytes : (f : BodyForm) → form_in schema ≡ f → bytes_by f protocol.text_of (body_parts schema v) ≡ bytes_by f protocol.text_of (body_parts schema w)
+    bytes f is =
+        ap (λ g. bytes_by g protocol.text_of (body_parts schema v)) (sym is) ∙ sym (body_bytes protocol.text_of schema v) ∙ are.seen.body ∙ body_bytes protocol.text_of schema w
+        ∙ ap (λ g. bytes_by g protocol.text_of (body_parts schema w)) is
+
+    form_is : (k : ShapeType) → m.node.kind ≡ k → form_in schema ≡ form_at (Some k) (has_unbound_member schema)
+    form_is k e = payload_form schema are.checked i m at payload ∙ ap (λ k. form_at (Some k) (has_unbound_member schema)) e
+
+    raw : form_in schema ≡ form.Raw → unwrap_or (option_map raw_bytes (first_value schema v i)) [] ≡ unwrap_or (option_map raw_bytes (first_value schema w i)) []
+    raw is =
+        ap (λ o. unwrap_or (option_map raw_bytes o) []) (sym (value_of v)) ∙ bytes form.Raw is ∙ ap (λ o. unwrap_or (option_map raw_bytes o) []) (value_of w)
+
+    go : (m.node.kind ≡ kind.Blob) ⊎ ((m.node.kind ≡ kind.String) ⊎ (is_codec_kind m.node.kind ≡ true))
+        → option_and_then (payload_view m) (first_value schema v i) ≡ option_and_then (payload_view m) (first_value schema w i)
+    go (inl e) =
+        raw_view m (first_value schema v i) (ap is_codec_kind e)
+        ∙ raw_blob (first_value schema v i) (first_value schema w i) (fitting v typed_v kind.Blob e) (fitting w typed_w kind.Blob e) (raw (form_is kind.Blob e))
+        ∙ sym (raw_view m (first_value schema w i) (ap is_codec_kind e))
+    go (inr (inl e)) =
+        raw_view m (first_value schema v i) (ap is_codec_kind e)
+        ∙ raw_text (first_value schema v i) (first_value schema w i) (fitting v typed_v kind.String e) (fitting w typed_w kind.String e) (raw (form_is kind.String e))
+        ∙ sym (raw_view m (first_value schema w i) (ap is_codec_kind e))
+    go (inr (inr codec)) =
+        let is = form_is m.node.kind refl ∙ codec_form m.node.kind (has_unbound_member schema) codec in
+        let texts : text_of_document protocol.text_of (first_value schema v i) ≡ text_of_document protocol.text_of (first_value schema w i) =
+        ap (text_of_document protocol.text_of) (sym (value_of v)) ∙ bytes form.Payload is ∙ ap (text_of_document protocol.text_of) (value_of w) in
+        codec_view m (first_value schema v i) codec
+        ∙ texts_tell protocol.text_of are.setting.holds are.setting.lawful (Some m) (first_value schema v i) (first_value schema w i)
+        (payload_own_text protocol schema endpoint omit v i m are.checked are.setting.held are.typed_v at payload is) (payload_own_text protocol schema endpoint omit w i m are.checked are.setting.held are.typed_w at payload is) texts
+        ∙ sym (codec_view m (first_value schema w i) codec)

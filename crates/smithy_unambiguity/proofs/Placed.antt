@@ -1,0 +1,121 @@
+-- What is known of the first write of a member in a typed input.
+use Rattle.std.proofs.Common.{◌≡◌, refl, sym, ◌∙◌, ap, subst, ℕ, zero, suc, Bool, true, false, not, cond, ◌&&◌, ◌||◌, List, [], ◌∷◌, filter, slice_get, Option, Some, None, option_map, option_and_then, is_some, IsTrue}
+use Rattle.std.specs.List.{AllByRecursion, list_all}
+use Rattle.std.proofs.lemmas.Bool.{and_parts}
+use Rattle.smithy_types.specs.Results.{unless, first_of_all}
+use Rattle.smithy_schema.specs.Nodes.{Schema, member_at, Binding, to_header, to_prefix, to_query, to_query_map, to_label, to_payload, to_body, binding_of, is_outside_body, is_bound}
+use Rattle.smithy_serde.specs.Values.{Value, Write}
+use Rattle.smithy_serde.specs.Ranges.{are_in_range}
+use Rattle.smithy_serde.specs.Fits.{fits, is_null}
+use Rattle.smithy_serde.specs.Writes.{Resolved, all_resolved, first, firsts}
+use Rattle.smithy_binding.specs.Bindings.{texts, inserted_at, query_names}
+use Rattle.smithy_binding.specs.Faults.{Fault, writes_fault, bound_fault, value_fault, item_fault, key_fault, year_fault, pairs_fault, is_placed_at}
+use Rattle.smithy_binding.specs.Typed.{has_distinct_keys, has_own_formats, is_placed_typed}
+use Rattle.smithy_binding.specs.NormalForm.{bound_view, bound_view_at, member_view, last_of}
+use Rattle.smithy_serde.specs.NormalBody.{settled}
+use Rattle.smithy_unambiguity.proofs.ByName.{find_has}
+use Rattle.smithy_unambiguity.proofs.ByMember.{at_member, first_value, first_at}
+use Rattle.smithy_unambiguity.proofs.Conforming.{no_first, conforming_bound}
+use Rattle.smithy_unambiguity.proofs.Firsts.{first_finds}
+use Rattle.smithy_unambiguity.proofs.Fitting.{IsHeldWrite, held_writes}
+use Rattle.smithy_unambiguity.proofs.MemberTexts.{IsBoundValue}
+
+-- What the fields of a typed input say of its writes.
+pub record HasTypedWrites (schema : Schema) (ws : List Write) : Type 0 where
+  pub conforming : writes_fault schema [] ws ≡ None
+  pub in_range : are_in_range ws ≡ true
+  pub bound : AllByRecursion (λ r. IsTrue (is_placed_typed r)) (firsts schema ws)
+
+-- the value of a placed member's first write
+pub record IsPlacedValue (m : Schema) (v : Value) : Type 0 where
+  pub value : IsBoundValue m v
+  pub keys : has_distinct_keys v ≡ true
+  pub paired : key_fault m v ≡ None
+  pub ts : List (List ℕ)
+  pub texts : texts m v ≡ Some ts
+  pub headers : pairs_fault m (inserted_at (binding_of m) m v) ≡ None
+
+-- a member that is placed is bound
+pub placed_bound : (b : Binding) → is_placed_at b ≡ true → is_outside_body b ≡ true
+placed_bound (to_header n) e = refl
+placed_bound (to_prefix n) e = refl
+placed_bound (to_query n) e = refl
+placed_bound to_query_map e = refl
+placed_bound to_label e = refl
+placed_bound to_payload e = refl
+placed_bound to_body e = absurd (cc e)
+
+pub bound_fits : (a n b : Bool) → b ≡ true → (a || (n && not b)) ≡ true → a ≡ true
+bound_fits true n b is e = refl
+bound_fits false true true is e = absurd (cc e)
+bound_fits false true false is e = absurd (cc is)
+bound_fits false false b is e = absurd (cc e)
+
+texts_there : (m : Schema) (v : Value) (o : Option (List (List ℕ))) (f : Fault) → unless (is_some o) f ≡ None → (ts : List (List ℕ)) × (o ≡ Some ts)
+texts_there m v None f e = absurd (cc e)
+texts_there m v (Some ts) f e = (ts, refl)
+
+-- the first write to a position, with its member
+pub first_found : (schema : Schema) (ws : List Write) (i : ℕ) (m : Schema) (v : Value) → member_at schema i ≡ Some m → first_value schema ws i ≡ Some v → first schema ws i ≡ Some (at_member i m v)
+first_found schema ws i m v at e = first_at schema ws i m at ∙ ap (option_map (at_member i m)) e
+
+-- what holds of each first write holds of it
+pub first_has : (P : Resolved → Type 0) (schema : Schema) (ws : List Write) (i : ℕ) (m : Schema) (v : Value) → member_at schema i ≡ Some m → first_value schema ws i ≡ Some v → AllByRecursion P (firsts schema ws) → P (at_member i m v)
+first_has P schema ws i m v at e all =
+    (find_has P i (firsts schema ws) (at_member i m v) all (first_finds i (all_resolved schema ws) ∙ first_found schema ws i m v at e)).0
+
+-- it fits, and is in range
+pub first_held : (schema : Schema) (ws : List Write) (i : ℕ) (m : Schema) (v : Value) → writes_fault schema [] ws ≡ None → are_in_range ws ≡ true → member_at schema i ≡ Some m → first_value schema ws i ≡ Some v → IsHeldWrite (at_member i m v)
+first_held schema ws i m v conforming range at e =
+    (find_has IsHeldWrite i (all_resolved schema ws) (at_member i m v) (held_writes schema ws conforming range) (first_found schema ws i m v at e)).0
+
+pub placed_value : (schema : Schema) (ws : List Write) (i : ℕ) (m : Schema) (v : Value) → HasTypedWrites schema ws → member_at schema i ≡ Some m → is_placed_at (binding_of m) ≡ true → first_value schema ws i ≡ Some v → IsPlacedValue m v
+placed_value schema ws i m v typed at placed e =
+    let held = first_held schema ws i m v typed.conforming typed.in_range at e in
+    let bound : is_bound m ≡ true = placed_bound (binding_of m) placed in
+    let fit = bound_fits (fits m.node.kind v) (is_null v) (is_bound m) bound held.fits in
+    let fault : bound_fault (at_member i m v) ≡ None = conforming_bound schema ws typed.conforming i (at_member i m v) (first_found schema ws i m v at e) placed in
+    let a = no_first (value_fault m v) (pairs_fault m (inserted_at (binding_of m) m v)) fault in
+    let b = no_first (item_fault m v) (first_of_all (key_fault m v ∷ year_fault m v ∷ [])) a.0 in
+    let c = no_first (key_fault m v) (first_of_all (year_fault m v ∷ [])) b.1 in
+    let d = no_first (year_fault m v) None c.1 in
+    let x = texts_there m v (texts m v) _ d.0 in
+    let tests : (not (is_placed_at (binding_of m)) || (has_distinct_keys v && has_own_formats m v)) ≡ true = first_has (λ r. IsTrue (is_placed_typed r)) schema ws i m v at e typed.bound in
+    let both = and_parts (has_distinct_keys v) (has_own_formats m v) (ap (λ b. not b || (has_distinct_keys v && has_own_formats m v)) (sym placed) ∙ tests) in
+    record {
+      value = record { fits = fit; in_range = held.in_range; items = b.0; formats = both.1 };
+      keys = both.0;
+      paired = c.0;
+      ts = x.0;
+      texts = x.1;
+      headers = a.1;
+    }
+
+-- the normal form's part of a bound member
+pub bound_member_view : (schema : Schema) (ws : List Write) (i : ℕ) (m : Schema) → member_at schema i ≡ Some m → is_bound m ≡ true
+    → member_view schema ws i m ≡ option_and_then (bound_view_at (binding_of m) (query_names schema) m) (first_value schema ws i)
+bound_member_view schema ws i m at bound =
+    ap (λ (b : Bool). cond b (option_and_then (bound_view schema) (first schema ws i)) (option_map (λ (r : Resolved). settled (Some m) r.value) (last_of i (all_resolved schema ws)))) bound ∙ ap (option_and_then (bound_view schema)) (first_at schema ws i m at) ∙ go (first_value schema ws i)
+  where
+    go : (o : Option Value) → option_and_then (bound_view schema) (option_map (at_member i m) o) ≡ option_and_then (bound_view_at (binding_of m) (query_names schema) m) o
+    go None = refl
+    go (Some v) = refl
+
+-- a test of all members holds of each
+pub member_has : (test : Schema → Bool) (ms : List Schema) (i : ℕ) (m : Schema) → list_all test ms ≡ true → slice_get ms i ≡ Some m → test m ≡ true
+member_has test [] i m all e = absurd (cc e)
+member_has test (x ∷ ms) zero m all e = let same : x ≡ m = cc e in ap test (sym same) ∙ (and_parts (test x) (list_all test ms) all).0
+member_has test (x ∷ ms) (suc i) m all e = member_has test ms i m (and_parts (test x) (list_all test ms) all).1 e
+
+pub member_among : (P : Schema → Type 0) (test : Schema → Bool) (ms : List Schema) (i : ℕ) (m : Schema) → AllByRecursion P (filter test ms) → slice_get ms i ≡ Some m → test m ≡ true → P m
+member_among P test [] i m all e pass = absurd (cc e)
+member_among P test (x ∷ ms) zero m all e pass = let same : x ≡ m = cc e in go (test x) (ap test same ∙ pass) all same
+  where
+    go : (t : Bool) → t ≡ true → AllByRecursion P (cond t (x ∷ filter test ms) (filter test ms)) → x ≡ m → P m
+    go false q h same = absurd (cc q)
+    go true q h same = subst P same h.0
+member_among P test (x ∷ ms) (suc i) m all e pass = member_among P test ms i m (go (test x) all) e pass
+  where
+    go : (t : Bool) → AllByRecursion P (cond t (x ∷ filter test ms) (filter test ms)) → AllByRecursion P (filter test ms)
+    go false h = h
+    go true h = h.1

@@ -1,0 +1,94 @@
+-- Members by position, and names that tell positions apart.
+use Rattle.std.proofs.Common.{◌≡◌, ◌≢◌, refl, ◌∙◌, ap, subst, ℕ, zero, suc, Bool, true, false, ◌||◌, List, [], ◌∷◌, filter_map, slice_get, Option, Some, None, option_and_then, is_some}
+use Rattle.std.specs.List.{AllByRecursion, list_all, cons_option}
+use Rattle.std.proofs.lemmas.Bool.{and_parts}
+use Rattle.smithy_types.specs.Texts.{same_text, is_one_of, are_distinct, AreDistinct}
+use Rattle.smithy_schema.specs.Nodes.{Schema, at_place, members_of, member_at}
+use Rattle.smithy_binding.specs.Bindings.{query_names}
+use Rattle.smithy_binding.proofs.Tests.{AreDistinct-from_test, same_text_self}
+use Rattle.smithy_binding.specs.Checked.{IsCheckedInput}
+
+-- two members with one query name are one
+abbrev pub HasApartQueries : Schema → Type 0
+HasApartQueries schema = (i j : ℕ) (m n : Schema) (name : List ℕ) → member_at schema i ≡ Some m → member_at schema j ≡ Some n
+    → m.node.traits.http_query ≡ Some name → n.node.traits.http_query ≡ Some name → i ≡ j
+
+pub slice_get-filter_map : {X Y : Type 0} (f : X → Option Y) (xs : List X) (i : ℕ) → list_all (λ x. is_some (f x)) xs ≡ true → slice_get (filter_map f xs) i ≡ option_and_then f (slice_get xs i)
+slice_get-filter_map {Y = Y} f [] i all = refl
+slice_get-filter_map {Y = Y} f (x ∷ xs) zero all = go (f x) (and_parts (is_some (f x)) _ all).0
+  where
+    go : (o : Option Y) → is_some o ≡ true → slice_get (cons_option o (filter_map f xs)) 0 ≡ o
+    go None e = absurd (cc e)
+    go (Some y) e = refl
+slice_get-filter_map {Y = Y} f (x ∷ xs) (suc i) all = go (f x) (and_parts (is_some (f x)) (list_all (λ z. is_some (f z)) xs) all).0 (slice_get-filter_map f xs i (and_parts (is_some (f x)) (list_all (λ z. is_some (f z)) xs) all).1)
+  where
+    go : (o : Option Y) → is_some o ≡ true → slice_get (filter_map f xs) i ≡ option_and_then f (slice_get xs i) → slice_get (cons_option o (filter_map f xs)) (suc i) ≡ option_and_then f (slice_get xs i)
+    go None e rest = absurd (cc e)
+    go (Some y) e rest = rest
+
+-- the members of a schema whose cited nodes are there, by position
+pub members_by_position : (schema : Schema) → IsCheckedInput schema → (i : ℕ) → slice_get (members_of schema) i ≡ member_at schema i
+members_by_position schema checked i =
+    slice_get-filter_map (at_place schema.table) schema.node.members i (and_parts (list_all (λ p. is_some (at_place schema.table p)) schema.node.members) _ checked.cited).0
+
+-- what holds of each name holds of a member's
+pub at_name : (P : List ℕ → Type 0) (h : Schema → Option (List ℕ)) (ms : List Schema) (j : ℕ) (n : Schema) (name : List ℕ) → AllByRecursion P (filter_map h ms) → slice_get ms j ≡ Some n → h n ≡ Some name → P name
+at_name P h [] j n name all e is = absurd (cc e)
+at_name P h (x ∷ ms) zero n name all e is = let same : x ≡ n = cc e in go (h x) (ap h same ∙ is) all
+  where
+    go : (o : Option (List ℕ)) → o ≡ Some name → AllByRecursion P (cons_option o (filter_map h ms)) → P name
+    go None q rest = absurd (cc q)
+    go (Some y) q rest = let names : y ≡ name = cc q in subst P names rest.0
+at_name P h (x ∷ ms) (suc j) n name all e is = at_name P h ms j n name (go (h x) all) e is
+  where
+    go : (o : Option (List ℕ)) → AllByRecursion P (cons_option o (filter_map h ms)) → AllByRecursion P (filter_map h ms)
+    go None rest = rest
+    go (Some y) rest = rest.1
+
+-- names that are distinct tell positions apart: of members, headers and queries alike
+pub apart_at : (h : Schema → Option (List ℕ)) (ms : List Schema) → AreDistinct (filter_map h ms) → (i j : ℕ) (m n : Schema) (name : List ℕ)
+    → slice_get ms i ≡ Some m → slice_get ms j ≡ Some n → h m ≡ Some name → h n ≡ Some name → i ≡ j
+apart_at h [] distinct i j m n name at_i at_j is_m is_n = absurd (cc at_i)
+apart_at h (x ∷ ms) distinct zero zero m n name at_i at_j is_m is_n = refl
+apart_at h (x ∷ ms) distinct zero (suc j) m n name at_i at_j is_m is_n = let same : x ≡ m = cc at_i in absurd (go (h x) (ap h same ∙ is_m) distinct)
+  where
+    go : (o : Option (List ℕ)) → o ≡ Some name → AreDistinct (cons_option o (filter_map h ms)) → ⊥
+    go None q rest = cc q
+    go (Some y) q rest = let names : y ≡ name = cc q in at_name (λ other. y ≢ other) h ms j n name rest.0 at_j is_n names
+apart_at h (x ∷ ms) distinct (suc i) zero m n name at_i at_j is_m is_n = let same : x ≡ n = cc at_j in absurd (go (h x) (ap h same ∙ is_n) distinct)
+  where
+    go : (o : Option (List ℕ)) → o ≡ Some name → AreDistinct (cons_option o (filter_map h ms)) → ⊥
+    go None q rest = cc q
+    go (Some y) q rest = let names : y ≡ name = cc q in at_name (λ other. y ≢ other) h ms i m name rest.0 at_i is_m names
+apart_at h (x ∷ ms) distinct (suc i) (suc j) m n name at_i at_j is_m is_n = ap suc (apart_at h ms (go (h x) distinct) i j m n name at_i at_j is_m is_n)
+  where
+    go : (o : Option (List ℕ)) → AreDistinct (cons_option o (filter_map h ms)) → AreDistinct (filter_map h ms)
+    go None rest = rest
+    go (Some y) rest = rest.1
+
+pub queries_apart : (schema : Schema) → IsCheckedInput schema → HasApartQueries schema
+queries_apart schema checked i j m n name at_i at_j is_m is_n =
+    let distinct = AreDistinct-from_test (query_names schema) (and_parts _ (are_distinct (query_names schema)) checked.unlike_names).1 in
+    apart_at (λ k. k.node.traits.http_query) (members_of schema) distinct i j m n name
+    (members_by_position schema checked i ∙ at_i) (members_by_position schema checked j ∙ at_j) is_m is_n
+
+one_of_at : (h : Schema → Option (List ℕ)) (ms : List Schema) (j : ℕ) (n : Schema) (name : List ℕ) → slice_get ms j ≡ Some n → h n ≡ Some name → is_one_of name (filter_map h ms) ≡ true
+one_of_at h [] j n name e is = absurd (cc e)
+one_of_at h (x ∷ ms) zero n name e is = let same : x ≡ n = cc e in go (h x) (ap h same ∙ is)
+  where
+    go : (o : Option (List ℕ)) → o ≡ Some name → is_one_of name (cons_option o (filter_map h ms)) ≡ true
+    go None q = absurd (cc q)
+    go (Some y) q = let names : y ≡ name = cc q in ap (λ t. t || is_one_of name (filter_map h ms)) (ap (same_text name) names ∙ same_text_self name)
+one_of_at h (x ∷ ms) (suc j) n name e is = go (h x) (one_of_at h ms j n name e is)
+  where
+    go : (o : Option (List ℕ)) → is_one_of name (filter_map h ms) ≡ true → is_one_of name (cons_option o (filter_map h ms)) ≡ true
+    go None rest = rest
+    go (Some y) rest = ap (λ t. same_text name y || t) rest ∙ by (same_text name y)
+      where
+        by : (t : Bool) → (t || true) ≡ true
+        by true = refl
+        by false = refl
+
+pub query_name_found : (schema : Schema) → IsCheckedInput schema → (i : ℕ) (m : Schema) (name : List ℕ) → member_at schema i ≡ Some m → m.node.traits.http_query ≡ Some name → is_one_of name (query_names schema) ≡ true
+query_name_found schema checked i m name at is =
+    one_of_at (λ k. k.node.traits.http_query) (members_of schema) i m name (members_by_position schema checked i ∙ at) is

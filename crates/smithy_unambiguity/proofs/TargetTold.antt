@@ -1,0 +1,221 @@
+-- What is seen of a request tells the normal form's part of each label and query member.
+use Rattle.std.proofs.Common.{◌≡◌, refl, sym, ◌∙◌, ap, ℕ, Bool, true, false, not, ◌&&◌, ◌||◌, List, [], ◌∷◌, Option, Some, None, option_map, option_and_then, unwrap_or, is_none, if◌then◌else◌}
+use Rattle.std.specs.Option.{option_map_or}
+use Rattle.std.specs.Str.{is_utf8}
+use Rattle.std.proofs.lemmas.Bool.{and_parts}
+use Rattle.smithy_types.specs.Texts.{found}
+use Rattle.smithy_ids.specs.declared.shape_type.ShapeType.TheVariants as kind
+use Rattle.smithy_ids.specs.Kinds.{same_kind, is_scalar}
+use Rattle.smithy_ids.proofs.KindLemmas.{one_kind}
+use Rattle.smithy_schema.specs.Nodes.{Schema, member_at, members_of, name_of, to_query, to_label, binding_at, binding_of, is_bound}
+use Rattle.smithy_serde.specs.Values as value
+use Rattle.smithy_serde.specs.Values.{Value, Write, no_writes}
+use Rattle.smithy_serde.specs.Writes.{Resolved}
+use Rattle.smithy_strings.specs.Escapes.{escape, AreBytes}
+use Rattle.smithy_http.specs.Facts.{values_at}
+use Rattle.smithy_binding.specs.Bindings.{pairs, labels, texts, query_names, place_of, member_text}
+use Rattle.smithy_binding.specs.Checked.{has_element, has_bound_kind, has_header_kind, has_query_kind, has_label_kind}
+use Rattle.smithy_binding.specs.Faults.{is_placed_at}
+use Rattle.smithy_schema.specs.WellMade.{has_utf8}
+use Rattle.smithy_binding.specs.Placing.{Protocol, Omit, template_of}
+use Rattle.smithy_binding.specs.NormalForm.{member_view, bound_view_at, with_own_elements, unless_empty}
+use Rattle.smithy_unambiguity.proofs.Bytes.{AreBytes-from_utf8}
+use Rattle.smithy_unambiguity.proofs.ByMember.{first_value, first_at, at_member}
+use Rattle.smithy_unambiguity.proofs.ByName.{found-front, front, query_of, pairs_of_member}
+use Rattle.smithy_unambiguity.proofs.Fits.{is_flat, }
+use Rattle.smithy_unambiguity.proofs.HeaderTexts.{none_written}
+use Rattle.smithy_unambiguity.proofs.HeadersTold.{AreSeenSame, typed_writes, clear_template}
+use Rattle.smithy_unambiguity.proofs.LabelFirst.{label_of_first}
+use Rattle.smithy_unambiguity.proofs.Labels.{path_tells_labels}
+use Rattle.smithy_unambiguity.proofs.MemberTexts.{query_told, query_list_told, bound_list, list_of_element}
+use Rattle.smithy_unambiguity.proofs.Members.{held_member, names_apart, all_have_names, HasApartNames}
+use Rattle.smithy_unambiguity.proofs.Placed.{HasTypedWrites, IsPlacedValue, placed_value, bound_member_view, member_among, placed_bound}
+use Rattle.smithy_unambiguity.proofs.Positions.{members_by_position, queries_apart, query_name_found}
+use Rattle.smithy_unambiguity.proofs.Queries.{query_tells_texts}
+use Rattle.smithy_unambiguity.proofs.TemplateQuery.{pieces_of_template, query_leaves_path}
+use Rattle.smithy_unambiguity.proofs.TextsBytes.{labels_are_bytes, pairs_are_bytes}
+use Rattle.smithy_unambiguity.proofs.Values.{flat_value, flat_texts}
+
+-- the texts of a member's first write
+abbrev pub first_texts : Schema → Option Value → List (List ℕ)
+first_texts m o = option_map_or (λ v. unwrap_or (texts m v) []) o []
+
+by_value : (m : Schema) (i : ℕ) (o : Option Value) → option_map_or (λ (r : Resolved). unwrap_or (texts m r.value) []) (option_map (at_member i m) o) [] ≡ first_texts m o
+by_value m i None = refl
+by_value m i (Some v) = refl
+
+there : (m : Schema) (v : Value) (is : IsPlacedValue m v) → unwrap_or (texts m v) [] ≡ is.ts
+there m v is = ap (λ (o : Option (List (List ℕ))). unwrap_or o []) is.texts
+
+-- Labels.
+
+label_at : (h p q : Option (List ℕ)) (query_map label payload : Bool) → binding_at h p q query_map label payload ≡ to_label → label ≡ true
+label_at (Some h) p q query_map label payload e = absurd (cc e)
+label_at None (Some p) q query_map label payload e = absurd (cc e)
+label_at None None (Some q) query_map label payload e = absurd (cc e)
+label_at None None None true label payload e = absurd (cc e)
+label_at None None None false true payload e = refl
+label_at None None None false false true e = absurd (cc e)
+label_at None None None false false false e = absurd (cc e)
+
+pub label_of : (m : Schema) → binding_of m ≡ to_label → m.node.traits.http_label ≡ true
+label_of m e = label_at m.node.traits.http_header m.node.traits.http_prefix_headers m.node.traits.http_query m.node.traits.http_query_params m.node.traits.http_label m.node.traits.http_payload e
+
+-- the one text of a flat value
+one_text : (m : Schema) (v : Value) → is_flat m.node.kind ≡ true → (is : IsPlacedValue m v) → (t : List ℕ) × (is.ts ≡ t ∷ [])
+one_text m v flat is = by (member_text (place_of m) m v) (sym (flat_texts m v (flat_value m.node.kind v flat is.value.fits)) ∙ is.texts)
+  where
+    by : (o : Option (List ℕ)) → option_map (λ (t : List ℕ). t ∷ []) o ≡ Some is.ts → (t : List ℕ) × (is.ts ≡ t ∷ [])
+    by None e = absurd (cc e)
+    by (Some t) e = let same : t ∷ [] ≡ is.ts = cc e in (t, sym same)
+
+-- values of a flat kind are told by the first of their texts
+flat_part : (m : Schema) (o p : Option Value) → is_flat m.node.kind ≡ true → ((v : Value) → o ≡ Some v → IsPlacedValue m v) → ((v : Value) → p ≡ Some v → IsPlacedValue m v)
+    → front (first_texts m o) ≡ front (first_texts m p) → o ≡ p
+flat_part m None None flat is_o is_p e = refl
+flat_part m (Some v) None flat is_o is_p e =
+    let is = is_o v refl in let x = one_text m v flat is in let q : Some x.0 ≡ None = sym (ap front (there m v is ∙ x.1)) ∙ e in absurd (cc q)
+flat_part m None (Some w) flat is_o is_p e =
+    let is = is_p w refl in let y = one_text m w flat is in let q : None ≡ Some y.0 = e ∙ ap front (there m w is ∙ y.1) in absurd (cc q)
+flat_part m (Some v) (Some w) flat is_o is_p e =
+    let a = is_o v refl in
+    let b = is_p w refl in
+    let x = one_text m v flat a in
+    let y = one_text m w flat b in
+    let q : Some x.0 ≡ Some y.0 = sym (ap front (there m v a ∙ x.1)) ∙ e ∙ ap front (there m w b ∙ y.1) in
+    let same : x.0 ≡ y.0 = cc q in
+    ap Some (query_told m v w (x.0 ∷ []) flat a.value b.value (a.texts ∙ ap Some x.1) (b.texts ∙ ap Some (y.1 ∙ ap (λ t. t ∷ []) (sym same))))
+
+label_kind : (m : Schema) → m.node.traits.http_label ≡ true → has_bound_kind m ≡ true → is_flat m.node.kind ≡ true
+label_kind m is kinds =
+    let a = and_parts (has_label_kind m && has_query_kind m) (has_header_kind m) kinds in
+    let b = and_parts (has_label_kind m) (has_query_kind m) a.0 in
+    let c : is_scalar m.node.kind ≡ true = ap (λ t. not t || is_scalar m.node.kind) (sym is) ∙ b.0 in
+    ap (λ t. t || same_kind m.node.kind kind.Blob) c
+
+pub label_member_told : (protocol : Protocol) (schema : Schema) (endpoint : List ℕ) (omit : Omit) (v w : List Write) → AreSeenSame protocol schema endpoint omit v w → (i : ℕ) (m : Schema)
+    → member_at schema i ≡ Some m → has_bound_kind m ≡ true → binding_of m ≡ to_label → member_view schema v i m ≡ member_view schema w i m
+label_member_told protocol schema endpoint omit v w are i m at kinds label =
+    bound_member_view schema v i m at bound
+    ∙ ap (option_and_then (bound_view_at (binding_of m) (query_names schema) m))
+    (flat_part m (first_value schema v i) (first_value schema w i) (label_kind m (label_of m label) kinds)
+    (λ u e. placed_value schema v i m u typed_v at placed e) (λ u e. placed_value schema w i m u typed_w at placed e)
+    (sym (of_first v) ∙ told ∙ of_first w))
+    ∙ sym (bound_member_view schema w i m at bound)
+  where
+    placed : is_placed_at (binding_of m) ≡ true
+    placed = ap is_placed_at label
+
+    bound : is_bound m ≡ true
+    bound = placed_bound (binding_of m) placed
+
+    typed_v : HasTypedWrites schema v
+    typed_v = typed_writes protocol schema endpoint omit v are.typed_v
+
+    typed_w : HasTypedWrites schema w
+    typed_w = typed_writes protocol schema endpoint omit w are.typed_w
+
+    apart : HasApartNames schema
+    apart = names_apart schema are.checked are.setting.held
+
+    of_first : (ws : List Write) → found (name_of m) (labels schema ws) ≡ front (first_texts m (first_value schema ws i))
+    of_first ws =
+        found-front (name_of m) (labels schema ws)
+        ∙ ap front (label_of_first schema apart ws i m at label ∙ ap (λ (o : Option Resolved). option_map_or (λ (r : Resolved). unwrap_or (texts m r.value) []) o []) (first_at schema ws i m at) ∙ by_value m i (first_value schema ws i))
+
+    told : found (name_of m) (labels schema v) ≡ found (name_of m) (labels schema w)
+    told =
+        member_among (λ n. found (name_of n) (labels schema v) ≡ found (name_of n) (labels schema w)) (λ n. n.node.traits.http_label) (members_of schema) i m
+        (path_tells_labels schema (template_of schema endpoint) (labels schema v) (labels schema w) are.request_v.path are.request_w.path
+        (labels_are_bytes schema v typed_v.conforming typed_v.in_range) (labels_are_bytes schema w typed_w.conforming typed_w.in_range)
+        (all_have_names (λ n. n.node.traits.http_label) schema are.setting.held) (clear_template schema endpoint are.checked are.typed_v.clear) are.request_v.fills are.request_w.fills
+        (sym (query_leaves_path are.request_v.path (pairs schema v)) ∙ are.seen.paths ∙ query_leaves_path are.request_w.path (pairs schema w)))
+        (members_by_position schema are.checked i ∙ at) (label_of m label)
+
+-- The query.
+
+-- at each name the same texts stand
+pub pairs_told : (protocol : Protocol) (schema : Schema) (endpoint : List ℕ) (omit : Omit) (v w : List Write) → AreSeenSame protocol schema endpoint omit v w → (name : List ℕ) → AreBytes name
+    → values_at name (pairs schema v) ≡ values_at name (pairs schema w)
+pairs_told protocol schema endpoint omit v w are name bytes =
+    let typed_v = typed_writes protocol schema endpoint omit v are.typed_v in
+    let typed_w = typed_writes protocol schema endpoint omit w are.typed_w in
+    query_tells_texts are.request_v.path are.request_w.path name (pairs schema v) (pairs schema w) bytes
+    (pairs_are_bytes schema v are.setting.held typed_v.conforming typed_v.in_range) (pairs_are_bytes schema w are.setting.held typed_w.conforming typed_w.in_range)
+    (pieces_of_template schema (template_of schema endpoint) (labels schema v) (labels schema w) are.request_v.path are.request_w.path (clear_template schema endpoint are.checked are.typed_v.clear) are.request_v.fills are.request_w.fills)
+    (are.seen.query (escape name))
+
+-- a list of scalars without a text is empty
+no_elements : (m : Schema) (v : Value) → has_element is_scalar m ≡ true → (is : IsPlacedValue m v) → is.ts ≡ [] → unless_empty (with_own_elements m v) ≡ None
+no_elements m v has is none =
+    let l = list_of_element is_scalar m has in
+    let a = bound_list is_scalar m l v is.value in
+    let empty = none_written (place_of m) a.ws (ap (texts m) (sym a.is) ∙ is.texts ∙ ap Some none) in
+    ap (λ u. unless_empty (with_own_elements m u)) (a.is ∙ ap value.list empty)
+
+list_part : (m : Schema) (o p : Option Value) → has_element is_scalar m ≡ true → ((v : Value) → o ≡ Some v → IsPlacedValue m v) → ((v : Value) → p ≡ Some v → IsPlacedValue m v)
+    → first_texts m o ≡ first_texts m p → option_and_then (λ v. unless_empty (with_own_elements m v)) o ≡ option_and_then (λ v. unless_empty (with_own_elements m v)) p
+list_part m None None has is_o is_p e = refl
+list_part m (Some v) None has is_o is_p e = let is = is_o v refl in no_elements m v has is (sym (there m v is) ∙ e)
+list_part m None (Some w) has is_o is_p e = let is = is_p w refl in sym (no_elements m w has is (sym (there m w is) ∙ sym e))
+list_part m (Some v) (Some w) has is_o is_p e =
+    let a = is_o v refl in
+    let b = is_p w refl in
+    ap unless_empty (query_list_told m v w a.ts has a.value b.value a.texts (b.texts ∙ ap Some (sym (there m w b) ∙ sym e ∙ there m v a)))
+
+pub query_kinds : (m : Schema) (name : List ℕ) → m.node.traits.http_query ≡ Some name → has_bound_kind m ≡ true → (is_scalar m.node.kind || has_element is_scalar m) ≡ true
+query_kinds m name is kinds =
+    let a = and_parts (has_label_kind m && has_query_kind m) (has_header_kind m) kinds in
+    let b = and_parts (has_label_kind m) (has_query_kind m) a.0 in
+    ap (λ (o : Option (List ℕ)). is_none o || is_scalar m.node.kind || has_element is_scalar m) (sym is) ∙ b.1
+
+query_part : (m : Schema) (names : List (List ℕ)) (name : List ℕ) (o p : Option Value) → (is_scalar m.node.kind || has_element is_scalar m) ≡ true → ((v : Value) → o ≡ Some v → IsPlacedValue m v) → ((v : Value) → p ≡ Some v → IsPlacedValue m v)
+    → first_texts m o ≡ first_texts m p → option_and_then (bound_view_at (to_query name) names m) o ≡ option_and_then (bound_view_at (to_query name) names m) p
+query_part m names name o p kinds is_o is_p e = go (same_kind m.node.kind kind.List) (is_scalar m.node.kind) refl refl kinds
+  where
+    cases : Bool → Value → Option Value
+    cases t v = if t then unless_empty (with_own_elements m v) else Some v
+
+    go : (t s : Bool) → same_kind m.node.kind kind.List ≡ t → is_scalar m.node.kind ≡ s → (s || has_element is_scalar m) ≡ true
+        → option_and_then (λ v. if same_kind m.node.kind kind.List then unless_empty (with_own_elements m v) else Some v) o ≡ option_and_then (λ v. if same_kind m.node.kind kind.List then unless_empty (with_own_elements m v) else Some v) p
+    go true true is_list scalar h =
+        let lists = one_kind m.node.kind kind.List is_list in
+        let q : true ≡ false = sym scalar ∙ ap is_scalar lists in
+        absurd (cc q)
+    go true false is_list scalar h = rw is_list (list_part m o p h is_o is_p e)
+    go false true is_list scalar h =
+        let flat : is_flat m.node.kind ≡ true = ap (λ t. t || same_kind m.node.kind kind.Blob) scalar in
+        ap (option_and_then (λ v. if same_kind m.node.kind kind.List then unless_empty (with_own_elements m v) else Some v)) (flat_part m o p flat is_o is_p (ap front e))
+    go false false is_list scalar h =
+        let l = list_of_element is_scalar m h in
+        let q : false ≡ true = sym is_list ∙ ap (λ k. same_kind k kind.List) l.kind in
+        absurd (cc q)
+
+utf8_of : (o : Option (List ℕ)) (n : List ℕ) → has_utf8 o ≡ true → o ≡ Some n → is_utf8 n ≡ true
+utf8_of o n h e = ap has_utf8 (sym e) ∙ h
+
+pub query_member_told : (protocol : Protocol) (schema : Schema) (endpoint : List ℕ) (omit : Omit) (v w : List Write) → AreSeenSame protocol schema endpoint omit v w → (i : ℕ) (m : Schema) (name : List ℕ)
+    → member_at schema i ≡ Some m → has_bound_kind m ≡ true → binding_of m ≡ to_query name → member_view schema v i m ≡ member_view schema w i m
+query_member_told protocol schema endpoint omit v w are i m name at kinds query =
+    bound_member_view schema v i m at bound
+    ∙ ap (λ b. option_and_then (bound_view_at b (query_names schema) m) (first_value schema v i)) query
+    ∙ query_part m (query_names schema) name (first_value schema v i) (first_value schema w i) (query_kinds m name (query_of m name query) kinds)
+    (λ u e. placed_value schema v i m u (typed_writes protocol schema endpoint omit v are.typed_v) at placed e)
+    (λ u e. placed_value schema w i m u (typed_writes protocol schema endpoint omit w are.typed_w) at placed e)
+    (sym (of_first v) ∙ pairs_told protocol schema endpoint omit v w are name bytes ∙ of_first w)
+    ∙ ap (λ b. option_and_then (bound_view_at b (query_names schema) m) (first_value schema w i)) (sym query)
+    ∙ sym (bound_member_view schema w i m at bound)
+  where
+    placed : is_placed_at (binding_of m) ≡ true
+    placed = ap is_placed_at query
+
+    bound : is_bound m ≡ true
+    bound = placed_bound (binding_of m) placed
+
+    bytes : AreBytes name
+    bytes = AreBytes-from_utf8 name (utf8_of m.node.traits.http_query name (held_member schema i m are.setting.held at).texts.query (query_of m name query))
+
+    of_first : (ws : List Write) → values_at name (pairs schema ws) ≡ first_texts m (first_value schema ws i)
+    of_first ws =
+        pairs_of_member schema (queries_apart schema are.checked) ws i m name at query (query_name_found schema are.checked i m name at (query_of m name query))
+        ∙ ap (λ (o : Option Resolved). option_map_or (λ (r : Resolved). unwrap_or (texts m r.value) []) o []) (first_at schema ws i m at) ∙ by_value m i (first_value schema ws i)

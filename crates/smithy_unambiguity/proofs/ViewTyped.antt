@@ -1,0 +1,153 @@
+-- The normal form is typed, from what is known of each of its writes and of its target.
+use Rattle.std.proofs.Common.{◌≡◌, refl, sym, ◌∙◌, ap, ℕ, suc, ◌+◌, arith, Bool, true, false, not, cond, ◌&&◌, ◌||◌, ◌==◌, List, [], ◌∷◌, ◌++◌, filter, filter_map, slice_get, Option, Some, None, option_map, option_to_list, is_some, IsTrue, if◌then◌else◌}
+use Rattle.std.specs.List.{AllByRecursion, list_all, list_any, enumerate_from, cons_option}
+use Rattle.std.specs.Option.{option_map_or, option_or}
+use Rattle.std.specs.Str.{str_to_ascii_lowercase}
+use Rattle.smithy_http.specs.Facts.{values_at}
+use Rattle.std.proofs.lemmas.Bool.{and_from}
+use Rattle.smithy_types.specs.Results.{unless}
+use Rattle.smithy_schema.specs.Nodes.{Schema, member_at, members_of, Binding, to_header, binding_of, is_bound}
+use Rattle.smithy_serde.specs.Values.{Value, Write, label_of}
+use Rattle.smithy_serde.specs.Ranges.{is_in_range, are_in_range}
+use Rattle.smithy_serde.specs.Fits.{fits_member}
+use Rattle.smithy_serde.specs.Writes.{Resolved, resolve, all_resolved, firsts}
+use Rattle.smithy_binding.specs.Bindings.{headers, inserted_at}
+use Rattle.smithy_binding.specs.Bodies.{Body, body}
+use Rattle.smithy_binding.specs.Checked.{IsCheckedInput}
+use Rattle.smithy_binding.specs.Faults.{no_member, wrong_kind, resolved_fault, write_fault, writes_fault, bound_fault, value_fault, pairs_fault, is_placed, is_placed_at}
+use Rattle.smithy_schema.specs.WellMade.{is_well_made}
+use Rattle.smithy_binding.specs.NormalForm.{view, member_view}
+use Rattle.smithy_binding.specs.Placing.{Protocol, Omit}
+use Rattle.smithy_binding.specs.Typed.{has_distinct_keys, has_own_formats, is_placed_typed, has_no_default_name, wants_default, writes_default, is_shaped_write, is_codec_payload, is_shaped_payload}
+use Rattle.smithy_serde.specs.Shaped.{is_shaped}
+use Rattle.smithy_unambiguity.proofs.ByMember.{at_member}
+use Rattle.smithy_unambiguity.proofs.ByName.{found-front, front}
+use Rattle.smithy_unambiguity.proofs.Firsts.{all_firsts}
+use Rattle.smithy_unambiguity.proofs.Positions.{members_by_position}
+use Rattle.smithy_unambiguity.proofs.UnboundTold.{IsBodied}
+use Rattle.smithy_unambiguity.proofs.ViewBody.{all_of_view}
+use Rattle.smithy_unambiguity.proofs.ViewTold.{own_write}
+use Rattle.smithy_unambiguity.proofs.ViewWrites.{own_is_resolved}
+
+-- What the normal form has for a member: what is asked of a write of it, but for the document.
+pub record IsViewed (m : Schema) (u : Value) : Type 0 where
+  pub fits : fits_member m u ≡ true
+  pub in_range : is_in_range u ≡ true
+  pub fault : is_placed_at (binding_of m) ≡ true → option_or (value_fault m u) (pairs_fault m (inserted_at (binding_of m) m u)) ≡ None
+  pub typed : (not (is_placed_at (binding_of m)) || (has_distinct_keys u && has_own_formats m u)) ≡ true
+  pub unlike : has_no_default_name (binding_of m) (at_member 0 m u) ≡ true
+  pub codec : (not (is_codec_payload m) || is_shaped (Some m) u) ≡ true
+
+-- each member's part is so
+abbrev pub HasViewed : Schema → List Write → Type 0
+HasViewed schema ws = (i : ℕ) (m : Schema) (u : Value) → member_at schema i ≡ Some m → member_view schema ws i m ≡ Some u → IsViewed m u
+
+-- The writes of the normal form have no fault.
+
+writes_behind : (P : Write → Type 0) (schema : Schema) (ws : List Write) (k : ℕ) (ms : List Schema)
+    → ((j : ℕ) (m : Schema) (u : Value) → slice_get ms j ≡ Some m → member_view schema ws (k + j) m ≡ Some u → P (record { label = label_of m; value = u })) → AllByRecursion P (filter_map (own_write schema ws) (enumerate_from k ms))
+writes_behind P schema ws k [] has = tt
+writes_behind P schema ws k (m ∷ ms) has =
+    go (member_view schema ws k m) refl
+    (writes_behind P schema ws (k + 1) ms (λ j n u at e. let one_more : k + 1 + j ≡ k + suc j = omega arith in has (suc j) n u at (ap (λ i. member_view schema ws i n) (sym one_more) ∙ e)))
+  where
+    go : (o : Option Value) → member_view schema ws k m ≡ o → AllByRecursion P (filter_map (own_write schema ws) (enumerate_from (k + 1) ms))
+        → AllByRecursion P (cons_option (option_map (λ u. record { label = label_of m; value = u }) o) (filter_map (own_write schema ws) (enumerate_from (k + 1) ms)))
+    go None e rest = rest
+    go (Some u) e rest = let none_more : k + 0 ≡ k = omega arith in (has 0 m u refl (ap (λ i. member_view schema ws i m) none_more ∙ e), rest)
+
+pub writes_of_view : (P : Write → Type 0) (schema : Schema) (ws : List Write) → IsCheckedInput schema
+    → ((i : ℕ) (m : Schema) (u : Value) → member_at schema i ≡ Some m → member_view schema ws i m ≡ Some u → P (record { label = label_of m; value = u })) → AllByRecursion P (view schema ws)
+unfolding view
+writes_of_view P schema ws checked has =
+    writes_behind P schema ws 0 (members_of schema) (λ j m u at e. let none_more : 0 + j ≡ j = omega arith in has j m u (sym (members_by_position schema checked j) ∙ at) (ap (λ i. member_view schema ws i m) (sym none_more) ∙ e))
+
+no_write_fault : (schema : Schema) (ws : List Write) → AllByRecursion (λ w. (seen : List ℕ) → write_fault schema seen w ≡ None) ws → (seen : List ℕ) → writes_fault schema seen ws ≡ None
+unfolding writes_fault
+no_write_fault schema [] all seen = refl
+no_write_fault schema (w ∷ ws) all seen =
+    ap (λ o. option_or o (writes_fault schema (seen ++ option_to_list (resolve schema w.label)) ws)) (all.0 seen) ∙ no_write_fault schema ws all.1 (seen ++ option_to_list (resolve schema w.label))
+
+viewed_fault : (schema : Schema) (i : ℕ) (m : Schema) (u : Value) → is_well_made schema ≡ true → member_at schema i ≡ Some m → IsViewed m u → (seen : List ℕ) → write_fault schema seen (record { label = label_of m; value = u }) ≡ None
+viewed_fault schema i m u held at is seen =
+    ap (λ o. option_map_or (resolved_fault seen) o (Some (no_member (label_of m)))) (own_is_resolved schema i m u held at)
+    ∙ ap (λ t. option_or (unless t (wrong_kind m u)) (if is_placed seen (at_member i m u) then bound_fault (at_member i m u) else None)) is.fits
+    ∙ go (is_placed_at (binding_of m)) refl
+  where
+    go : (t : Bool) → is_placed_at (binding_of m) ≡ t → (if is_placed seen (at_member i m u) then bound_fault (at_member i m u) else None) ≡ None
+    go false e = ap (λ b. if b && not (list_any (λ j. j == i) seen) then bound_fault (at_member i m u) else None) e
+    go true e = by (is_placed seen (at_member i m u))
+      where
+        by : (b : Bool) → (if b then bound_fault (at_member i m u) else None) ≡ None
+        by true = is.fault e
+        by false = refl
+
+pub view_writes_conform : (schema : Schema) (ws : List Write) → IsCheckedInput schema → is_well_made schema ≡ true → HasViewed schema ws → writes_fault schema [] (view schema ws) ≡ None
+view_writes_conform schema ws checked held viewed =
+    no_write_fault schema (view schema ws) (writes_of_view (λ w. (seen : List ℕ) → write_fault schema seen w ≡ None) schema ws checked (λ i m u at e. viewed_fault schema i m u held at (viewed i m u at e))) []
+
+pub view_in_range : (schema : Schema) (ws : List Write) → IsCheckedInput schema → HasViewed schema ws → are_in_range (view schema ws) ≡ true
+view_in_range schema ws checked viewed = all (view schema ws) (writes_of_view (λ w. is_in_range w.value ≡ true) schema ws checked (λ i m u at e. (viewed i m u at e).in_range))
+  where
+    all : (us : List Write) → AllByRecursion (λ w. is_in_range w.value ≡ true) us → are_in_range us ≡ true
+    all [] h = refl
+    all (w ∷ us) h = and_from (is_in_range w.value) (are_in_range us) h.0 (all us h.1)
+
+-- The tests of first writes.
+
+pub view_placed_values : (schema : Schema) (ws : List Write) → IsCheckedInput schema → is_well_made schema ≡ true → HasViewed schema ws → AllByRecursion (λ r. IsTrue (is_placed_typed r)) (firsts schema (view schema ws))
+view_placed_values schema ws checked held viewed =
+    all_firsts (λ r. IsTrue (is_placed_typed r)) (all_resolved schema (view schema ws)) (all_of_view (λ r. IsTrue (is_placed_typed r)) schema ws checked held (λ i m u at e. (viewed i m u at e).typed))
+
+pub view_prefixed : (schema : Schema) (ws : List Write) → IsCheckedInput schema → is_well_made schema ≡ true → HasViewed schema ws → AllByRecursion (λ r. IsTrue (has_no_default_name (binding_of r.member) r)) (firsts schema (view schema ws))
+view_prefixed schema ws checked held viewed =
+    all_firsts (λ r. IsTrue (has_no_default_name (binding_of r.member) r)) (all_resolved schema (view schema ws))
+    (all_of_view (λ r. IsTrue (has_no_default_name (binding_of r.member) r)) schema ws checked held (λ i m u at e. any_position i m u (viewed i m u at e).unlike))
+  where
+    any_position : (i : ℕ) (m : Schema) (u : Value) → has_no_default_name (binding_of m) (at_member 0 m u) ≡ true → has_no_default_name (binding_of m) (at_member i m u) ≡ true
+    any_position i m u = go (binding_of m)
+      where
+        go : (b : Binding) → has_no_default_name b (at_member 0 m u) ≡ true → has_no_default_name b (at_member i m u) ≡ true
+        go (to_header n) h = h
+        go _ h = h
+
+pub view_payload_shaped : (schema : Schema) (ws : List Write) → IsCheckedInput schema → is_well_made schema ≡ true → HasViewed schema ws → is_shaped_payload schema (view schema ws) ≡ true
+view_payload_shaped schema ws checked held viewed =
+    all (firsts schema (view schema ws))
+    (all_firsts (λ r. (not (is_codec_payload r.member) || is_shaped_write r) ≡ true) (all_resolved schema (view schema ws))
+    (all_of_view (λ r. (not (is_codec_payload r.member) || is_shaped_write r) ≡ true) schema ws checked held (λ i m u at e. (viewed i m u at e).codec)))
+  where
+    all : (rs : List Resolved) → AllByRecursion (λ r. (not (is_codec_payload r.member) || is_shaped_write r) ≡ true) rs → list_all (λ r. not (is_codec_payload r.member) || is_shaped_write r) rs ≡ true
+    all [] h = refl
+    all (r ∷ rs) h = and_from (not (is_codec_payload r.member) || is_shaped_write r) (list_all (λ r. not (is_codec_payload r.member) || is_shaped_write r) rs) h.0 (all rs h.1)
+
+-- The fields that speak of the whole input.
+
+pub unbound_are_shaped : (schema : Schema) (rs : List Resolved) → AllByRecursion (IsBodied schema) rs → AllByRecursion (λ r. IsTrue (is_shaped_write r)) (filter (λ r. not (is_bound r.member)) rs)
+unbound_are_shaped schema [] all = tt
+unbound_are_shaped schema (r ∷ rs) all = go (is_bound r.member) refl (unbound_are_shaped schema rs all.1)
+  where
+    go : (b : Bool) → is_bound r.member ≡ b → AllByRecursion (λ r. IsTrue (is_shaped_write r)) (filter (λ r. not (is_bound r.member)) rs)
+        → AllByRecursion (λ r. IsTrue (is_shaped_write r)) (cond (not b) (r ∷ filter (λ r. not (is_bound r.member)) rs) (filter (λ r. not (is_bound r.member)) rs))
+    go true e rest = rest
+    go false e rest = (all.0.shaped e, rest)
+
+-- a default is left out beside the same body and the same headers
+writes_default_same : (b : Body) (omit : Omit) (ps qs : List (List ℕ × List ℕ)) (c : Binding) → ((name : List ℕ) → values_at name ps ≡ values_at name qs) → writes_default b omit ps c ≡ writes_default b omit qs c
+writes_default_same b omit ps qs (to_header n) same =
+    ap (λ o. not (wants_default b omit (str_to_ascii_lowercase n)) || is_some o) (found-front (str_to_ascii_lowercase n) ps ∙ ap front (same (str_to_ascii_lowercase n)) ∙ sym (found-front (str_to_ascii_lowercase n) qs))
+writes_default_same b omit ps qs _ same = refl
+
+pub view_defaults : (protocol : Protocol) (schema : Schema) (omit : Omit) (ws : List Write) → body protocol.text_of schema (view schema ws) ≡ body protocol.text_of schema ws
+    → ((name : List ℕ) → values_at name (headers schema (view schema ws)) ≡ values_at name (headers schema ws))
+    → list_all (λ m. writes_default (body protocol.text_of schema ws) omit (headers schema ws) (binding_of m)) (members_of schema) ≡ true
+    → list_all (λ m. writes_default (body protocol.text_of schema (view schema ws)) omit (headers schema (view schema ws)) (binding_of m)) (members_of schema) ≡ true
+view_defaults protocol schema omit ws bodies same e =
+    ap (λ b. list_all (λ m. writes_default b omit (headers schema (view schema ws)) (binding_of m)) (members_of schema)) bodies ∙ all (members_of schema) ∙ e
+  where
+    b : Body
+    b = body protocol.text_of schema ws
+
+    all : (ms : List Schema) → list_all (λ m. writes_default (body protocol.text_of schema ws) omit (headers schema (view schema ws)) (binding_of m)) ms ≡ list_all (λ m. writes_default (body protocol.text_of schema ws) omit (headers schema ws) (binding_of m)) ms
+    all [] = refl
+    all (m ∷ ms) = λ i. writes_default_same (body protocol.text_of schema ws) omit (headers schema (view schema ws)) (headers schema ws) (binding_of m) same i && all ms i

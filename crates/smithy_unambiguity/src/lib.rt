@@ -1,0 +1,4 @@
+//! What a request tells of its input.
+#![tactic(auto)]
+
+pub mod laws;
