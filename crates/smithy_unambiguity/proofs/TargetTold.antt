@@ -22,7 +22,7 @@ use Rattle.smithy_binding.specs.NormalForm.{member_view, bound_view_at, with_own
 use Rattle.smithy_unambiguity.proofs.Bytes.{AreBytes-from_utf8}
 use Rattle.smithy_unambiguity.proofs.ByMember.{first_value, first_at, at_member}
 use Rattle.smithy_unambiguity.proofs.ByName.{found-front, front, query_of, pairs_of_member}
-use Rattle.smithy_unambiguity.proofs.Fits.{is_flat, }
+use Rattle.smithy_unambiguity.proofs.Fits.{is_flat}
 use Rattle.smithy_unambiguity.proofs.HeaderTexts.{none_written}
 use Rattle.smithy_unambiguity.proofs.HeadersTold.{AreSeenSame, typed_writes, clear_template}
 use Rattle.smithy_unambiguity.proofs.LabelFirst.{label_of_first}

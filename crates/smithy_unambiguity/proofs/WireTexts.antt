@@ -116,4 +116,3 @@ wire_utf8 f media place (value.scalar (value.text s)) t range e = is_some_text e
 wire_utf8 f media place (value.scalar (value.blob bytes)) t range e = blob_utf8 place bytes t e
 wire_utf8 f media place (value.scalar (value.timestamp z)) t range e = ascii_utf8 t (timestamp_ascii (time_format f place) z t range e)
 wire_utf8 f media place _ t range e = absurd (cc e)
-

@@ -39,11 +39,7 @@ fn a_checked_schema_meets_what_the_laws_ask(rt: HostRuntime) {
         .expect(&rt, "no place");
     let members = [name];
     let place = table
-        .insert(Schema::new_struct(
-            shape,
-            ShapeType::Structure,
-            &members,
-        ))
+        .insert(Schema::new_struct(shape, ShapeType::Structure, &members))
         .expect(&rt, "no place");
     let protocol = HttpBindingProtocol::rest_json(JsonCodec);
     json_is_lawful(protocol.codec());
