@@ -1,13 +1,14 @@
 -- What the first writes give, where only the writes to one member give something.
-use Rattle.std.proofs.Common.{◌≡◌, ◌≢◌, refl, sym, ◌∙◌, ap, ℕ, List, [], ◌∷◌, ◌++◌, flat_map, Option, Some, None, option_map}
+use Rattle.std.proofs.Common.{◌≡◌, ◌≢◌, refl, sym, ◌∙◌, ap, ℕ, List, [], ◌∷◌, ◌++◌, flat_map, Option, Some, None, option_map, unwrap_or}
 use Rattle.std.specs.List.{AllByRecursion}
 use Rattle.std.specs.Option.{option_map_or}
 use Rattle.smithy_schema.specs.Nodes.{Schema, member_at}
 use Rattle.smithy_serde.specs.Values.{Value, Write}
 use Rattle.smithy_serde.specs.Writes.{Resolved, all_resolved, first, firsts}
-use Rattle.smithy_unambiguity.proofs.Firsts.{only_one_gives}
+use Rattle.smithy_binding.specs.Bindings.{texts}
 use Rattle.smithy_unambiguity.proofs.Conforming.{resolved_at}
-use Rattle.smithy_unambiguity.proofs.ByName.{all_apply, find_has}
+use Rattle.smithy_unambiguity.proofs.Firsts.{only_one_gives, all_firsts, find_has}
+use Rattle.smithy_unambiguity.proofs.Lists.{all_apply}
 
 -- the value of a member's first write, with the member
 abbrev pub at_member : ℕ → Schema → Value → Resolved
@@ -16,6 +17,10 @@ at_member i m v = record { position = i; member = m; value = v }
 -- the value of the first write to a position
 abbrev pub first_value : Schema → List Write → ℕ → Option Value
 first_value schema ws i = option_map (λ r. r.value) (first schema ws i)
+
+-- the texts of a member's first write
+abbrev pub first_texts : Schema → Option Value → List (List ℕ)
+first_texts m o = option_map_or (λ v. unwrap_or (texts m v) []) o []
 
 -- the first write to a member's position is one to the member
 pub first_at : (schema : Schema) (ws : List Write) (i : ℕ) (m : Schema) → member_at schema i ≡ Some m → first schema ws i ≡ option_map (at_member i m) (first_value schema ws i)
@@ -34,8 +39,8 @@ pub only_member : {X : Type 0} (g : Resolved → List X) (schema : Schema) (ws :
     → ((r : Resolved) → member_at schema r.position ≡ Some r.member → r.position ≢ i → g r ≡ [])
     → flat_map g (firsts schema ws) ≡ option_map_or (λ v. g (at_member i m v)) (first_value schema ws i) []
 only_member {X = X} g schema ws i m at others =
-    only_one_gives X g i (all_resolved schema ws)
-    (all_apply {P = λ r. member_at schema r.position ≡ Some r.member} {Q = λ r. r.position ≢ i → g r ≡ []} (all_resolved schema ws) others (resolved_at schema ws))
+    only_one_gives g i (all_resolved schema ws)
+    (all_apply (λ r. member_at schema r.position ≡ Some r.member) (λ r. r.position ≢ i → g r ≡ []) (all_resolved schema ws) others (resolved_at schema ws))
     ∙ ap (λ o. option_map_or g o []) (first_at schema ws i m at)
     ∙ go (first_value schema ws i)
   where
@@ -43,7 +48,12 @@ only_member {X = X} g schema ws i m at others =
     go None = refl
     go (Some v) = refl
 
--- where no write gives anything, all give nothing
-pub no_member : {X : Type 0} (g : Resolved → List X) (schema : Schema) (rs : List Resolved) → AllByRecursion (λ r. g r ≡ []) rs → flat_map g rs ≡ []
-no_member g schema [] all = refl
-no_member g schema (r ∷ rs) all = (λ k. all.0 k ++ no_member g schema rs all.1 k)
+-- where no member's write gives anything, no writes do
+pub none_given : {X : Type 0} (g : Resolved → List X) (schema : Schema) (ws : List Write) → ((r : Resolved) → member_at schema r.position ≡ Some r.member → g r ≡ []) → flat_map g (firsts schema ws) ≡ []
+none_given {X = X} g schema ws none =
+    nothing (firsts schema ws)
+    (all_firsts (λ r. g r ≡ []) (all_resolved schema ws) (all_apply (λ r. member_at schema r.position ≡ Some r.member) (λ r. g r ≡ []) (all_resolved schema ws) none (resolved_at schema ws)))
+  where
+    nothing : (rs : List Resolved) → AllByRecursion (λ r. g r ≡ []) rs → flat_map g rs ≡ []
+    nothing [] all = refl
+    nothing (r ∷ rs) all = λ k. all.0 k ++ nothing rs all.1 k

@@ -18,6 +18,15 @@ use Rattle.smithy_unambiguity.proofs.Firsts.{only_one_gives}
 use Rattle.smithy_unambiguity.proofs.Conforming.{resolved_at}
 use Rattle.smithy_unambiguity.proofs.Positions.{HasApartQueries}
 
+-- nothing stands at a name that none of them has
+pub nothing_at : (name : List ℕ) (ps : List (List ℕ × List ℕ)) → AllByRecursion (λ p. p.0 ≢ name) ps → values_at name ps ≡ []
+nothing_at name [] all = refl
+nothing_at name (p ∷ ps) all = go (same_text p.0 name) refl (nothing_at name ps all.1)
+  where
+    go : (t : Bool) → same_text p.0 name ≡ t → values_at name ps ≡ [] → values_at name (p ∷ ps) ≡ []
+    go true e rest = absurd (all.0 (same_from_test p.0 name (sym e)))
+    go false e rest = rw e rest
+
 -- Headers: each name once.
 
 without_self : (name : List ℕ) (ps : List (List ℕ × List ℕ)) → values_at name (without name ps) ≡ []
@@ -102,19 +111,6 @@ each_once_at name ps = values_at-put_all name [] ps ∙ go (last_value (values_a
 
 -- The query.
 
--- the trait of a member that stands there
-query_at : (h p q : Option (List ℕ)) (query_map label payload : Bool) (name : List ℕ) → binding_at h p q query_map label payload ≡ to_query name → q ≡ Some name
-query_at (Some h) p q query_map label payload name e = absurd (cc e)
-query_at None (Some p) q query_map label payload name e = absurd (cc e)
-query_at None None (Some q) query_map label payload name e = let same : q ≡ name = cc e in ap Some same
-query_at None None None true label payload name e = absurd (cc e)
-query_at None None None false true payload name e = absurd (cc e)
-query_at None None None false false true name e = absurd (cc e)
-query_at None None None false false false name e = absurd (cc e)
-
-pub query_of : (m : Schema) (name : List ℕ) → binding_of m ≡ to_query name → m.node.traits.http_query ≡ Some name
-query_of m name e = query_at m.node.traits.http_header m.node.traits.http_prefix_headers m.node.traits.http_query m.node.traits.http_query_params m.node.traits.http_label m.node.traits.http_payload name e
-
 pub values_at-flat_map : (name : List ℕ) (g : Resolved → List (List ℕ × List ℕ)) (rs : List Resolved) → values_at name (flat_map g rs) ≡ flat_map (λ r. values_at name (g r)) rs
 values_at-flat_map name g [] = refl
 values_at-flat_map name g (r ∷ rs) = values_at-append name (g r) (flat_map g rs) ∙ ap (λ xs. values_at name (g r) ++ xs) (values_at-flat_map name g rs)
@@ -155,55 +151,3 @@ entries_at name names (e ∷ es) = go (same_text e.0 name) (is_one_of e.0 names)
     go true false false is et eu rest = rw (et, eu) (here true is (filter (has_key_outside names) es) ∙ ap (λ vs. entry_texts e.1 ++ vs) (rw eu at rest) ∙ sym (here true is es))
     go true true false is et eu rest = let q : true ≡ false = sym et ∙ ap (λ n. is_one_of n names) (same_from_test e.0 name (sym is)) ∙ eu in absurd (cc q)
     go true false true is et eu rest = let q : true ≡ false = sym eu ∙ ap (λ n. is_one_of n names) (sym (same_from_test e.0 name (sym is))) ∙ et in absurd (cc q)
-
-abbrev given : Schema → List ℕ → Resolved → List (List ℕ)
-given schema name r = values_at name (pairs_of schema r)
-
-others_give_nothing : (schema : Schema) (name : List ℕ) (i : ℕ) (m : Schema) → HasApartQueries schema → member_at schema i ≡ Some m → m.node.traits.http_query ≡ Some name → is_one_of name (query_names schema) ≡ true
-    → (r : Resolved) → member_at schema r.position ≡ Some r.member → r.position ≢ i → given schema name r ≡ []
-others_give_nothing schema name i m apart at query one r at_r other = go (binding_of r.member) refl
-  where
-    go : (b : Binding) → binding_of r.member ≡ b → values_at name (pairs_at b (query_names schema) r.member r.value) ≡ []
-    go to_query_map e = entries_at name (query_names schema) (map_entries r.value) ∙ ap (λ t. cond t [] (values_at name (flat_map entry_pairs (map_entries r.value)))) one
-    go (to_query n) e = under_name name n (same_text n name) (unwrap_or (texts r.member r.value) []) refl ∙ by (same_text n name) refl
-      where
-        by : (t : Bool) → same_text n name ≡ t → cond t (unwrap_or (texts r.member r.value) []) [] ≡ []
-        by true et = absurd (other (apart r.position i r.member m name at_r at (query_of r.member n e ∙ ap Some (same_from_test n name (sym et))) query))
-        by false et = refl
-    go (to_header n) e = refl
-    go (to_prefix n) e = refl
-    go to_label e = refl
-    go to_payload e = refl
-    go to_body e = refl
-
-pub all_apply : {P Q : Resolved → Type 0} (rs : List Resolved) → ((r : Resolved) → P r → Q r) → AllByRecursion (λ r. P r) rs → AllByRecursion (λ r. Q r) rs
-all_apply [] f all = tt
-all_apply (r ∷ rs) f all = (f r all.0, all_apply rs f all.1)
-
-pub find_has : (P : Resolved → Type 0) (i : ℕ) (rs : List Resolved) (r : Resolved) → AllByRecursion P rs → find (is_of i) rs ≡ Some r → P r × (r.position ≡ i)
-find_has P i [] r all e = absurd (cc e)
-find_has P i (x ∷ rs) r all e = go (x.position == i) refl (find_has P i rs r all.1) e
-  where
-    go : (t : Bool) → (x.position == i) ≡ t → (find (is_of i) rs ≡ Some r → P r × (r.position ≡ i)) → cond t (Some x) (find (is_of i) rs) ≡ Some r → P r × (r.position ≡ i)
-    go true et rest h = let same : x ≡ r = cc h in (subst P same all.0, ap (λ y. y.position) (sym same) ∙ eqb-true x.position i et)
-    go false et rest h = rest h
-
--- at a query member's name stand the texts of its first write
-pub pairs_of_member : (schema : Schema) → HasApartQueries schema → (ws : List Write) (i : ℕ) (m : Schema) (name : List ℕ) → member_at schema i ≡ Some m → binding_of m ≡ to_query name → is_one_of name (query_names schema) ≡ true
-    → values_at name (pairs schema ws) ≡ option_map_or (λ r. unwrap_or (texts m r.value) []) (first schema ws i) []
-unfolding pairs
-pairs_of_member schema apart ws i m name at query one =
-    values_at-flat_map name (pairs_of schema) (firsts schema ws)
-    ∙ only_one_gives (List ℕ) (given schema name) i (all_resolved schema ws)
-    (all_apply {P = λ r. member_at schema r.position ≡ Some r.member} {Q = λ r. r.position ≢ i → given schema name r ≡ []} (all_resolved schema ws) (λ r at_r other. others_give_nothing schema name i m apart at (query_of m name query) one r at_r other) (resolved_at schema ws))
-    ∙ go (first schema ws i) refl
-  where
-    go : (o : Option Resolved) → first schema ws i ≡ o → option_map_or (given schema name) o [] ≡ option_map_or (λ r. unwrap_or (texts m r.value) []) o []
-    go None e = refl
-    go (Some r) e =
-        let has = find_has (λ x. member_at schema x.position ≡ Some x.member) i (all_resolved schema ws) r (resolved_at schema ws) e in
-        let both : Some r.member ≡ Some m = sym has.0 ∙ ap (member_at schema) has.1 ∙ at in
-        let same : r.member ≡ m = cc both in
-        ap (λ x. values_at name (pairs_at (binding_of x) (query_names schema) x r.value)) same
-        ∙ ap (λ b. values_at name (pairs_at b (query_names schema) m r.value)) query
-        ∙ under_name name name true (unwrap_or (texts m r.value) []) (same_text_self name)

@@ -24,7 +24,7 @@ use Rattle.smithy_binding.specs.Checked.{is_plain_string, is_plain_list}
 use Rattle.smithy_binding.specs.Faults.{Fault, element_fault, part_fault, nested_fault, entry_fault, item_fault, key_fault, wrong_item_kind, ends_with_value}
 use Rattle.smithy_binding.specs.NormalForm.{own_entries, in_lower_case, has_pairs, is_empty_list}
 use Rattle.smithy_binding.specs.Typed.{has_distinct_keys}
-use Rattle.smithy_document.proofs.NamedPairs.{entries_ordered}
+use Rattle.smithy_document.proofs.NamedPairs.{text_form, entries_ordered}
 use Rattle.smithy_document.proofs.OrderedPairs.{Pairs, looked, last_of, all_put, Ascends, or_none, look_ordered, known_by_names, last_ascending}
 use Rattle.smithy_unambiguity.proofs.LastTexts.{last_value, lowered}
 use Rattle.smithy_unambiguity.proofs.ByName.{under_name, entries_at}
@@ -32,7 +32,6 @@ use Rattle.smithy_unambiguity.proofs.Conforming.{no_first}
 use Rattle.smithy_unambiguity.proofs.Headers.{map_pairs}
 use Rattle.smithy_unambiguity.proofs.PairLemmas.{valued, ordered_valued, filter_valued, filter_ascends, passing, looked_filter, names, unnamed, ascending_distinct, ordered_ascends}
 use Rattle.smithy_unambiguity.proofs.Queries.{values_at-append}
-use Rattle.smithy_unambiguity.proofs.Settled.{text_form}
 
 pub passed : (t : Bool) (f : Fault) → unless t f ≡ None → t ≡ true
 passed true f e = refl

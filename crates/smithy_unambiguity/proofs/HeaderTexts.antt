@@ -25,27 +25,10 @@ use Rattle.smithy_strings.specs.Wire.{wire, time_format}
 use Rattle.smithy_strings.specs.Lists.{listed}
 use Rattle.smithy_binding.specs.Bindings.{element_text}
 use Rattle.smithy_unambiguity.proofs.Fits.{is_flat}
-use Rattle.smithy_unambiguity.proofs.ListedTold.{IsCuttable, Plain, OneComma, plain_cuttable, one_comma_cuttable, listed_times, listed_tells}
-use Rattle.smithy_unambiguity.proofs.TimeTexts.{plain_epoch, plain_date_time, one_comma_http_date}
-use Rattle.smithy_unambiguity.proofs.Stamps.{calendar_time, mag-long}
+use Rattle.smithy_unambiguity.proofs.ListedTold.{listed_times, listed_tells}
+use Rattle.smithy_unambiguity.proofs.TimeTexts.{TimeForm, time_cuttable, time_form}
 use Rattle.smithy_unambiguity.proofs.Values.{AreItems, HaveFormat, each_first, elements_told}
 use Rattle.smithy_unambiguity.proofs.WireTexts.{wire_utf8}
-
--- The texts of times of one format can be cut off where a comma follows.
-
-abbrev pub TimeForm : Format → List ℕ → Type 0
-TimeForm text.HttpDate t = OneComma t
-TimeForm _ t = Plain t
-
-pub time_cuttable : (f : Format) → IsCuttable (TimeForm f)
-time_cuttable text.HttpDate = one_comma_cuttable
-time_cuttable text.EpochSeconds = plain_cuttable
-time_cuttable text.DateTime = plain_cuttable
-
-pub time_form : (f : Format) (z : ℤ) (t : List ℕ) → is_signed_within (2 ^ 63) z ≡ true → timestamp_text f z ≡ Some t → TimeForm f t
-time_form text.EpochSeconds z t small e = let same : signed_decimal z ≡ t = cc e in subst Plain same (plain_epoch z (mag-long z small))
-time_form text.DateTime z t small e = let x = calendar_time text.DateTime z t e in subst Plain x.2 (plain_date_time x.0 x.1)
-time_form text.HttpDate z t small e = let x = calendar_time text.HttpDate z t e in subst OneComma x.2 (one_comma_http_date x.0 x.1)
 
 time_value : (v : Value) → fits kind.Timestamp v ≡ true → (z : ℤ) × (v ≡ value.scalar (value.timestamp z))
 time_value (value.scalar (value.timestamp z)) e = (z, refl)

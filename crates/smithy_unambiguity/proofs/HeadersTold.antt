@@ -5,7 +5,7 @@ use Rattle.std.specs.Option.{option_map_or}
 use Rattle.std.specs.Str.{str_to_ascii_lowercase}
 use Rattle.std.proofs.lemmas.Bool.{and_parts}
 use Rattle.smithy_types.specs.Grammars.{is_token}
-use Rattle.smithy_schema.specs.Nodes.{Schema, Http, member_at, members_of, to_header, binding_of, is_bound}
+use Rattle.smithy_schema.specs.Nodes.{Schema, Http, member_at, members_of, Binding, to_header, binding_of, is_outside_body}
 use Rattle.smithy_serde.specs.Values.{Value, Write}
 use Rattle.smithy_strings.specs.declared.wire.Place.TheVariants.{Header}
 use Rattle.smithy_http.specs.Facts.{values_at}
@@ -26,11 +26,12 @@ use Rattle.smithy_unambiguity.proofs.Defaults.{all_headers_at}
 use Rattle.smithy_unambiguity.proofs.Fits.{is_flat}
 use Rattle.smithy_unambiguity.proofs.HeaderNames.{headers_apart}
 use Rattle.smithy_unambiguity.proofs.Conformity.{conforming}
-use Rattle.smithy_unambiguity.proofs.Headers.{header_values, headers_of_member, header_of}
+use Rattle.smithy_unambiguity.proofs.Headers.{header_values, headers_of_member}
 use Rattle.smithy_unambiguity.proofs.MemberTexts.{header_told, bound_list, list_of_element}
-use Rattle.smithy_unambiguity.proofs.Placed.{HasTypedWrites, IsPlacedValue, placed_value, bound_member_view, member_has, placed_bound}
+use Rattle.smithy_unambiguity.proofs.Placed.{HasTypedWrites, IsPlacedValue, placed_value, bound_view_of, member_has}
 use Rattle.smithy_unambiguity.proofs.Positions.{members_by_position}
 use Rattle.smithy_unambiguity.proofs.Requests.{IsPlacedRequest, placed_request, SeeSame, see_same}
+use Rattle.smithy_unambiguity.proofs.Traits.{trait_of}
 use Rattle.smithy_unambiguity.proofs.Values.{flat_value, flat_texts, flat_header}
 
 -- Two typed inputs with the same facts, in one setting.
@@ -42,6 +43,12 @@ pub record AreSeenSame (protocol : Protocol) (schema : Schema) (endpoint : List 
   pub request_v : IsPlacedRequest protocol schema v endpoint omit
   pub request_w : IsPlacedRequest protocol schema w endpoint omit
   pub seen : SeeSame protocol schema omit v w request_v.path request_w.path
+  pub writes_v : HasTypedWrites schema v
+  pub writes_w : HasTypedWrites schema w
+
+pub typed_writes : (protocol : Protocol) (schema : Schema) (endpoint : List ℕ) (omit : Omit) (ws : List Write) → IsTyped protocol schema endpoint omit ws → HasTypedWrites schema ws
+typed_writes protocol schema endpoint omit ws typed =
+    record { conforming = (conforming schema ws endpoint typed.conforming).writes; in_range = typed.in_range; bound = typed.placed_values }
 
 pub seen_same : (protocol : Protocol) (schema : Schema) (endpoint : List ℕ) (omit : Omit) (v w : List Write) → IsSetting protocol schema
     → IsTyped protocol schema endpoint omit v → IsTyped protocol schema endpoint omit w → SeesSame protocol schema endpoint omit v w → AreSeenSame protocol schema endpoint omit v w
@@ -56,11 +63,15 @@ seen_same protocol schema endpoint omit v w setting typed_v typed_w same =
       request_v = x;
       request_w = y;
       seen = see_same protocol schema endpoint omit v w x y same;
+      writes_v = typed_writes protocol schema endpoint omit v typed_v;
+      writes_w = typed_writes protocol schema endpoint omit w typed_w;
     }
 
-pub typed_writes : (protocol : Protocol) (schema : Schema) (endpoint : List ℕ) (omit : Omit) (ws : List Write) → IsTyped protocol schema endpoint omit ws → HasTypedWrites schema ws
-typed_writes protocol schema endpoint omit ws typed =
-    record { conforming = (conforming schema ws endpoint typed.conforming).writes; in_range = typed.in_range; bound = typed.placed_values }
+-- a bound member's part is told by what it leaves of the first writes
+pub bound_told : (protocol : Protocol) (schema : Schema) (endpoint : List ℕ) (omit : Omit) (v w : List Write) → AreSeenSame protocol schema endpoint omit v w → (i : ℕ) (m : Schema) (b : Binding)
+    → member_at schema i ≡ Some m → binding_of m ≡ b → is_outside_body b ≡ true
+    → option_and_then (bound_view_at b (query_names schema) m) (first_value schema v i) ≡ option_and_then (bound_view_at b (query_names schema) m) (first_value schema w i) → member_view schema v i m ≡ member_view schema w i m
+bound_told protocol schema endpoint omit v w are i m b at is bound same = bound_view_of schema v i m b at is bound ∙ same ∙ sym (bound_view_of schema w i m b at is bound)
 
 -- the template that is taken is clear
 pub clear_template : (schema : Schema) (endpoint : List ℕ) → IsCheckedInput schema → has_clear_template schema endpoint ≡ true → is_clear (template_of schema endpoint) schema ≡ true
@@ -130,19 +141,11 @@ header_leaves protocol schema endpoint omit ws i m name checked typed at header 
 pub header_member_told : (protocol : Protocol) (schema : Schema) (endpoint : List ℕ) (omit : Omit) (v w : List Write) → AreSeenSame protocol schema endpoint omit v w → (i : ℕ) (m : Schema) (name : List ℕ)
     → member_at schema i ≡ Some m → has_bound_kind m ≡ true → binding_of m ≡ to_header name → member_view schema v i m ≡ member_view schema w i m
 header_member_told protocol schema endpoint omit v w are i m name at kinds header =
-    let bound : is_bound m ≡ true = placed_bound (binding_of m) placed in
-    bound_member_view schema v i m at bound
-    ∙ ap (λ b. option_and_then (bound_view_at b (query_names schema) m) (first_value schema v i)) header
-    ∙ header_part m (query_names schema) name (first_value schema v i) (first_value schema w i) (header_kinds m name (header_of m name header) kinds) (ap place_at header)
-    (λ u e. placed_value schema v i m u (typed_writes protocol schema endpoint omit v are.typed_v) at placed e)
-    (λ u e. placed_value schema w i m u (typed_writes protocol schema endpoint omit w are.typed_w) at placed e)
+    bound_told protocol schema endpoint omit v w are i m (to_header name) at header refl
+    (header_part m (query_names schema) name (first_value schema v i) (first_value schema w i) (header_kinds m name (trait_of m (to_header name) header) kinds) (ap place_at header)
+    (λ u e. placed_value schema v i m u are.writes_v at (ap is_placed_at header) e) (λ u e. placed_value schema w i m u are.writes_w at (ap is_placed_at header) e)
     (sym (headers_of_member schema v i m name (headers_apart schema are.checked) at header)
     ∙ sym (header_leaves protocol schema endpoint omit v i m name are.checked are.typed_v at header)
     ∙ are.seen.headers (str_to_ascii_lowercase name)
     ∙ header_leaves protocol schema endpoint omit w i m name are.checked are.typed_w at header
-    ∙ headers_of_member schema w i m name (headers_apart schema are.checked) at header)
-    ∙ ap (λ b. option_and_then (bound_view_at b (query_names schema) m) (first_value schema w i)) (sym header)
-    ∙ sym (bound_member_view schema w i m at bound)
-  where
-    placed : is_placed_at (binding_of m) ≡ true
-    placed = ap is_placed_at header
+    ∙ headers_of_member schema w i m name (headers_apart schema are.checked) at header))

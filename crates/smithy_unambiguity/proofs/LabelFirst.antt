@@ -1,55 +1,63 @@
 -- The texts of a label are those of its member's first write.
-use Rattle.std.proofs.Common.{◌≡◌, ◌≢◌, refl, sym, ◌∙◌, ap, ℕ, Bool, true, false, cond, List, [], Option, Some, None, unwrap_or}
+use Rattle.std.proofs.Common.{◌≡◌, ◌≢◌, refl, sym, ◌∙◌, ap, ℕ, Bool, true, false, cond, ◌&&◌, List, [], flat_map, Option, Some, None, unwrap_or}
 use Rattle.std.specs.Option.{option_map_or}
 use Rattle.std.specs.Cmp.Lexicographic.{same_text as same_from_test}
 use Rattle.smithy_types.specs.Texts.{same_text}
-use Rattle.smithy_schema.specs.Nodes.{Schema, member_at, name_of, Binding, to_header, to_prefix, to_query, to_query_map, to_label, to_payload, to_body, binding_of}
-use Rattle.smithy_serde.specs.Writes.{Resolved, all_resolved, first, firsts}
-use Rattle.smithy_binding.specs.Bindings.{labels, labelled, labelled_at, texts}
+use Rattle.smithy_schema.specs.Nodes.{Schema, member_at, name_of, Binding, to_label, binding_of}
+use Rattle.smithy_serde.specs.Values.{Value, Write}
+use Rattle.smithy_serde.specs.Writes.{Resolved, firsts}
 use Rattle.smithy_http.specs.Facts.{values_at}
+use Rattle.smithy_binding.specs.Bindings.{labels, labelled, labelled_at, texts}
 use Rattle.smithy_binding.proofs.Tests.{same_text_self}
-use Rattle.smithy_unambiguity.proofs.Firsts.{only_one_gives}
-use Rattle.smithy_unambiguity.proofs.Conforming.{resolved_at}
-use Rattle.smithy_unambiguity.proofs.ByName.{values_at-flat_map, under_name, find_has, all_apply}
-use Rattle.smithy_serde.specs.Values.{Write}
+use Rattle.smithy_unambiguity.proofs.ByMember.{at_member, first_value, first_texts, only_member, none_given}
+use Rattle.smithy_unambiguity.proofs.ByName.{values_at-flat_map, under_name}
 use Rattle.smithy_unambiguity.proofs.Members.{HasApartNames}
 
 -- what the labels of one write give at a name
-abbrev given : List ℕ → Resolved → List (List ℕ)
-given name r = values_at name (labelled r)
+abbrev spoken : List ℕ → Resolved → List (List ℕ)
+spoken name r = values_at name (labelled r)
 
-others : (schema : Schema) (i : ℕ) (m : Schema) → HasApartNames schema → member_at schema i ≡ Some m → (r : Resolved) → member_at schema r.position ≡ Some r.member → r.position ≢ i → given (name_of m) r ≡ []
-others schema i m apart at r at_r other = go (binding_of r.member)
-  where
-    by : (t : Bool) → same_text (name_of r.member) (name_of m) ≡ t → cond t (unwrap_or (texts r.member r.value) []) [] ≡ []
-    by true e = absurd (other (apart r.position i r.member m at_r at (same_from_test (name_of r.member) (name_of m) (sym e))))
-    by false e = refl
+labels_at_name : (schema : Schema) (ws : List Write) (name : List ℕ) → values_at name (labels schema ws) ≡ flat_map (spoken name) (firsts schema ws)
+unfolding labels
+labels_at_name schema ws name = values_at-flat_map name labelled (firsts schema ws)
 
-    go : (b : Binding) → values_at (name_of m) (labelled_at b r.member r.value) ≡ []
-    go to_label = under_name (name_of m) (name_of r.member) (same_text (name_of r.member) (name_of m)) (unwrap_or (texts r.member r.value) []) refl ∙ by (same_text (name_of r.member) (name_of m)) refl
-    go (to_header n) = refl
-    go (to_prefix n) = refl
-    go (to_query n) = refl
-    go to_query_map = refl
-    go to_payload = refl
-    go to_body = refl
+abbrev pub is_label : Binding → Bool
+is_label to_label = true
+is_label _ = false
+
+pub label_is : (b : Binding) → is_label b ≡ true → b ≡ to_label
+label_is to_label e = refl
+label_is _ e = absurd (cc e)
+
+-- a label member of this name
+abbrev pub is_label_named : List ℕ → Schema → Bool
+is_label_named name m = is_label (binding_of m) && same_text (name_of m) name
+
+spoken_is : (name : List ℕ) (b : Binding) (m : Schema) (v : Value) → values_at name (labelled_at b m v) ≡ cond (is_label b && same_text (name_of m) name) (unwrap_or (texts m v) []) []
+spoken_is name to_label m v = under_name name (name_of m) (same_text (name_of m) name) (unwrap_or (texts m v) []) refl
+spoken_is name _ m v = refl
+
+nothing_spoken : (name : List ℕ) (r : Resolved) → is_label_named name r.member ≡ false → spoken name r ≡ []
+nothing_spoken name r other = spoken_is name (binding_of r.member) r.member r.value ∙ ap (λ t. cond t (unwrap_or (texts r.member r.value) []) []) other
+
+-- where no label has the name, nothing stands there
+pub no_labels : (schema : Schema) (ws : List Write) (name : List ℕ) → ((i : ℕ) (m : Schema) → member_at schema i ≡ Some m → is_label_named name m ≡ false) → values_at name (labels schema ws) ≡ []
+no_labels schema ws name none = labels_at_name schema ws name ∙ none_given (spoken name) schema ws (λ r at. nothing_spoken name r (none r.position r.member at))
 
 -- the texts of a label are those of its member's first write
 pub label_of_first : (schema : Schema) → HasApartNames schema → (ws : List Write) (i : ℕ) (m : Schema) → member_at schema i ≡ Some m → binding_of m ≡ to_label
-    → values_at (name_of m) (labels schema ws) ≡ option_map_or (λ r. unwrap_or (texts m r.value) []) (first schema ws i) []
-unfolding labels
-label_of_first schema apart ws i m at label =
-    values_at-flat_map (name_of m) labelled (firsts schema ws)
-    ∙ only_one_gives (List ℕ) (given (name_of m)) i (all_resolved schema ws)
-    (all_apply {P = λ r. member_at schema r.position ≡ Some r.member} {Q = λ r. r.position ≢ i → given (name_of m) r ≡ []} (all_resolved schema ws) (λ r at_r other. others schema i m apart at r at_r other) (resolved_at schema ws))
-    ∙ go (first schema ws i) refl
+    → values_at (name_of m) (labels schema ws) ≡ first_texts m (first_value schema ws i)
+label_of_first schema apart ws i m at label = labels_at_name schema ws (name_of m) ∙ only_member (spoken (name_of m)) schema ws i m at others ∙ go (first_value schema ws i)
   where
-    go : (o : Option Resolved) → first schema ws i ≡ o → option_map_or (given (name_of m)) o [] ≡ option_map_or (λ r. unwrap_or (texts m r.value) []) o []
-    go None e = refl
-    go (Some r) e =
-        let has = find_has (λ x. member_at schema x.position ≡ Some x.member) i (all_resolved schema ws) r (resolved_at schema ws) e in
-        let both : Some r.member ≡ Some m = sym has.0 ∙ ap (member_at schema) has.1 ∙ at in
-        let same : r.member ≡ m = cc both in
-        ap (λ x. values_at (name_of m) (labelled_at (binding_of x) x r.value)) same
-        ∙ ap (λ b. values_at (name_of m) (labelled_at b m r.value)) label
-        ∙ under_name (name_of m) (name_of m) true (unwrap_or (texts m r.value) []) (same_text_self (name_of m))
+    others : (r : Resolved) → member_at schema r.position ≡ Some r.member → r.position ≢ i → spoken (name_of m) r ≡ []
+    others r at_r other = nothing_spoken (name_of m) r (by (is_label (binding_of r.member)) (same_text (name_of r.member) (name_of m)) refl)
+      where
+        by : (b t : Bool) → same_text (name_of r.member) (name_of m) ≡ t → (b && t) ≡ false
+        by b true e = absurd (other (apart r.position i r.member m at_r at (same_from_test (name_of r.member) (name_of m) (sym e))))
+        by true false e = refl
+        by false false e = refl
+
+    go : (o : Option Value) → option_map_or (λ v. spoken (name_of m) (at_member i m v)) o [] ≡ first_texts m o
+    go None = refl
+    go (Some v) =
+        ap (λ b. values_at (name_of m) (labelled_at b m v)) label ∙ spoken_is (name_of m) to_label m v ∙ ap (λ t. cond t (unwrap_or (texts m v) []) []) (same_text_self (name_of m))

@@ -1,17 +1,18 @@
 -- Header values tell their lists.
-use Rattle.std.proofs.Common.{◌≡◌, ◌≢◌, refl, sym, ◌∙◌, ap, subst, ℕ, true, List, [], ◌∷◌, ◌++◌, map, codes, IsUtf8}
-use Rattle.std.specs.List.{AllByRecursion}
+use Rattle.std.proofs.Common.{◌≡◌, ◌≢◌, refl, sym, ◌∙◌, ap, subst, ℕ, nat_lt, Bool, true, false, not, ◌&&◌, ◌==◌, List, [], ◌∷◌, ◌++◌, map, flat_map, codes, IsUtf8, eq-eqb}
+use Rattle.std.specs.List.{AllByRecursion, list_all}
 use Rattle.std.specs.Str.{is_utf8}
+use Rattle.std.proofs.lemmas.Bool.{and_parts}
 use Rattle.std.proofs.lemmas.Str.{IsUtf8-from_is_utf8}
-use Rattle.std.proofs.lemmas.List.{append_assoc}
+use Rattle.std.proofs.lemmas.List.{append_assoc, append-nil}
 use Rattle.smithy_types.specs.Texts.{joined}
+use Rattle.smithy_ids.specs.declared.shape_type.ShapeType.{ShapeType}
 use Rattle.smithy_ids.specs.declared.shape_type.ShapeType.TheVariants as kind
 use Rattle.smithy_http.specs.Spelling.{Spells}
 use Rattle.smithy_http.proofs.SpellingLaws.{Spells-unique}
 use Rattle.smithy_strings.specs.Lists.{listed, element_item}
 use Rattle.smithy_strings.proofs.ListLaws.{Spells-listed}
 use Rattle.smithy_unambiguity.proofs.Cuts.{HasNo, cut, behind}
-use Rattle.smithy_ids.specs.declared.shape_type.ShapeType.{ShapeType}
 
 all_utf8 : (texts : List (List ℕ)) → AllByRecursion (λ t. is_utf8 t ≡ true) texts → AllByRecursion IsUtf8 texts
 all_utf8 [] all = tt
@@ -24,35 +25,43 @@ listed_tells element texts others other utf8_t utf8_o e =
     Spells-unique texts others (listed element texts) (Spells-listed element texts other (all_utf8 texts utf8_t))
     (subst (Spells others) (sym e) (Spells-listed element others other (all_utf8 others utf8_o)))
 
--- Texts that can be cut off where a comma follows: those without one, and those with exactly one.
+-- Texts that can be cut off where a comma follows.
+
 pub record IsCuttable (P : List ℕ → Type 0) : Type 0 where
   pub cuts : (t u rest tail : List ℕ) → P t → P u → t ++ 44 ∷ rest ≡ u ++ 44 ∷ tail → (t ≡ u) × (rest ≡ tail)
-  pub apart : (t u tail : List ℕ) → P t → P u → t ≢ u ++ 44 ∷ tail
   pub some : (t : List ℕ) → P t → t ≢ []
+
+-- with a comma behind each of them
+abbrev ended : List (List ℕ) → List ℕ
+ended [] = []
+ended (t ∷ texts) = t ++ 44 ∷ 32 ∷ ended texts
+
+joined_ended : (t : List ℕ) (texts : List (List ℕ)) → joined (codes ", ") (t ∷ texts) ++ codes ", " ≡ ended (t ∷ texts)
+joined_ended t [] = refl
+joined_ended t (u ∷ texts) = append_assoc (t ++ codes ", ") (joined (codes ", ") (u ∷ texts)) (codes ", ") ∙ append_assoc t (codes ", ") _ ∙ ap (λ x. t ++ 44 ∷ 32 ∷ x) (joined_ended u texts)
+
+pub front_empty : (a b : List ℕ) → a ++ b ≡ [] → a ≡ []
+front_empty [] b e = refl
+front_empty (x ∷ a) b e = absurd (cc e)
+
+ended_tells : (P : List ℕ → Type 0) → IsCuttable P → (texts others : List (List ℕ)) → AllByRecursion P texts → AllByRecursion P others → ended texts ≡ ended others → texts ≡ others
+ended_tells P is [] [] a b e = refl
+ended_tells P is [] (u ∷ others) a b e = absurd (is.some u b.0 (front_empty u _ (sym e)))
+ended_tells P is (t ∷ texts) [] a b e = absurd (is.some t a.0 (front_empty t _ e))
+ended_tells P is (t ∷ texts) (u ∷ others) a b e =
+    let parts = is.cuts t u (32 ∷ ended texts) (32 ∷ ended others) a.0 b.0 e in
+    let rest = ended_tells P is texts others a.1 b.1 (ap behind parts.1) in
+    λ i. parts.0 i ∷ rest i
+
+some_joined : (P : List ℕ → Type 0) → IsCuttable P → (t : List ℕ) (texts : List (List ℕ)) → P t → joined (codes ", ") (t ∷ texts) ≢ []
+some_joined P is t [] a e = is.some t a e
+some_joined P is t (u ∷ texts) a e = is.some t a (front_empty t (codes ", ") (front_empty (t ++ codes ", ") _ e))
 
 joined_tells : (P : List ℕ → Type 0) → IsCuttable P → (texts others : List (List ℕ)) → AllByRecursion P texts → AllByRecursion P others → joined (codes ", ") texts ≡ joined (codes ", ") others → texts ≡ others
 joined_tells P is [] [] a b e = refl
-joined_tells P is [] (u ∷ []) a b e = absurd (is.some u b.0 (sym e))
-joined_tells P is [] (u ∷ v ∷ others) a b e = absurd (never u (32 ∷ joined (codes ", ") (v ∷ others)) (e ∙ append_assoc u (44 ∷ 32 ∷ []) (joined (codes ", ") (v ∷ others))))
-  where
-    never : (u rest : List ℕ) → [] ≢ u ++ 44 ∷ rest
-    never [] rest h = cc h
-    never (x ∷ u) rest h = cc h
-joined_tells P is (t ∷ []) [] a b e = absurd (is.some t a.0 e)
-joined_tells P is (t ∷ s ∷ texts) [] a b e = absurd (never t (32 ∷ joined (codes ", ") (s ∷ texts)) (sym e ∙ append_assoc t (44 ∷ 32 ∷ []) (joined (codes ", ") (s ∷ texts))))
-  where
-    never : (u rest : List ℕ) → [] ≢ u ++ 44 ∷ rest
-    never [] rest h = cc h
-    never (x ∷ u) rest h = cc h
-joined_tells P is (t ∷ []) (u ∷ []) a b e = ap (λ x. x ∷ []) e
-joined_tells P is (t ∷ []) (u ∷ v ∷ others) a b e = absurd (is.apart t u (32 ∷ joined (codes ", ") (v ∷ others)) a.0 b.0 (e ∙ append_assoc u (44 ∷ 32 ∷ []) (joined (codes ", ") (v ∷ others))))
-joined_tells P is (t ∷ s ∷ texts) (u ∷ []) a b e = absurd (is.apart u t (32 ∷ joined (codes ", ") (s ∷ texts)) b.0 a.0 (sym e ∙ append_assoc t (44 ∷ 32 ∷ []) (joined (codes ", ") (s ∷ texts))))
-joined_tells P is (t ∷ s ∷ texts) (u ∷ v ∷ others) a b e =
-    let left = append_assoc t (44 ∷ 32 ∷ []) (joined (codes ", ") (s ∷ texts)) in
-    let right = append_assoc u (44 ∷ 32 ∷ []) (joined (codes ", ") (v ∷ others)) in
-    let parts = is.cuts t u (32 ∷ joined (codes ", ") (s ∷ texts)) (32 ∷ joined (codes ", ") (v ∷ others)) a.0 b.0 (sym left ∙ e ∙ right) in
-    let rest = joined_tells P is (s ∷ texts) (v ∷ others) a.1 b.1 (ap behind parts.1) in
-    λ i. parts.0 i ∷ rest i
+joined_tells P is [] (u ∷ others) a b e = absurd (some_joined P is u others b.0 (sym e))
+joined_tells P is (t ∷ texts) [] a b e = absurd (some_joined P is t texts a.0 e)
+joined_tells P is (t ∷ texts) (u ∷ others) a b e = ended_tells P is (t ∷ texts) (u ∷ others) a b (sym (joined_ended t texts) ∙ ap (λ x. x ++ codes ", ") e ∙ joined_ended u others)
 
 unquoted : (texts : List (List ℕ)) → map (element_item kind.Timestamp) texts ≡ texts
 unquoted [] = refl
@@ -64,46 +73,50 @@ unfolding listed
 listed_times P is texts others a b e =
     joined_tells P is texts others a b (ap (joined (codes ", ")) (sym (unquoted texts)) ∙ e ∙ ap (joined (codes ", ")) (unquoted others))
 
+-- a byte that is ASCII and no comma
+abbrev pub is_plain_byte : ℕ → Bool
+is_plain_byte b = nat_lt b 128 && not (b == 44)
+
+abbrev pub are_plain : List ℕ → Bool
+are_plain text = list_all is_plain_byte text
+
+no_comma : (text : List ℕ) → are_plain text ≡ true → HasNo 44 text
+no_comma [] e = tt
+no_comma (b ∷ text) e =
+    let parts = and_parts (is_plain_byte b) (are_plain text) e in
+    let other : not (b == 44) ≡ true = (and_parts (nat_lt b 128) (not (b == 44)) parts.0).1 in
+    ((λ h. let q : false ≡ true = sym (ap not (eq-eqb b 44 h)) ∙ other in cc q), no_comma text parts.1)
+
 -- a text without a comma that is not empty
-abbrev pub Plain : List ℕ → Type 0
-Plain t = HasNo 44 t × (t ≢ [])
+pub record IsPlain (t : List ℕ) : Type 0 where
+  pub plain : are_plain t ≡ true
+  pub some : t ≢ []
 
-no_comma_inside : (t u tail : List ℕ) → HasNo 44 t → t ≢ u ++ 44 ∷ tail
-no_comma_inside [] [] tail none e = cc e
-no_comma_inside [] (x ∷ u) tail none e = cc e
-no_comma_inside (b ∷ t) [] tail none e = let q : b ≡ 44 = cc e in none.0 q
-no_comma_inside (b ∷ t) (x ∷ u) tail none e = let q : t ≡ u ++ 44 ∷ tail = cc e in no_comma_inside t u tail none.1 q
-
-pub plain_cuttable : IsCuttable Plain
+pub plain_cuttable : IsCuttable IsPlain
 plain_cuttable = record {
-  cuts = λ t u rest tail a b e. cut 44 t u rest tail a.0 b.0 e;
-  apart = λ t u tail a b e. no_comma_inside t u tail a.0 e;
-  some = λ t a. a.1;
+  cuts = λ t u rest tail a b e. cut 44 t u rest tail (no_comma t a.plain) (no_comma u b.plain) e;
+  some = λ t a. a.some;
 }
 
 -- a text with exactly one comma
 pub record OneComma (t : List ℕ) : Type 0 where
   pub front : List ℕ
   pub back : List ℕ
-  pub no_front : HasNo 44 front
-  pub no_back : HasNo 44 back
+  pub plain_front : are_plain front ≡ true
+  pub plain_back : are_plain back ≡ true
   pub is : t ≡ front ++ 44 ∷ back
-
-pub longer : (xs : List ℕ) (x : ℕ) (rest : List ℕ) → xs ++ x ∷ rest ≢ []
-longer [] x rest e = cc e
-longer (y ∷ xs) x rest e = cc e
 
 pub one_comma_cuttable : IsCuttable OneComma
 one_comma_cuttable = record {
   cuts = λ t u rest tail a b e.
       let left = ap (λ x. x ++ 44 ∷ rest) a.is ∙ append_assoc a.front (44 ∷ a.back) (44 ∷ rest) in
       let right = ap (λ x. x ++ 44 ∷ tail) b.is ∙ append_assoc b.front (44 ∷ b.back) (44 ∷ tail) in
-      let one = cut 44 a.front b.front (a.back ++ 44 ∷ rest) (b.back ++ 44 ∷ tail) a.no_front b.no_front (sym left ∙ e ∙ right) in
-      let two = cut 44 a.back b.back rest tail a.no_back b.no_back one.1 in
+      let one = cut 44 a.front b.front (a.back ++ 44 ∷ rest) (b.back ++ 44 ∷ tail) (no_comma a.front a.plain_front) (no_comma b.front b.plain_front) (sym left ∙ e ∙ right) in
+      let two = cut 44 a.back b.back rest tail (no_comma a.back a.plain_back) (no_comma b.back b.plain_back) one.1 in
       (a.is ∙ (λ i. one.0 i ++ 44 ∷ two.0 i) ∙ sym b.is, two.1);
-  apart = λ t u tail a b e.
-      let right = ap (λ x. x ++ 44 ∷ tail) b.is ∙ append_assoc b.front (44 ∷ b.back) (44 ∷ tail) in
-      let one = cut 44 a.front b.front a.back (b.back ++ 44 ∷ tail) a.no_front b.no_front (sym a.is ∙ e ∙ right) in
-      no_comma_inside a.back b.back tail a.no_back one.1;
-  some = λ t a e. longer a.front 44 a.back (sym a.is ∙ e);
+  some = λ t a e. never a.front a.back (sym a.is ∙ e);
 }
+  where
+    never : (front back : List ℕ) → front ++ 44 ∷ back ≢ []
+    never [] back e = cc e
+    never (x ∷ front) back e = cc e

@@ -1,11 +1,11 @@
 -- What is seen of a request tells the normal form's part of the prefix map and of the query map.
-use Rattle.std.proofs.Common.{◌≡◌, refl, sym, ◌∙◌, ap, subst, ℕ, ◌⊎◌, inl, inr, arith, nat_lt, ltb-true, ltb-false, Bool, true, false, not, ◌&&◌, List, [], ◌∷◌, ◌++◌, filter, flat_map, Option, Some, None, option_and_then, option_to_list, is_some, IsTrue}
+use Rattle.std.proofs.Common.{◌≡◌, ◌≢◌, cond, refl, sym, ◌∙◌, ap, subst, ℕ, ◌⊎◌, inl, inr, arith, nat_lt, ltb-true, ltb-false, Bool, true, false, not, ◌&&◌, List, [], ◌∷◌, ◌++◌, filter, flat_map, Option, Some, None, option_and_then, option_to_list, is_some, IsTrue}
 use Rattle.std.specs.List.{AllByRecursion, list_all}
 use Rattle.std.specs.Option.{option_map_or}
 use Rattle.std.specs.Cmp.Lexicographic.{same_text as same_from_test}
 use Rattle.std.specs.Str.{str_to_ascii_lowercase}
 use Rattle.std.proofs.lemmas.Bool.{and_parts, not-true}
-use Rattle.std.proofs.lemmas.Str.Ascii.{lowercase-lowercase}
+use Rattle.smithy_http.proofs.ValueLemmas.{lower_twice}
 use Rattle.smithy_types.specs.Texts.{same_text, is_one_of, are_distinct}
 use Rattle.smithy_ids.specs.declared.shape_type.ShapeType.TheVariants as kind
 use Rattle.smithy_ids.specs.Kinds.{same_kind}
@@ -28,12 +28,15 @@ use Rattle.smithy_unambiguity.proofs.ByMember.{first_value, at_member}
 use Rattle.smithy_unambiguity.proofs.Defaults.{all_headers_at, leaves-elsewhere}
 use Rattle.smithy_unambiguity.proofs.EntriesTold.{as_text, is_text_node, own_value, key_texts, written_texts, text_pairs, query_texts, own_query_entries, own_text_entries, query_entries, query_texts_told, entries_distinct, in_order, SameLast, ordered_told, lower_entries}
 use Rattle.smithy_unambiguity.proofs.HeaderNames.{headers_apart}
-use Rattle.smithy_unambiguity.proofs.Headers.{headers_of_prefix, inserted_entries, map_pairs, prefix_of, under_prefix}
-use Rattle.smithy_unambiguity.proofs.HeadersTold.{AreSeenSame, typed_writes}
+use Rattle.smithy_unambiguity.proofs.Headers.{headers_of_prefix, inserted_entries, map_pairs, under_prefix}
+use Rattle.smithy_unambiguity.proofs.HeadersTold.{AreSeenSame, bound_told}
 use Rattle.smithy_unambiguity.proofs.PairLemmas.{valued, names as keys, names-valued}
-use Rattle.smithy_unambiguity.proofs.Placed.{HasTypedWrites, IsPlacedValue, placed_value, bound_member_view, member_among, placed_bound, first_has}
+use Rattle.smithy_unambiguity.proofs.ByName.{nothing_at}
+use Rattle.smithy_unambiguity.proofs.Lists.{all_apply, all_from_test}
+use Rattle.smithy_unambiguity.proofs.Traits.{trait_of}
+use Rattle.smithy_unambiguity.proofs.Placed.{HasTypedWrites, IsPlacedValue, placed_value, member_among, first_has}
 use Rattle.smithy_unambiguity.proofs.Positions.{members_by_position}
-use Rattle.smithy_unambiguity.proofs.QueryMap.{pairs_of_map, query_map_of}
+use Rattle.smithy_unambiguity.proofs.QueryNames.{pairs_of_map, unnamed_outside}
 use Rattle.smithy_unambiguity.proofs.SoundMaps.{sound_maps}
 use Rattle.smithy_unambiguity.proofs.TargetTold.{pairs_told}
 use Rattle.smithy_unambiguity.proofs.TextsBytes.{pairs_are_bytes, IsBytePair}
@@ -43,19 +46,15 @@ use Rattle.smithy_unambiguity.proofs.TextsBytes.{pairs_are_bytes, IsBytePair}
 -- what holds of each member that passes a test holds of a member that does
 mapped_at : (test : Schema → Bool) (is_map : Schema → Bool) (schema : Schema) → IsCheckedInput schema → (i : ℕ) (m : Schema) → list_all is_map (filter test (members_of schema)) ≡ true → member_at schema i ≡ Some m → test m ≡ true → is_map m ≡ true
 mapped_at test is_map schema checked i m all at is =
-    member_among (λ m. is_map m ≡ true) test (members_of schema) i m (facts (filter test (members_of schema)) all) (members_by_position schema checked i ∙ at) is
-  where
-    facts : (ms : List Schema) → list_all is_map ms ≡ true → AllByRecursion (λ m. is_map m ≡ true) ms
-    facts [] e = tt
-    facts (n ∷ ms) e = let parts = and_parts (is_map n) (list_all is_map ms) e in (parts.0, facts ms parts.1)
+    member_among (λ m. is_map m ≡ true) test (members_of schema) i m (all_from_test is_map (filter test (members_of schema)) all) (members_by_position schema checked i ∙ at) is
 
 pub text_map_at : (schema : Schema) → IsCheckedInput schema → (i : ℕ) (m : Schema) (prefix : List ℕ) → member_at schema i ≡ Some m → binding_of m ≡ to_prefix prefix → is_text_map m ≡ true
 text_map_at schema checked i m prefix at begins =
-    mapped_at (λ m. is_some m.node.traits.http_prefix_headers) is_text_map schema checked i m (sound_maps schema checked).prefix_maps at (ap is_some (prefix_of m prefix begins))
+    mapped_at (λ m. is_some m.node.traits.http_prefix_headers) is_text_map schema checked i m (sound_maps schema checked).prefix_maps at (ap is_some (trait_of m (to_prefix prefix) begins))
 
 pub query_map_at : (schema : Schema) → IsCheckedInput schema → (i : ℕ) (m : Schema) → member_at schema i ≡ Some m → binding_of m ≡ to_query_map → is_query_map m ≡ true
 query_map_at schema checked i m at query_map =
-    mapped_at (λ m. m.node.traits.http_query_params) is_query_map schema checked i m (sound_maps schema checked).query_maps at (query_map_of m query_map)
+    mapped_at (λ m. m.node.traits.http_query_params) is_query_map schema checked i m (sound_maps schema checked).query_maps at (trait_of m to_query_map query_map)
 
 -- The query map.
 
@@ -79,24 +78,18 @@ keys_distinct m v is = ap are_distinct (names-valued entry_texts (map_entries v)
 pub query_map_told : (protocol : Protocol) (schema : Schema) (endpoint : List ℕ) (omit : Omit) (v w : List Write) → AreSeenSame protocol schema endpoint omit v w → (i : ℕ) (m : Schema)
     → member_at schema i ≡ Some m → binding_of m ≡ to_query_map → ((key : List ℕ) → values_at key (pairs schema v) ≡ values_at key (pairs schema w)) → member_view schema v i m ≡ member_view schema w i m
 query_map_told protocol schema endpoint omit v w are i m at query_map same =
-    shown v typed_v
-    ∙ ap (λ es. unless_empty (map_value (Some m) (valued (own_value (value_of m)) es))) (query_texts_told (query_names schema) (written_texts (first_value schema v i)) (written_texts (first_value schema w i)) (distinct v typed_v) (distinct w typed_w) told)
-    ∙ sym (shown w typed_w)
+    bound_told protocol schema endpoint omit v w are i m to_query_map at query_map refl
+    (shown v are.writes_v
+    ∙ ap (λ es. unless_empty (map_value (Some m) (valued (own_value (value_of m)) es)))
+    (query_texts_told (query_names schema) (written_texts (first_value schema v i)) (written_texts (first_value schema w i)) (distinct v are.writes_v) (distinct w are.writes_w) told)
+    ∙ sym (shown w are.writes_w))
   where
     placed : is_placed_at (binding_of m) ≡ true
     placed = ap is_placed_at query_map
 
-    typed_v : HasTypedWrites schema v
-    typed_v = typed_writes protocol schema endpoint omit v are.typed_v
-
-    typed_w : HasTypedWrites schema w
-    typed_w = typed_writes protocol schema endpoint omit w are.typed_w
-
-    shown : (ws : List Write) → HasTypedWrites schema ws → member_view schema ws i m ≡ unless_empty (map_value (Some m) (valued (own_value (value_of m)) (query_texts (query_names schema) (written_texts (first_value schema ws i)))))
-    shown ws typed =
-        bound_member_view schema ws i m at (placed_bound (binding_of m) placed)
-        ∙ ap (λ b. option_and_then (bound_view_at b (query_names schema) m) (first_value schema ws i)) query_map
-        ∙ query_map_part m (query_names schema) (first_value schema ws i) (query_map_at schema are.checked i m at query_map) (λ u e. placed_value schema ws i m u typed at placed e)
+    shown : (ws : List Write) → HasTypedWrites schema ws
+        → option_and_then (bound_view_at to_query_map (query_names schema) m) (first_value schema ws i) ≡ unless_empty (map_value (Some m) (valued (own_value (value_of m)) (query_texts (query_names schema) (written_texts (first_value schema ws i)))))
+    shown ws typed = query_map_part m (query_names schema) (first_value schema ws i) (query_map_at schema are.checked i m at query_map) (λ u e. placed_value schema ws i m u typed at placed e)
 
     distinct : (ws : List Write) → HasTypedWrites schema ws → are_distinct (keys (written_texts (first_value schema ws i))) ≡ true
     distinct ws typed = go (first_value schema ws i) (λ u e. placed_value schema ws i m u typed at placed e)
@@ -105,19 +98,18 @@ query_map_told protocol schema endpoint omit v w are i m at query_map same =
         go None is = refl
         go (Some u) is = keys_distinct m u (is u refl)
 
+    of_map : (ws : List Write) (key : List ℕ) → is_one_of key (query_names schema) ≡ false → values_at key (pairs schema ws) ≡ values_at key (flat_map text_pairs (written_texts (first_value schema ws i)))
+    of_map ws key outside =
+        pairs_of_map schema are.checked ws i m key at query_map (unnamed_outside schema are.checked key outside) ∙ ap (λ t. cond t [] (values_at key (flat_map text_pairs (written_texts (first_value schema ws i))))) outside
+
     told : (key : List ℕ) → is_one_of key (query_names schema) ≡ false → values_at key (flat_map text_pairs (written_texts (first_value schema v i))) ≡ values_at key (flat_map text_pairs (written_texts (first_value schema w i)))
-    told key outside = sym (pairs_of_map schema are.checked v i m key at query_map outside) ∙ same key ∙ pairs_of_map schema are.checked w i m key at query_map outside
+    told key outside = sym (of_map v key outside) ∙ same key ∙ of_map w key outside
 
 -- no pair stands at a name that is not of bytes
-pub no_bytes : (name : List ℕ) (ps : List (List ℕ × List ℕ)) → AllByRecursion IsBytePair ps → (AreBytes name → ⊥) → values_at name ps ≡ []
-no_bytes name [] all not_bytes = refl
-no_bytes name (p ∷ ps) all not_bytes = go (same_text p.0 name) refl (no_bytes name ps all.1 not_bytes)
-  where
-    go : (t : Bool) → same_text p.0 name ≡ t → values_at name ps ≡ [] → values_at name (p ∷ ps) ≡ []
-    go true e rest = absurd (not_bytes (subst AreBytes (same_from_test p.0 name (sym e)) all.0.0))
-    go false e rest = rw e rest
+no_bytes : (name : List ℕ) (ps : List (List ℕ × List ℕ)) → AllByRecursion IsBytePair ps → (AreBytes name → ⊥) → values_at name ps ≡ []
+no_bytes name ps all not_bytes = nothing_at name ps (all_apply IsBytePair (λ p. p.0 ≢ name) ps (λ p bytes e. not_bytes (subst AreBytes e bytes.0)) all)
 
-pub are_bytes_or : (name : List ℕ) → AreBytes name ⊎ (AreBytes name → ⊥)
+are_bytes_or : (name : List ℕ) → AreBytes name ⊎ (AreBytes name → ⊥)
 are_bytes_or [] = inl tt
 are_bytes_or (b ∷ name) = go (nat_lt b 256) refl (are_bytes_or name)
   where
@@ -130,14 +122,12 @@ are_bytes_or (b ∷ name) = go (nat_lt b 256) refl (are_bytes_or name)
 pub all_pairs_told : (protocol : Protocol) (schema : Schema) (endpoint : List ℕ) (omit : Omit) (v w : List Write) → AreSeenSame protocol schema endpoint omit v w → (name : List ℕ) → values_at name (pairs schema v) ≡ values_at name (pairs schema w)
 all_pairs_told protocol schema endpoint omit v w are name = go (are_bytes_or name)
   where
-    bytes_of : (ws : List Write) → HasTypedWrites schema ws → AllByRecursion IsBytePair (pairs schema ws)
-    bytes_of ws typed = pairs_are_bytes schema ws are.setting.held typed.conforming typed.in_range
+    none : (ws : List Write) → HasTypedWrites schema ws → (AreBytes name → ⊥) → values_at name (pairs schema ws) ≡ []
+    none ws typed other = no_bytes name (pairs schema ws) (pairs_are_bytes schema ws are.setting.well_made typed.conforming typed.in_range) other
 
     go : AreBytes name ⊎ (AreBytes name → ⊥) → values_at name (pairs schema v) ≡ values_at name (pairs schema w)
     go (inl bytes) = pairs_told protocol schema endpoint omit v w are name bytes
-    go (inr other) =
-        no_bytes name (pairs schema v) (bytes_of v (typed_writes protocol schema endpoint omit v are.typed_v)) other
-        ∙ sym (no_bytes name (pairs schema w) (bytes_of w (typed_writes protocol schema endpoint omit w are.typed_w)) other)
+    go (inr other) = none v are.writes_v other ∙ sym (none w are.writes_w other)
 
 -- The prefix map.
 
@@ -168,55 +158,38 @@ last_of_entries : (key : List ℕ) (o : Option Value) → option_map_or (λ v. l
 last_of_entries key None = refl
 last_of_entries key (Some v) = refl
 
-pub lower_again : (name : List ℕ) → str_to_ascii_lowercase (str_to_ascii_lowercase name) ≡ str_to_ascii_lowercase name
-lower_again [] = refl
-lower_again (b ∷ name) = λ i. lowercase-lowercase b i ∷ lower_again name i
-
 -- only names in lower case stand among these
 not_lower : (name : List ℕ) (ps : List (List ℕ × List ℕ)) → same_text (str_to_ascii_lowercase name) name ≡ false → values_at name (lowered ps) ≡ []
-not_lower name [] e = refl
-not_lower name (p ∷ ps) e = go (same_text (str_to_ascii_lowercase p.0) name) refl (not_lower name ps e)
+not_lower name ps e = nothing_at name (lowered ps) (all ps)
   where
-    go : (t : Bool) → same_text (str_to_ascii_lowercase p.0) name ≡ t → values_at name (lowered ps) ≡ [] → values_at name (lowered (p ∷ ps)) ≡ []
-    go false h rest = rw h rest
-    go true h rest =
-        let same = same_from_test (str_to_ascii_lowercase p.0) name (sym h) in
-        let lower : str_to_ascii_lowercase name ≡ name = ap str_to_ascii_lowercase (sym same) ∙ lower_again p.0 ∙ same in
+    other : (key : List ℕ) → str_to_ascii_lowercase key ≢ name
+    other key same =
+        let lower : str_to_ascii_lowercase name ≡ name = ap str_to_ascii_lowercase (sym same) ∙ lower_twice key ∙ same in
         let q : true ≡ false = sym (same_text_self name) ∙ ap (λ n. same_text n name) (sym lower) ∙ e in
-        absurd (cc q)
+        cc q
+
+    all : (ps : List (List ℕ × List ℕ)) → AllByRecursion (λ p. p.0 ≢ name) (lowered ps)
+    all [] = tt
+    all (p ∷ ps) = (other p.0, all ps)
 
 -- under a default's name no entry stands
 no_default_at : (name : List ℕ) (ps : List (List ℕ × List ℕ)) → list_all (λ (p : List ℕ × List ℕ). not (is_one_of p.0 default_names)) ps ≡ true → is_one_of name default_names ≡ true → values_at name ps ≡ []
-no_default_at name [] all is = refl
-no_default_at name (p ∷ ps) all is =
-    let parts = and_parts (not (is_one_of p.0 default_names)) (list_all (λ (p : List ℕ × List ℕ). not (is_one_of p.0 default_names)) ps) all in
-    go (same_text p.0 name) refl (not-true (is_one_of p.0 default_names) parts.0) (no_default_at name ps parts.1 is)
-  where
-    go : (t : Bool) → same_text p.0 name ≡ t → is_one_of p.0 default_names ≡ false → values_at name ps ≡ [] → values_at name (p ∷ ps) ≡ []
-    go true e outside rest = let q : true ≡ false = sym is ∙ ap (λ n. is_one_of n default_names) (sym (same_from_test p.0 name (sym e))) ∙ outside in absurd (cc q)
-    go false e outside rest = rw e rest
+no_default_at name ps tests is =
+    nothing_at name ps
+    (all_apply (λ p. not (is_one_of p.0 default_names) ≡ true) (λ p. p.0 ≢ name) ps (λ p test e. let q : false ≡ true = sym (ap not (ap (λ n. is_one_of n default_names) e ∙ is)) ∙ test in cc q)
+    (all_from_test (λ (p : List ℕ × List ℕ). not (is_one_of p.0 default_names)) ps tests))
 
 pub prefix_member_told : (protocol : Protocol) (schema : Schema) (endpoint : List ℕ) (omit : Omit) (v w : List Write) → AreSeenSame protocol schema endpoint omit v w → (i : ℕ) (m : Schema) (prefix : List ℕ)
     → member_at schema i ≡ Some m → binding_of m ≡ to_prefix prefix → member_view schema v i m ≡ member_view schema w i m
 prefix_member_told protocol schema endpoint omit v w are i m prefix at begins =
-    shown v typed_v
+    bound_told protocol schema endpoint omit v w are i m (to_prefix prefix) at begins refl
+    (shown v are.writes_v
     ∙ ap (λ ps. unless_empty (map_value (Some m) (valued as_text ps))) (ordered_told (lowered (written_pairs (first_value schema v i))) (lowered (written_pairs (first_value schema w i))) told)
-    ∙ sym (shown w typed_w)
+    ∙ sym (shown w are.writes_w))
   where
-    placed : is_placed_at (binding_of m) ≡ true
-    placed = ap is_placed_at begins
-
-    typed_v : HasTypedWrites schema v
-    typed_v = typed_writes protocol schema endpoint omit v are.typed_v
-
-    typed_w : HasTypedWrites schema w
-    typed_w = typed_writes protocol schema endpoint omit w are.typed_w
-
-    shown : (ws : List Write) → HasTypedWrites schema ws → member_view schema ws i m ≡ unless_empty (map_value (Some m) (valued as_text (all_put (lowered (written_pairs (first_value schema ws i))) [])))
-    shown ws typed =
-        bound_member_view schema ws i m at (placed_bound (binding_of m) placed)
-        ∙ ap (λ b. option_and_then (bound_view_at b (query_names schema) m) (first_value schema ws i)) begins
-        ∙ prefix_part m (query_names schema) prefix (first_value schema ws i) (text_map_at schema are.checked i m prefix at begins) (λ u e. placed_value schema ws i m u typed at placed e)
+    shown : (ws : List Write) → HasTypedWrites schema ws
+        → option_and_then (bound_view_at (to_prefix prefix) (query_names schema) m) (first_value schema ws i) ≡ unless_empty (map_value (Some m) (valued as_text (all_put (lowered (written_pairs (first_value schema ws i))) [])))
+    shown ws typed = prefix_part m (query_names schema) prefix (first_value schema ws i) (text_map_at schema are.checked i m prefix at begins) (λ u e. placed_value schema ws i m u typed at (ap is_placed_at begins) e)
 
     of_headers : (ws : List Write) (key : List ℕ) → values_at (str_to_ascii_lowercase (prefix ++ key)) (headers schema ws) ≡ last_at (str_to_ascii_lowercase key) (lowered (written_pairs (first_value schema ws i)))
     of_headers ws key = headers_of_prefix schema ws i m prefix key (headers_apart schema are.checked) at begins ∙ last_of_entries (str_to_ascii_lowercase key) (first_value schema ws i)

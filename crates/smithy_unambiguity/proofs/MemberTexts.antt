@@ -21,7 +21,7 @@ use Rattle.smithy_binding.specs.Checked.{is_header_kind, has_element, same_forma
 use Rattle.smithy_binding.specs.Faults.{item_fault, element_fault}
 use Rattle.smithy_binding.specs.Typed.{has_own_formats}
 use Rattle.smithy_binding.specs.NormalForm.{with_own_elements}
-use Rattle.smithy_unambiguity.proofs.Fits.{is_flat, SameForm-from_fits}
+use Rattle.smithy_unambiguity.proofs.Fits.{is_flat}
 use Rattle.smithy_unambiguity.proofs.Wires.{wire-injective}
 use Rattle.smithy_unambiguity.proofs.Headers.{header_values}
 use Rattle.smithy_unambiguity.proofs.HeaderTexts.{lists_told}
@@ -40,9 +40,8 @@ own_text m v = member_text (place_of m) m v
 
 flat_told : (m : Schema) (v w : Value) (t : List ℕ) → is_flat m.node.kind ≡ true → IsBoundValue m v → IsBoundValue m w → own_text m v ≡ Some t → own_text m w ≡ Some t → v ≡ w
 flat_told m v w t flat is_v is_w p q =
-    wire-injective m.node.traits.timestamp_format (is_some m.node.traits.media_type) (place_of m) v w t
-    (SameForm-from_fits m.node.kind v w flat (and_from (is_in_range v) (fits m.node.kind v) is_v.in_range is_v.fits) (and_from (is_in_range w) (fits m.node.kind w) is_w.in_range is_w.fits))
-    is_v.in_range is_w.in_range p q
+    wire-injective m.node.traits.timestamp_format (is_some m.node.traits.media_type) (place_of m) m.node.kind v w t flat
+    (and_from (is_in_range v) (fits m.node.kind v) is_v.in_range is_v.fits) (and_from (is_in_range w) (fits m.node.kind w) is_w.in_range is_w.fits) p q
 
 one_text : (m : Schema) (v : Value) (t : List ℕ) → is_flat_value v ≡ true → option_map_or (λ (ts : List (List ℕ)). ts) (texts m v) [] ≡ t ∷ [] → own_text m v ≡ Some t
 one_text m v t flat e = go (own_text m v) (ap (λ (o : Option (List (List ℕ))). option_map_or (λ (ts : List (List ℕ)). ts) o []) (sym (flat_texts m v flat)) ∙ e)

@@ -72,18 +72,6 @@ pub valued_all : {X Y : Type 0} (P : List ℕ × X → Type 0) (A : List ℕ →
 valued_all P A B g f [] all = tt
 valued_all P A B g f (p ∷ ps) all = (f p all.0, valued_all P A B g f ps all.1)
 
-pub both_hold : {X : Type 0} (P Q : X → Type 0) (xs : List X) → AllByRecursion P xs → AllByRecursion Q xs → AllByRecursion (λ x. P x × Q x) xs
-both_hold P Q [] a b = tt
-both_hold P Q (x ∷ xs) a b = ((a.0, b.0), both_hold P Q xs a.1 b.1)
-
-pub all_filter : {X : Type 0} (P : X → Type 0) (test : X → Bool) (xs : List X) → AllByRecursion P xs → AllByRecursion P (filter test xs)
-all_filter P test [] all = tt
-all_filter P test (x ∷ xs) all = go (test x) (all_filter P test xs all.1)
-  where
-    go : (t : Bool) → AllByRecursion P (filter test xs) → AllByRecursion P (cond t (x ∷ filter test xs) (filter test xs))
-    go true rest = (all.0, rest)
-    go false rest = rest
-
 -- Those that pass a test.
 
 behind_lower : {X : Type 0} (low k : List ℕ) (ps : Pairs X) → slice_cmp nat_cmp low k ≡ Less → Behind k ps → Behind low ps

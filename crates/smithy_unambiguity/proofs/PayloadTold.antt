@@ -6,7 +6,7 @@ use Rattle.std.proofs.lemmas.Bool.{and_parts, eqb-true, leb-true}
 use Rattle.smithy_types.specs.Documents.{Document, nesting}
 use Rattle.smithy_ids.specs.declared.shape_type.ShapeType.{ShapeType}
 use Rattle.smithy_ids.specs.declared.shape_type.ShapeType.TheVariants as kind
-use Rattle.smithy_schema.specs.Nodes.{Schema, member_at, members_of, to_payload, binding_at, binding_of, is_outside_body, is_bound}
+use Rattle.smithy_schema.specs.Nodes.{Schema, member_at, members_of, Binding, to_payload, binding_of, is_outside_body, is_bound}
 use Rattle.smithy_serde.specs.Values as value
 use Rattle.smithy_serde.specs.Values.{Value, Write}
 use Rattle.smithy_serde.specs.Fits.{fits, is_null}
@@ -27,30 +27,30 @@ use Rattle.smithy_schema.specs.WellMade.{is_well_made}
 use Rattle.smithy_binding.specs.Placing.{Protocol, Omit}
 use Rattle.smithy_binding.specs.Typed.{IsTyped, is_codec_payload, is_shaped_write, is_shallow}
 use Rattle.smithy_binding.specs.NormalForm.{member_view, bound_view_at, unless_empty}
-use Rattle.smithy_unambiguity.proofs.Bodies.{document_tells}
+use Rattle.smithy_document.specs.ReadsBack.{Stands}
+use Rattle.smithy_serde.proofs.LawfulLemmas.{lawful_apart}
+use Rattle.smithy_document.proofs.ShapedDocuments.{has_document}
+use Rattle.smithy_document.proofs.ShapedReads.{tells_normal_form}
 use Rattle.smithy_unambiguity.proofs.ByMember.{first_value}
 use Rattle.smithy_unambiguity.proofs.Conforming.{resolved_at}
 use Rattle.smithy_unambiguity.proofs.Conformity.{conforming}
 use Rattle.smithy_unambiguity.proofs.Firsts.{first_finds, all_firsts}
-use Rattle.smithy_unambiguity.proofs.HeadersTold.{AreSeenSame, typed_writes}
-use Rattle.smithy_unambiguity.proofs.Members.{held_member}
-use Rattle.smithy_unambiguity.proofs.Placed.{HasTypedWrites, bound_member_view, bound_fits, first_held, first_has}
+use Rattle.smithy_unambiguity.proofs.HeadersTold.{AreSeenSame, bound_told}
+use Rattle.smithy_unambiguity.proofs.Lists.{all_apply, all_from_test}
+use Rattle.smithy_unambiguity.proofs.Traits.{trait_of}
+use Rattle.smithy_unambiguity.proofs.Members.{member_in_place}
+use Rattle.smithy_unambiguity.proofs.Placed.{HasTypedWrites, bound_fits, first_fitting, first_has}
 use Rattle.smithy_unambiguity.proofs.Positions.{members_by_position}
-use Rattle.smithy_unambiguity.proofs.Settled.{text_form}
+use Rattle.smithy_document.proofs.NamedPairs.{text_form}
 use Rattle.smithy_unambiguity.proofs.Singles.{single, find_single, find_same}
 use Rattle.smithy_unambiguity.proofs.Sound.{sound}
 
-payload_flag : (h p q : Option (List ℕ)) (query_map label payload : Bool) → is_payload (binding_at h p q query_map label payload) ≡ true → payload ≡ true
-payload_flag (Some h) p q query_map label payload e = absurd (cc e)
-payload_flag None (Some p) q query_map label payload e = absurd (cc e)
-payload_flag None None (Some q) query_map label payload e = absurd (cc e)
-payload_flag None None None true label payload e = absurd (cc e)
-payload_flag None None None false true payload e = absurd (cc e)
-payload_flag None None None false false true e = refl
-payload_flag None None None false false false e = absurd (cc e)
+pub payload_is : (b : Binding) → is_payload b ≡ true → b ≡ to_payload
+payload_is to_payload e = refl
+payload_is _ e = absurd (cc e)
 
 pub payload_of : (m : Schema) → is_payload (binding_of m) ≡ true → m.node.traits.http_payload ≡ true
-payload_of m e = payload_flag m.node.traits.http_header m.node.traits.http_prefix_headers m.node.traits.http_query m.node.traits.http_query_params m.node.traits.http_label m.node.traits.http_payload e
+payload_of m e = trait_of m to_payload (payload_is (binding_of m) e)
 
 pub one_payload : (schema : Schema) → IsCheckedInput schema → length (filter (λ m. m.node.traits.http_payload) (members_of schema)) ≤ 1
 one_payload schema checked =
@@ -68,7 +68,7 @@ pub payload_value : (schema : Schema) → IsCheckedInput schema → (ws : List W
 payload_value schema checked ws i m at payload =
     ap (option_map (λ (r : Resolved). r.value))
     (find_same (λ (r : Resolved). is_payload (binding_of r.member)) (is_of i) (firsts schema ws)
-    (all_firsts (λ r. is_payload (binding_of r.member) ≡ is_of i r) (all_resolved schema ws) (agree (all_resolved schema ws) (resolved_at schema ws)))
+    (all_firsts (λ r. is_payload (binding_of r.member) ≡ is_of i r) (all_resolved schema ws) (all_apply (λ r. member_at schema r.position ≡ Some r.member) (λ r. is_payload (binding_of r.member) ≡ is_of i r) (all_resolved schema ws) same_test (resolved_at schema ws)))
     ∙ first_finds i (all_resolved schema ws))
   where
     same_test : (r : Resolved) → member_at schema r.position ≡ Some r.member → is_payload (binding_of r.member) ≡ is_of i r
@@ -87,10 +87,6 @@ payload_value schema checked ws i m at payload =
             (payload_of r.member is) (payload_of m (ap is_payload payload)) in
             let q : true ≡ false = sym (eq-eqb r.position i position) ∙ e in
             q
-
-    agree : (rs : List Resolved) → AllByRecursion (λ r. member_at schema r.position ≡ Some r.member) rs → AllByRecursion (λ r. is_payload (binding_of r.member) ≡ is_of i r) rs
-    agree [] all = tt
-    agree (r ∷ rs) all = (same_test r all.0, agree rs all.1)
 
 -- the bytes of the body, by its form
 pub body_bytes : (text_of : Document → List ℕ) (schema : Schema) (ws : List Write) → (body text_of schema ws).bytes ≡ bytes_by (form_in schema) text_of (body_parts schema ws)
@@ -139,65 +135,43 @@ codec_view m (Some u) codec = ap (λ t. if t then Some (settled (Some m) u) else
 raw_view : (m : Schema) (o : Option Value) → is_codec_kind m.node.kind ≡ false → option_and_then (payload_view m) o ≡ option_and_then unless_empty o
 raw_view m o raw = ap (λ t. option_and_then (λ u. if t then Some (settled (Some m) u) else unless_empty u) o) raw
 
--- a codec that reads back what it wrote tells documents apart
-pub tells_apart : (text_of : Document → List ℕ) (holds : List ℕ → Option Held) → IsLawfulText text_of holds → TellsApart text_of
-tells_apart text_of holds lawful d e sound_d sound_e low_d low_e same =
-    let both : Some (held.document d) ≡ Some (held.document e) = sym (lawful.reads_back d sound_d low_d) ∙ ap holds same ∙ lawful.reads_back e sound_e low_e in cc both
-
 -- a shaped value whose document a codec tells apart
-pub record HasOwnText (here : Option Schema) (v : Value) : Type 0 where
-  pub shaped : is_shaped here v ≡ true
+pub record HasOwnText (m : Schema) (v : Value) : Type 0 where
+  pub shaped : is_shaped (Some m) v ≡ true
   pub doc : Document
   pub has : document_of v ≡ Ok doc
   pub sound : is_sound doc ≡ true
   pub shallow : nesting doc ≤ max_nesting
 
-own_bytes : (text_of : Document → List ℕ) (here : Option Schema) (v : Value) (is : HasOwnText here v) → text_of_document text_of (Some v) ≡ text_of is.doc
-own_bytes text_of here v is = ap (λ (r : Result Document DocumentFault). unwrap_or (option_map text_of (result_ok r)) []) is.has
+own_bytes : (text_of : Document → List ℕ) (m : Schema) (v : Value) (is : HasOwnText m v) → text_of_document text_of (Some v) ≡ text_of is.doc
+own_bytes text_of m v is = ap (λ (r : Result Document DocumentFault). unwrap_or (option_map text_of (result_ok r)) []) is.has
 
-pub texts_tell : (text_of : Document → List ℕ) (holds : List ℕ → Option Held) → IsLawfulText text_of holds → (here : Option Schema) (o p : Option Value) → ((v : Value) → o ≡ Some v → HasOwnText here v) → ((v : Value) → p ≡ Some v → HasOwnText here v)
-    → text_of_document text_of o ≡ text_of_document text_of p → option_map (settled here) o ≡ option_map (settled here) p
-texts_tell text_of holds lawful here None None is_o is_p e = refl
-texts_tell text_of holds lawful here (Some v) None is_o is_p e =
-    let is = is_o v refl in absurd (lawful.is_not_empty is.doc is.sound (sym (own_bytes text_of here v is) ∙ e))
-texts_tell text_of holds lawful here None (Some w) is_o is_p e =
-    let is = is_p w refl in absurd (lawful.is_not_empty is.doc is.sound (sym (own_bytes text_of here w is) ∙ sym e))
-texts_tell text_of holds lawful here (Some v) (Some w) is_o is_p e =
-    let a = is_o v refl in
-    let b = is_p w refl in
-    let same = tells_apart text_of holds lawful a.doc b.doc a.sound b.sound a.shallow b.shallow (sym (own_bytes text_of here v a) ∙ e ∙ own_bytes text_of here w b) in
-    ap Some (document_tells here v w a.doc a.shaped b.shaped a.has (b.has ∙ ap Ok (sym same)))
+pub text_tells : (text_of : Document → List ℕ) (holds : List ℕ → Option Held) → IsLawfulText text_of holds → (m : Schema) (v w : Value) → Stands m → HasOwnText m v → HasOwnText m w
+    → text_of_document text_of (Some v) ≡ text_of_document text_of (Some w) → settled (Some m) v ≡ settled (Some m) w
+text_tells text_of holds lawful m v w stands a b e =
+    let same = lawful_apart text_of holds lawful a.doc b.doc a.sound b.sound a.shallow b.shallow (sym (own_bytes text_of m v a) ∙ e ∙ own_bytes text_of m w b) in
+    (tells_normal_form m v w stands a.shaped b.shaped).0 (a.has ∙ ap Ok same ∙ sym b.has)
 
--- where no rule of documents is broken there is a document
-pub documented : (v : Value) → fault_of_document (Some v) ≡ None → (d : Document) × (document_of v ≡ Ok d)
-documented v e = go (document_of v) refl e
-  where
-    go : (r : Result Document DocumentFault) → document_of v ≡ r → option_map (λ (f : DocumentFault). custom (document_fault_text f)) (result_err r) ≡ None → (d : Document) × (document_of v ≡ Ok d)
-    go (Ok d) is h = (d, is)
-    go (Err f) is h = absurd (cc h)
+texts_tell : (text_of : Document → List ℕ) (holds : List ℕ → Option Held) → IsLawfulText text_of holds → (m : Schema) → Stands m → (o p : Option Value) → ((v : Value) → o ≡ Some v → HasOwnText m v) → ((v : Value) → p ≡ Some v → HasOwnText m v)
+    → text_of_document text_of o ≡ text_of_document text_of p → option_map (settled (Some m)) o ≡ option_map (settled (Some m)) p
+texts_tell text_of holds lawful m stands None None is_o is_p e = refl
+texts_tell text_of holds lawful m stands (Some v) None is_o is_p e =
+    let is = is_o v refl in absurd (lawful.is_not_empty is.doc is.sound (sym (own_bytes text_of m v is) ∙ e))
+texts_tell text_of holds lawful m stands None (Some w) is_o is_p e =
+    let is = is_p w refl in absurd (lawful.is_not_empty is.doc is.sound (sym (own_bytes text_of m w is) ∙ sym e))
+texts_tell text_of holds lawful m stands (Some v) (Some w) is_o is_p e = ap Some (text_tells text_of holds lawful m v w stands (is_o v refl) (is_p w refl) e)
 
--- the document of a typed input's body
-pub record HasDocument (u : Value) : Type 0 where
-  pub doc : Document
-  pub has : document_of u ≡ Ok doc
-  pub shallow : nesting doc ≤ max_nesting
-
-pub body_document : (protocol : Protocol) (schema : Schema) (endpoint : List ℕ) (omit : Omit) (ws : List Write) (u : Value) → IsTyped protocol schema endpoint omit ws → document_value schema ws ≡ Some u → HasDocument u
-unfolding body_fault
-body_document protocol schema endpoint omit ws u typed is =
-    let fault : fault_of_document (Some u) ≡ None = ap fault_of_document (sym is) ∙ (conforming schema ws endpoint typed.conforming).body in
-    let x = documented u fault in
-    let low : nat_le (nesting x.0) max_nesting ≡ true =
-    ap (λ (r : Result Document DocumentFault). is_shallow (result_ok r)) (sym x.1) ∙ ap (λ (o : Option Value). is_shallow (option_and_then doc_of o)) (sym is) ∙ typed.shallow in
-    record { doc = x.0; has = x.1; shallow = leb-true (nesting x.0) max_nesting low }
+-- the value of a typed input's body follows its node
+pub own_text : (protocol : Protocol) (schema : Schema) (endpoint : List ℕ) (omit : Omit) (ws : List Write) (m : Schema) (u : Value) → IsTyped protocol schema endpoint omit ws → Stands m → document_value schema ws ≡ Some u → is_shaped (Some m) u ≡ true → HasOwnText m u
+own_text protocol schema endpoint omit ws m u typed stands is shaped =
+    let d = has_document m u shaped in
+    let low : nat_le (nesting d.0) max_nesting ≡ true =
+    ap (λ (r : Result Document DocumentFault). is_shallow (result_ok r)) (sym d.1) ∙ ap (λ (o : Option Value). is_shallow (option_and_then doc_of o)) (sym is) ∙ typed.shallow in
+    record { shaped = shaped; doc = d.0; has = d.1; sound = sound m u d.0 stands shaped d.1; shallow = leb-true (nesting d.0) max_nesting low }
 
 pub document_value_is : (schema : Schema) (ws : List Write) (f : BodyForm) → form_in schema ≡ f → document_value schema ws ≡ document_by f (body_parts schema ws)
 unfolding document_value
 document_value_is schema ws f e = ap (λ g. document_by g (body_parts schema ws)) e
-
-pub all_tests : (t : Resolved → Bool) (rs : List Resolved) → list_all t rs ≡ true → AllByRecursion (λ r. t r ≡ true) rs
-all_tests t [] e = tt
-all_tests t (r ∷ rs) e = let parts = and_parts (t r) (list_all t rs) e in (parts.0, all_tests t rs parts.1)
 
 data_kind : (k : ShapeType) → is_payload_kind k ≡ true → (k ≡ kind.Blob) ⊎ ((k ≡ kind.String) ⊎ (is_codec_kind k ≡ true))
 data_kind kind.Blob e = inl refl
@@ -230,37 +204,25 @@ codec_payload schema checked i m at payload is = go (is_raw_kind m.node.kind) (i
     go true c taken h = absurd (cc h)
     go false c taken h = taken
 
--- the payload of a typed input is shaped, with a document that a codec tells apart
+-- so does the payload
 pub payload_own_text : (protocol : Protocol) (schema : Schema) (endpoint : List ℕ) (omit : Omit) (ws : List Write) (i : ℕ) (m : Schema) → IsCheckedInput schema → is_well_made schema ≡ true → IsTyped protocol schema endpoint omit ws
-    → member_at schema i ≡ Some m → binding_of m ≡ to_payload → form_in schema ≡ form.Payload → (u : Value) → first_value schema ws i ≡ Some u → HasOwnText (Some m) u
-payload_own_text protocol schema endpoint omit ws i m checked held typed at payload is u e =
-    let d = body_document protocol schema endpoint omit ws u typed (document_value_is schema ws form.Payload is ∙ payload_value schema checked ws i m at payload ∙ e) in
-    let tested = first_has (λ r. (not (is_codec_payload r.member) || is_shaped_write r) ≡ true) schema ws i m u at e (all_tests (λ r. not (is_codec_payload r.member) || is_shaped_write r) (firsts schema ws) typed.payload_shaped) in
+    → member_at schema i ≡ Some m → binding_of m ≡ to_payload → form_in schema ≡ form.Payload → (u : Value) → first_value schema ws i ≡ Some u → HasOwnText m u
+payload_own_text protocol schema endpoint omit ws i m checked well_made typed at payload is u e =
+    let tested = first_has (λ r. (not (is_codec_payload r.member) || is_shaped_write r) ≡ true) schema ws i m u at e (all_from_test (λ r. not (is_codec_payload r.member) || is_shaped_write r) (firsts schema ws) typed.payload_shaped) in
     let asked : is_codec_payload m ≡ true = ap (λ b. is_payload b && is_codec_kind m.node.kind) payload ∙ codec_payload schema checked i m at payload is in
-    let shaped : is_shaped (Some m) u ≡ true = ap (λ t. not t || is_shaped (Some m) u) (sym asked) ∙ tested in
-    record { shaped = shaped; doc = d.doc; has = d.has; sound = sound (Some m) u d.doc (held_member schema i m held at).table shaped d.has; shallow = d.shallow }
+    own_text protocol schema endpoint omit ws m u typed (member_in_place schema i m well_made at).stands (document_value_is schema ws form.Payload is ∙ payload_value schema checked ws i m at payload ∙ e)
+    (ap (λ t. not t || is_shaped (Some m) u) (sym asked) ∙ tested)
 
 pub payload_member_told : (protocol : Protocol) (schema : Schema) (endpoint : List ℕ) (omit : Omit) (v w : List Write) → AreSeenSame protocol schema endpoint omit v w → (i : ℕ) (m : Schema)
     → member_at schema i ≡ Some m → binding_of m ≡ to_payload → member_view schema v i m ≡ member_view schema w i m
-payload_member_told protocol schema endpoint omit v w are i m at payload = shown v ∙ go (data_kind m.node.kind (payload_is_data schema are.checked i m at payload)) ∙ sym (shown w)
+payload_member_told protocol schema endpoint omit v w are i m at payload =
+    bound_told protocol schema endpoint omit v w are i m to_payload at payload refl (go (data_kind m.node.kind (payload_is_data schema are.checked i m at payload)))
   where
-    bound : is_bound m ≡ true
-    bound = ap is_outside_body payload
-
-    shown : (ws : List Write) → member_view schema ws i m ≡ option_and_then (payload_view m) (first_value schema ws i)
-    shown ws = bound_member_view schema ws i m at bound ∙ ap (λ b. option_and_then (bound_view_at b (query_names schema) m) (first_value schema ws i)) payload
-
     value_of : (ws : List Write) → (body_parts schema ws).payload ≡ first_value schema ws i
     value_of ws = payload_value schema are.checked ws i m at payload
 
     fitting : (ws : List Write) → HasTypedWrites schema ws → (k : ShapeType) → m.node.kind ≡ k → (u : Value) → first_value schema ws i ≡ Some u → fits k u ≡ true
-    fitting ws typed k is u e = ap (λ k. fits k u) (sym is) ∙ bound_fits (fits m.node.kind u) (is_null u) (is_bound m) bound (first_held schema ws i m u typed.conforming typed.in_range at e).fits
-
-    typed_v : HasTypedWrites schema v
-    typed_v = typed_writes protocol schema endpoint omit v are.typed_v
-
-    typed_w : HasTypedWrites schema w
-    typed_w = typed_writes protocol schema endpoint omit w are.typed_w
+    fitting ws typed k is u e = ap (λ k. fits k u) (sym is) ∙ bound_fits (fits m.node.kind u) (is_null u) (is_bound m) (ap is_outside_body payload) (first_fitting schema ws i m u typed.conforming typed.in_range at e).fits
 
     bytes : (f : BodyForm) → form_in schema ≡ f → bytes_by f protocol.text_of (body_parts schema v) ≡ bytes_by f protocol.text_of (body_parts schema w)
     bytes f is =
@@ -278,17 +240,17 @@ payload_member_told protocol schema endpoint omit v w are i m at payload = shown
         → option_and_then (payload_view m) (first_value schema v i) ≡ option_and_then (payload_view m) (first_value schema w i)
     go (inl e) =
         raw_view m (first_value schema v i) (ap is_codec_kind e)
-        ∙ raw_blob (first_value schema v i) (first_value schema w i) (fitting v typed_v kind.Blob e) (fitting w typed_w kind.Blob e) (raw (form_is kind.Blob e))
+        ∙ raw_blob (first_value schema v i) (first_value schema w i) (fitting v are.writes_v kind.Blob e) (fitting w are.writes_w kind.Blob e) (raw (form_is kind.Blob e))
         ∙ sym (raw_view m (first_value schema w i) (ap is_codec_kind e))
     go (inr (inl e)) =
         raw_view m (first_value schema v i) (ap is_codec_kind e)
-        ∙ raw_text (first_value schema v i) (first_value schema w i) (fitting v typed_v kind.String e) (fitting w typed_w kind.String e) (raw (form_is kind.String e))
+        ∙ raw_text (first_value schema v i) (first_value schema w i) (fitting v are.writes_v kind.String e) (fitting w are.writes_w kind.String e) (raw (form_is kind.String e))
         ∙ sym (raw_view m (first_value schema w i) (ap is_codec_kind e))
     go (inr (inr codec)) =
         let is = form_is m.node.kind refl ∙ codec_form m.node.kind (has_unbound_member schema) codec in
         let texts : text_of_document protocol.text_of (first_value schema v i) ≡ text_of_document protocol.text_of (first_value schema w i) =
         ap (text_of_document protocol.text_of) (sym (value_of v)) ∙ bytes form.Payload is ∙ ap (text_of_document protocol.text_of) (value_of w) in
         codec_view m (first_value schema v i) codec
-        ∙ texts_tell protocol.text_of are.setting.holds are.setting.lawful (Some m) (first_value schema v i) (first_value schema w i)
-        (payload_own_text protocol schema endpoint omit v i m are.checked are.setting.held are.typed_v at payload is) (payload_own_text protocol schema endpoint omit w i m are.checked are.setting.held are.typed_w at payload is) texts
+        ∙ texts_tell protocol.text_of are.setting.holds are.setting.lawful m (member_in_place schema i m are.setting.well_made at).stands (first_value schema v i) (first_value schema w i)
+        (payload_own_text protocol schema endpoint omit v i m are.checked are.setting.well_made are.typed_v at payload is) (payload_own_text protocol schema endpoint omit w i m are.checked are.setting.well_made are.typed_w at payload is) texts
         ∙ sym (codec_view m (first_value schema w i) codec)

@@ -2,22 +2,23 @@
 use Rattle.std.proofs.Common.{◌≡◌, refl, sym, ◌∙◌, ap, subst, ℕ, zero, suc, Bool, true, false, not, cond, ◌&&◌, ◌||◌, List, [], ◌∷◌, filter, slice_get, Option, Some, None, option_map, option_and_then, is_some, IsTrue}
 use Rattle.std.specs.List.{AllByRecursion, list_all}
 use Rattle.std.proofs.lemmas.Bool.{and_parts}
+use Rattle.std.proofs.lemmas.List.Sums.{list_all-from_AllPass}
 use Rattle.smithy_types.specs.Results.{unless, first_of_all}
-use Rattle.smithy_schema.specs.Nodes.{Schema, member_at, Binding, to_header, to_prefix, to_query, to_query_map, to_label, to_payload, to_body, binding_of, is_outside_body, is_bound}
+use Rattle.smithy_schema.specs.Nodes.{Schema, member_at, members_of, Binding, to_body, binding_of, is_outside_body, is_bound}
 use Rattle.smithy_serde.specs.Values.{Value, Write}
 use Rattle.smithy_serde.specs.Ranges.{are_in_range}
 use Rattle.smithy_serde.specs.Fits.{fits, is_null}
 use Rattle.smithy_serde.specs.Writes.{Resolved, all_resolved, first, firsts}
 use Rattle.smithy_binding.specs.Bindings.{texts, inserted_at, query_names}
+use Rattle.smithy_binding.specs.Checked.{IsCheckedInput, has_bound_kind}
 use Rattle.smithy_binding.specs.Faults.{Fault, writes_fault, bound_fault, value_fault, item_fault, key_fault, year_fault, pairs_fault, is_placed_at}
 use Rattle.smithy_binding.specs.Typed.{has_distinct_keys, has_own_formats, is_placed_typed}
 use Rattle.smithy_binding.specs.NormalForm.{bound_view, bound_view_at, member_view, last_of}
 use Rattle.smithy_serde.specs.NormalBody.{settled}
-use Rattle.smithy_unambiguity.proofs.ByName.{find_has}
 use Rattle.smithy_unambiguity.proofs.ByMember.{at_member, first_value, first_at}
-use Rattle.smithy_unambiguity.proofs.Conforming.{no_first, conforming_bound}
-use Rattle.smithy_unambiguity.proofs.Firsts.{first_finds}
-use Rattle.smithy_unambiguity.proofs.Fitting.{IsHeldWrite, held_writes}
+use Rattle.smithy_unambiguity.proofs.Conforming.{no_first, conforming_bound, IsFittingWrite, fitting_writes}
+use Rattle.smithy_unambiguity.proofs.Firsts.{first_finds, find_has}
+use Rattle.smithy_unambiguity.proofs.Positions.{members_by_position}
 use Rattle.smithy_unambiguity.proofs.MemberTexts.{IsBoundValue}
 
 -- What the fields of a typed input say of its writes.
@@ -37,13 +38,8 @@ pub record IsPlacedValue (m : Schema) (v : Value) : Type 0 where
 
 -- a member that is placed is bound
 pub placed_bound : (b : Binding) → is_placed_at b ≡ true → is_outside_body b ≡ true
-placed_bound (to_header n) e = refl
-placed_bound (to_prefix n) e = refl
-placed_bound (to_query n) e = refl
-placed_bound to_query_map e = refl
-placed_bound to_label e = refl
-placed_bound to_payload e = refl
 placed_bound to_body e = absurd (cc e)
+placed_bound _ e = refl
 
 pub bound_fits : (a n b : Bool) → b ≡ true → (a || (n && not b)) ≡ true → a ≡ true
 bound_fits true n b is e = refl
@@ -65,15 +61,15 @@ first_has P schema ws i m v at e all =
     (find_has P i (firsts schema ws) (at_member i m v) all (first_finds i (all_resolved schema ws) ∙ first_found schema ws i m v at e)).0
 
 -- it fits, and is in range
-pub first_held : (schema : Schema) (ws : List Write) (i : ℕ) (m : Schema) (v : Value) → writes_fault schema [] ws ≡ None → are_in_range ws ≡ true → member_at schema i ≡ Some m → first_value schema ws i ≡ Some v → IsHeldWrite (at_member i m v)
-first_held schema ws i m v conforming range at e =
-    (find_has IsHeldWrite i (all_resolved schema ws) (at_member i m v) (held_writes schema ws conforming range) (first_found schema ws i m v at e)).0
+pub first_fitting : (schema : Schema) (ws : List Write) (i : ℕ) (m : Schema) (v : Value) → writes_fault schema [] ws ≡ None → are_in_range ws ≡ true → member_at schema i ≡ Some m → first_value schema ws i ≡ Some v → IsFittingWrite (at_member i m v)
+first_fitting schema ws i m v conforming range at e =
+    (find_has IsFittingWrite i (all_resolved schema ws) (at_member i m v) (fitting_writes schema ws conforming range) (first_found schema ws i m v at e)).0
 
 pub placed_value : (schema : Schema) (ws : List Write) (i : ℕ) (m : Schema) (v : Value) → HasTypedWrites schema ws → member_at schema i ≡ Some m → is_placed_at (binding_of m) ≡ true → first_value schema ws i ≡ Some v → IsPlacedValue m v
 placed_value schema ws i m v typed at placed e =
-    let held = first_held schema ws i m v typed.conforming typed.in_range at e in
+    let fitting = first_fitting schema ws i m v typed.conforming typed.in_range at e in
     let bound : is_bound m ≡ true = placed_bound (binding_of m) placed in
-    let fit = bound_fits (fits m.node.kind v) (is_null v) (is_bound m) bound held.fits in
+    let fit = bound_fits (fits m.node.kind v) (is_null v) (is_bound m) bound fitting.fits in
     let fault : bound_fault (at_member i m v) ≡ None = conforming_bound schema ws typed.conforming i (at_member i m v) (first_found schema ws i m v at e) placed in
     let a = no_first (value_fault m v) (pairs_fault m (inserted_at (binding_of m) m v)) fault in
     let b = no_first (item_fault m v) (first_of_all (key_fault m v ∷ year_fault m v ∷ [])) a.0 in
@@ -83,7 +79,7 @@ placed_value schema ws i m v typed at placed e =
     let tests : (not (is_placed_at (binding_of m)) || (has_distinct_keys v && has_own_formats m v)) ≡ true = first_has (λ r. IsTrue (is_placed_typed r)) schema ws i m v at e typed.bound in
     let both = and_parts (has_distinct_keys v) (has_own_formats m v) (ap (λ b. not b || (has_distinct_keys v && has_own_formats m v)) (sym placed) ∙ tests) in
     record {
-      value = record { fits = fit; in_range = held.in_range; items = b.0; formats = both.1 };
+      value = record { fits = fit; in_range = fitting.in_range; items = b.0; formats = both.1 };
       keys = both.0;
       paired = c.0;
       ts = x.0;
@@ -92,10 +88,11 @@ placed_value schema ws i m v typed at placed e =
     }
 
 -- the normal form's part of a bound member
-pub bound_member_view : (schema : Schema) (ws : List Write) (i : ℕ) (m : Schema) → member_at schema i ≡ Some m → is_bound m ≡ true
-    → member_view schema ws i m ≡ option_and_then (bound_view_at (binding_of m) (query_names schema) m) (first_value schema ws i)
-bound_member_view schema ws i m at bound =
-    ap (λ (b : Bool). cond b (option_and_then (bound_view schema) (first schema ws i)) (option_map (λ (r : Resolved). settled (Some m) r.value) (last_of i (all_resolved schema ws)))) bound ∙ ap (option_and_then (bound_view schema)) (first_at schema ws i m at) ∙ go (first_value schema ws i)
+pub bound_view_of : (schema : Schema) (ws : List Write) (i : ℕ) (m : Schema) (b : Binding) → member_at schema i ≡ Some m → binding_of m ≡ b → is_outside_body b ≡ true
+    → member_view schema ws i m ≡ option_and_then (bound_view_at b (query_names schema) m) (first_value schema ws i)
+bound_view_of schema ws i m b at is bound =
+    ap (λ (t : Bool). cond t (option_and_then (bound_view schema) (first schema ws i)) (option_map (λ (r : Resolved). settled (Some m) r.value) (last_of i (all_resolved schema ws)))) (ap is_outside_body is ∙ bound)
+    ∙ ap (option_and_then (bound_view schema)) (first_at schema ws i m at) ∙ go (first_value schema ws i) ∙ ap (λ c. option_and_then (bound_view_at c (query_names schema) m) (first_value schema ws i)) is
   where
     go : (o : Option Value) → option_and_then (bound_view schema) (option_map (at_member i m) o) ≡ option_and_then (bound_view_at (binding_of m) (query_names schema) m) o
     go None = refl
@@ -119,3 +116,7 @@ member_among P test (x ∷ ms) (suc i) m all e pass = member_among P test ms i m
     go : (t : Bool) → AllByRecursion P (cond t (x ∷ filter test ms) (filter test ms)) → AllByRecursion P (filter test ms)
     go false h = h
     go true h = h.1
+
+-- a member's kind may stand at its binding
+pub kinds_at : (schema : Schema) → IsCheckedInput schema → (i : ℕ) (m : Schema) → member_at schema i ≡ Some m → has_bound_kind m ≡ true
+kinds_at schema checked i m at = member_has has_bound_kind (members_of schema) i m (list_all-from_AllPass has_bound_kind (members_of schema) checked.kinds) (members_by_position schema checked i ∙ at)

@@ -18,7 +18,7 @@ pub record IsSetting (protocol : Protocol) (schema : Schema) : Type 0 where
   pub holds : List ℕ → Option Held
   pub lawful : IsLawfulText protocol.text_of holds
   pub checked : IsTrue (checked_input schema)
-  pub held : IsTrue (is_well_made schema)
+  pub well_made : IsTrue (is_well_made schema)
 
 -- what is seen tells the view
 abbrev pub SeenTellsView : Type 0

@@ -20,10 +20,23 @@ use Rattle.smithy_serde.specs.Ranges.{is_in_range, are_writes_in_range}
 use Rattle.smithy_serde.specs.Fits.{fits, fits_in_range, written_kind, kind_takes}
 use Rattle.smithy_serde.specs.Shaped.{is_shaped, are_shaped, are_fields_shaped, are_entries_shaped, are_values_shaped, fits_at, fields_at, has_distinct_fields, named_member, is_named, is_kind}
 use Rattle.smithy_serde.specs.NormalBody.{settled, settled_elements, settled_fields, settled_entries, settled_behind, own_label, put_entry, put_entries, in_key_order, entry_writes, structure_value, last_named, field_of}
-use Rattle.smithy_unambiguity.proofs.Fits.{}
-use Rattle.smithy_unambiguity.proofs.Forms.{shaped_fits, in_range}
-use Rattle.smithy_unambiguity.proofs.Bodies.{Aligned, Paired, all_aligned}
-use Rattle.smithy_unambiguity.proofs.Sorted.{Sorted, Behind, all_sorted, less_apart, sorted_tail, behind_weaker}
+use Rattle.smithy_document.proofs.NamedPairs.{text_form, entries_ordered}
+use Rattle.smithy_document.proofs.OrderedPairs.{Pairs, all_put}
+use Rattle.smithy_document.proofs.ShapedDocuments.{none_named}
+use Rattle.smithy_unambiguity.proofs.PairLemmas.{AllPairs, ordered_all, names, ascending_distinct, ordered_ascends}
+
+in_range : (here : Option Schema) (v : Value) → fits_at here v ≡ true → is_in_range v ≡ true
+in_range None v p = absurd (cc p)
+in_range (Some s) v p = (and_parts (is_in_range v) (fits s.node.kind v) p).0
+
+-- what is shaped is null, or fits
+pub shaped_fits : (here : Option Schema) (v : Value) → is_shaped here v ≡ true → (v ≡ (value.scalar value.null)) ⊎ (fits_at here v ≡ true)
+shaped_fits here (value.scalar value.null) e = inl refl
+shaped_fits here (value.scalar (value.document d)) e = inr (and_parts (fits_at here (value.scalar (value.document d))) _ e).0
+shaped_fits here (value.list ws) e = inr (and_parts (fits_at here (value.list ws)) _ (and_parts _ _ e).0).0
+shaped_fits here (value.map ws) e = inr (and_parts (fits_at here (value.map ws)) _ (and_parts _ _ (and_parts _ _ (and_parts _ _ e).0).0).0).0
+shaped_fits here (value.structure ws) e = inr (and_parts (fits_at here (value.structure ws)) _ (and_parts _ _ e).0).0
+shaped_fits here _ e = inr e
 
 -- a shaped value is in range
 pub shaped_range : (here : Option Schema) (v : Value) → is_shaped here v ≡ true → is_in_range v ≡ true
@@ -40,14 +53,6 @@ fits_as (Some s) v w fit same range =
     and_from (is_in_range w) (fits s.node.kind w) range
     (ap (λ o. unwrap_or (option_map (kind_takes s.node.kind) o) false) (sym same) ∙ (and_parts (is_in_range v) (fits s.node.kind v) fit).1)
 
-pub text_form : (v : Value) → fits kind.String v ≡ true → (t : List ℕ) × (v ≡ value.scalar (value.text t))
-text_form (value.scalar (value.text t)) e = (t, refl)
-text_form (value.scalar (value.whole value.byte z)) e = absurd (cc e)
-text_form (value.scalar (value.whole value.short z)) e = absurd (cc e)
-text_form (value.scalar (value.whole value.integer z)) e = absurd (cc e)
-text_form (value.scalar (value.whole value.long z)) e = absurd (cc e)
-text_form _ e = absurd (cc e)
-
 pub key_utf8 : (key : Value) → fits_in_range kind.String key ≡ true → is_utf8 (text_of_key key) ≡ true
 key_utf8 key e =
     let parts = and_parts (is_in_range key) (fits kind.String key) e in
@@ -55,78 +60,33 @@ key_utf8 key e =
     let range : is_utf8 x.0 ≡ true = ap is_in_range (sym x.1) ∙ parts.0 in
     ap (λ k. is_utf8 (text_of_key k)) x.1 ∙ range
 
--- An entry of a map, as it is kept: its key is UTF-8, and its value is shaped.
+-- Entries of a map, as they are kept: each key is UTF-8, and each value is shaped.
 
-pub record IsEntry (values : Option Schema) (e : List ℕ × Value) : Type 0 where
-  pub key : is_utf8 e.0 ≡ true
-  pub shaped : is_shaped values e.1 ≡ true
+abbrev pub AreEntries : Option Schema → Pairs Value → Type 0
+AreEntries values es = AllPairs (λ k. is_utf8 k ≡ true) (λ v. is_shaped values v ≡ true) es
 
-put_all_entries : (values : Option Schema) (key : List ℕ) (v : Value) (es : List (List ℕ × Value)) → is_utf8 key ≡ true → is_shaped values v ≡ true → AllByRecursion (IsEntry values) es → AllByRecursion (IsEntry values) (put_entry key v es)
-put_all_entries values key v [] utf8 shaped all = (record { key = utf8; shaped = shaped }, tt)
-put_all_entries values key v (e ∷ es) utf8 shaped all = go (slice_cmp nat_cmp key e.0) (put_all_entries values key v es utf8 shaped all.1)
-  where
-    go : (o : Ordering) → AllByRecursion (IsEntry values) (put_entry key v es) → AllByRecursion (IsEntry values) (match_ordering o ((key, v) ∷ e ∷ es) ((e.0, v) ∷ es) (e ∷ put_entry key v es))
-    go Less rest = (record { key = utf8; shaped = shaped }, all)
-    go Equal rest = (record { key = all.0.key; shaped = shaped }, all.1)
-    go Greater rest = (all.0, rest)
+ordered_entries : (values : Option Schema) (es : Pairs Value) → AreEntries values es → AreEntries values (in_key_order es)
+ordered_entries values es all = subst (AreEntries values) (sym (entries_ordered es)) (ordered_all (λ k. is_utf8 k ≡ true) (λ v. is_shaped values v ≡ true) es all)
 
-ordered_entries : (values : Option Schema) (es sorted : List (List ℕ × Value)) → AllByRecursion (IsEntry values) es → AllByRecursion (IsEntry values) sorted → AllByRecursion (IsEntry values) (put_entries es sorted)
-ordered_entries values [] sorted all done = done
-ordered_entries values (e ∷ es) sorted all done = ordered_entries values es (put_entry e.0 e.1 sorted) all.1 (put_all_entries values e.0 e.1 sorted all.0.key all.0.shaped done)
-
-entries_are_shaped : (values : Option Schema) (k l : Label) (es : List (List ℕ × Value)) → AllByRecursion (IsEntry values) es → are_entries_shaped values (entry_writes k l es) ≡ true
+entries_are_shaped : (values : Option Schema) (k l : Label) (es : Pairs Value) → AreEntries values es → are_entries_shaped values (entry_writes k l es) ≡ true
 entries_are_shaped values k l [] all = refl
 entries_are_shaped values k l (e ∷ es) all =
     let rest = entries_are_shaped values k l es all.1 in
-    let key : fits_in_range kind.String (value.scalar (value.text e.0)) ≡ true = and_from (is_utf8 e.0) true all.0.key refl in
+    let key : fits_in_range kind.String (value.scalar (value.text e.0)) ≡ true = and_from (is_utf8 e.0) true all.0.0 refl in
     and_from (fits_in_range kind.String (value.scalar (value.text e.0))) (is_shaped values e.1 && are_entries_shaped values (entry_writes k l es)) key
-    (and_from (is_shaped values e.1) (are_entries_shaped values (entry_writes k l es)) all.0.shaped rest)
+    (and_from (is_shaped values e.1) (are_entries_shaped values (entry_writes k l es)) all.0.1 rest)
 
-entries_in_range : (values : Option Schema) (k l : Label) (es : List (List ℕ × Value)) → AllByRecursion (IsEntry values) es → are_writes_in_range (entry_writes k l es) ≡ true
+entries_in_range : (values : Option Schema) (k l : Label) (es : Pairs Value) → AreEntries values es → are_writes_in_range (entry_writes k l es) ≡ true
 entries_in_range values k l [] all = refl
 entries_in_range values k l (e ∷ es) all =
     let rest = entries_in_range values k l es all.1 in
-    and_from (is_utf8 e.0) (is_in_range e.1 && are_writes_in_range (entry_writes k l es)) all.0.key
-    (and_from (is_in_range e.1) (are_writes_in_range (entry_writes k l es)) (shaped_range values e.1 all.0.shaped) rest)
+    and_from (is_utf8 e.0) (is_in_range e.1 && are_writes_in_range (entry_writes k l es)) all.0.0
+    (and_from (is_in_range e.1) (are_writes_in_range (entry_writes k l es)) (shaped_range values e.1 all.0.1) rest)
 
--- Keys in order are distinct.
+ordered_distinct : (es : Pairs Value) → are_distinct (names (in_key_order es)) ≡ true
+ordered_distinct es = ap (λ fs. are_distinct (names fs)) (entries_ordered es) ∙ ascending_distinct (all_put es []) (ordered_ascends es)
 
-abbrev nulls : List (List ℕ × Value) → List (List ℕ × Document)
-nulls es = map (λ (e : List ℕ × Value). (e.0, doc.null)) es
-
-abbrev Any : List ℕ → Value → Document → Type 0
-Any name v d = Unit {0}
-
-paired_nulls : (es : List (List ℕ × Value)) → Paired Any es (nulls es)
-paired_nulls [] = tt
-paired_nulls (e ∷ es) = (refl, tt, paired_nulls es)
-
-not_behind : (name : List ℕ) (es : List (List ℕ × Value)) (ms : Members) → Aligned Any es ms → Behind name ms → is_one_of name (map (λ (e : List ℕ × Value). e.0) es) ≡ false
-not_behind name [] ms aligned behind = refl
-not_behind name (e ∷ es) doc.no_members aligned behind = absurd aligned
-not_behind name (e ∷ es) (doc.member l d ms) aligned behind =
-    ap (λ t. t || is_one_of name (map (λ (e : List ℕ × Value). e.0) es)) (ap (same_text name) aligned.0 ∙ unlike (same_text name l) refl)
-    ∙ not_behind name es ms aligned.2 (behind_weaker name l ms behind.0 behind.1)
-  where
-    unlike : (t : Bool) → same_text name l ≡ t → t ≡ false
-    unlike false e = refl
-    unlike true e = let q : true ≡ false = sym e ∙ ap (same_text name) (sym (same_from_test name l (sym e))) ∙ sym (ap (same_text name) (sym (same_from_test name l (sym e)))) ∙ turn e in q
-      where
-        turn : same_text name l ≡ true → same_text name l ≡ false
-        turn h = let same = same_from_test name l (sym h) in ap (λ n. same_text n l) same ∙ ap (same_text l) (sym same) ∙ less_apart name l behind.0
-
-distinct_keys : (es : List (List ℕ × Value)) (ms : Members) → Aligned Any es ms → Sorted ms → are_distinct (map (λ (e : List ℕ × Value). e.0) es) ≡ true
-distinct_keys [] ms aligned sorted = refl
-distinct_keys (e ∷ es) doc.no_members aligned sorted = absurd aligned
-distinct_keys (e ∷ es) (doc.member l d ms) aligned sorted =
-    and_from (not (is_one_of e.0 (map (λ (e : List ℕ × Value). e.0) es))) (are_distinct (map (λ (e : List ℕ × Value). e.0) es))
-    (ap not (ap (λ n. is_one_of n (map (λ (e : List ℕ × Value). e.0) es)) aligned.0 ∙ not_behind l es ms aligned.2 sorted))
-    (distinct_keys es ms aligned.2 (sorted_tail l ms sorted))
-
-pub ordered_distinct : (es : List (List ℕ × Value)) → are_distinct (map (λ (e : List ℕ × Value). e.0) (in_key_order es)) ≡ true
-ordered_distinct es = distinct_keys (in_key_order es) (members_of (nulls es)) (all_aligned Any es (nulls es) [] doc.no_members (paired_nulls es) tt) (all_sorted (nulls es) doc.no_members tt)
-
-pub keys_of-entry_writes : (k l : Label) (es : List (List ℕ × Value)) → keys_of (entry_writes k l es) ≡ map (λ (e : List ℕ × Value). e.0) es
+pub keys_of-entry_writes : (k l : Label) (es : Pairs Value) → keys_of (entry_writes k l es) ≡ names es
 keys_of-entry_writes k l [] = refl
 keys_of-entry_writes k l (e ∷ es) = ap (λ ks. e.0 ∷ ks) (keys_of-entry_writes k l es)
 
@@ -136,7 +96,7 @@ pub record IsField (here : Option Schema) (f : List ℕ × Value) : Type 0 where
   pub known : is_some (named_member here (Some f.0)) ≡ true
   pub shaped : is_shaped (named_member here (Some f.0)) f.1 ≡ true
 
-last_field : (here : Option Schema) (name : List ℕ) (fields : List (List ℕ × Value)) (v : Value) → AllByRecursion (IsField here) fields → last_named name fields ≡ Some v → IsField here (name, v)
+pub last_field : (here : Option Schema) (name : List ℕ) (fields : Pairs Value) (v : Value) → AllByRecursion (IsField here) fields → last_named name fields ≡ Some v → IsField here (name, v)
 last_field here name [] v all e = absurd (cc e)
 last_field here name (f ∷ fields) v all e = go (last_named name fields) refl (λ v. last_field here name fields v all.1) e
   where
@@ -154,36 +114,30 @@ last_field here name (f ∷ fields) v all e = go (last_named name fields) refl (
               shaped = ap (λ n. is_shaped (named_member here (Some n)) v) (sym names) ∙ ap (is_shaped (named_member here (Some f.0))) (sym values) ∙ all.0.shaped;
             }
 
-fields_are_shaped : (here : Option Schema) (fields : List (List ℕ × Value)) (ms : List Schema) → AllByRecursion (IsField here) fields
-    → (are_fields_shaped here (writes_of (filter_map (field_of fields) ms)) ≡ true) × (are_writes_in_range (writes_of (filter_map (field_of fields) ms)) ≡ true)
-fields_are_shaped here fields [] all = (refl, refl)
+fields_are_shaped : (here : Option Schema) (fields : Pairs Value) (ms : List Schema) → AllByRecursion (IsField here) fields → are_fields_shaped here (writes_of (filter_map (field_of fields) ms)) ≡ true
+fields_are_shaped here fields [] all = refl
 fields_are_shaped here fields (m ∷ ms) all = go m.node.member_name refl (fields_are_shaped here fields ms all)
   where
-    rest : Writes
-    rest = writes_of (filter_map (field_of fields) ms)
-
-    go : (o : Option (List ℕ)) → m.node.member_name ≡ o → (are_fields_shaped here (writes_of (filter_map (field_of fields) ms)) ≡ true) × (are_writes_in_range (writes_of (filter_map (field_of fields) ms)) ≡ true)
-        → (are_fields_shaped here (writes_of (cons_option (option_map (λ v. record { label = label_of m; value = v }) (option_and_then (λ name. last_named name fields) o)) (filter_map (field_of fields) ms))) ≡ true)
-        × (are_writes_in_range (writes_of (cons_option (option_map (λ v. record { label = label_of m; value = v }) (option_and_then (λ name. last_named name fields) o)) (filter_map (field_of fields) ms))) ≡ true)
+    go : (o : Option (List ℕ)) → m.node.member_name ≡ o → are_fields_shaped here (writes_of (filter_map (field_of fields) ms)) ≡ true
+        → are_fields_shaped here (writes_of (cons_option (option_map (λ v. record { label = label_of m; value = v }) (option_and_then (λ name. last_named name fields) o)) (filter_map (field_of fields) ms))) ≡ true
     go None is done = done
     go (Some name) is done = by (last_named name fields) refl
       where
-        by : (o : Option Value) → last_named name fields ≡ o
-            → (are_fields_shaped here (writes_of (cons_option (option_map (λ v. record { label = label_of m; value = v }) o) (filter_map (field_of fields) ms))) ≡ true)
-            × (are_writes_in_range (writes_of (cons_option (option_map (λ v. record { label = label_of m; value = v }) o) (filter_map (field_of fields) ms))) ≡ true)
+        by : (o : Option Value) → last_named name fields ≡ o → are_fields_shaped here (writes_of (cons_option (option_map (λ v. record { label = label_of m; value = v }) o) (filter_map (field_of fields) ms))) ≡ true
         by None e = done
         by (Some v) e =
             let field = last_field here name fields v all e in
             let known : is_some (named_member here m.node.member_name) ≡ true = ap (λ n. is_some (named_member here n)) is ∙ field.known in
-            let shaped : is_shaped (named_member here m.node.member_name) v ≡ true = ap (λ n. is_shaped (named_member here n) v) is ∙ field.shaped in (
-              and_from (is_some (named_member here m.node.member_name) && is_shaped (named_member here m.node.member_name) v) (are_fields_shaped here rest)
-                  (and_from (is_some (named_member here m.node.member_name)) (is_shaped (named_member here m.node.member_name) v) known shaped) done.0,
-              and_from (is_in_range v) (are_writes_in_range rest) (shaped_range (named_member here m.node.member_name) v shaped) done.1,
-            )
+            let shaped : is_shaped (named_member here m.node.member_name) v ≡ true = ap (λ n. is_shaped (named_member here n) v) is ∙ field.shaped in
+            and_from (is_some (named_member here m.node.member_name) && is_shaped (named_member here m.node.member_name) v) (are_fields_shaped here (writes_of (filter_map (field_of fields) ms)))
+            (and_from (is_some (named_member here m.node.member_name)) (is_shaped (named_member here m.node.member_name) v) known shaped) done
 
-pub none_named : (ms : List Schema) → find (is_named None) ms ≡ None
-none_named [] = refl
-none_named (m ∷ ms) = none_named ms
+pub fields_range : (here : Option Schema) (ws : Writes) → are_fields_shaped here ws ≡ true → are_writes_in_range ws ≡ true
+fields_range here no_writes e = refl
+fields_range here (write l v ws) e =
+    let a = and_parts (is_some (named_member here l.member_name) && is_shaped (named_member here l.member_name) v) (are_fields_shaped here ws) e in
+    let b = and_parts (is_some (named_member here l.member_name)) (is_shaped (named_member here l.member_name) v) a.0 in
+    and_from (is_in_range v) (are_writes_in_range ws) (shaped_range (named_member here l.member_name) v b.1) (fields_range here ws a.1)
 
 null_shaped : (here : Option Schema) (t : Bool) → is_kind kind.Document here ≡ t → is_shaped here (if t then value.scalar (value.document doc.null) else (value.scalar value.null)) ≡ true
 null_shaped here false e = refl
@@ -220,10 +174,10 @@ mutual
       let b = and_parts (fits_at here (value.map ws) && keys && is_some values) (are_distinct (keys_of ws)) a.0 in
       let c = and_parts (fits_at here (value.map ws) && keys) (is_some values) b.0 in
       let d = and_parts (fits_at here (value.map ws)) keys c.0 in
-      let es : List (List ℕ × Value) = in_key_order (settled_entries values ws) in
+      let es : Pairs Value = in_key_order (settled_entries values ws) in
       let k : Label = own_label (option_and_then key_of here) _ in
       let l : Label = own_label values _ in
-      let all = ordered_entries values (settled_entries values ws) [] (entries_keep_shape values ws a.1) tt in
+      let all = ordered_entries values (settled_entries values ws) (entries_keep_shape values ws a.1) in
       let now : Writes = entry_writes k l es in
       let fit = fits_as here (value.map ws) (value.map now) d.0 refl (entries_in_range values k l es all) in
       let distinct : are_distinct (keys_of now) ≡ true = ap are_distinct (keys_of-entry_writes k l es) ∙ ordered_distinct (settled_entries values ws) in
@@ -236,9 +190,9 @@ mutual
       let b = and_parts (fits_at here (value.structure ws)) (has_distinct_fields here) a.0 in
       let all = fields_are_shaped here (settled_fields here ws) (fields_at here) (fields_keep_shape here ws a.1) in
       let now : Value = structure_value here (settled_fields here ws) in
-      let fit = fits_as here (value.structure ws) now b.0 refl all.1 in
+      let fit = fits_as here (value.structure ws) now b.0 refl (fields_range here (writes_of (filter_map (field_of (settled_fields here ws)) (fields_at here))) all) in
       and_from (fits_at here now && has_distinct_fields here) (are_fields_shaped here (writes_of (filter_map (field_of (settled_fields here ws)) (fields_at here))))
-      (and_from (fits_at here now) (has_distinct_fields here) fit b.1) all.0
+      (and_from (fits_at here now) (has_distinct_fields here) fit b.1) all
   keeps_shape here _ e = e
 
   each_keeps_shape : (element : Option Schema) (ws : Writes) → are_shaped element ws ≡ true → are_shaped element (settled_elements element ws) ≡ true
@@ -247,19 +201,19 @@ mutual
       let parts = and_parts (is_shaped element v) (are_shaped element ws) e in
       and_from (is_shaped element (settled element v)) (are_shaped element (settled_elements element ws)) (keeps_shape element v parts.0) (each_keeps_shape element ws parts.1)
 
-  entries_keep_shape : (values : Option Schema) (ws : Writes) → are_entries_shaped values ws ≡ true → AllByRecursion (IsEntry values) (settled_entries values ws)
+  pub entries_keep_shape : (values : Option Schema) (ws : Writes) → are_entries_shaped values ws ≡ true → AreEntries values (settled_entries values ws)
   entries_keep_shape values no_writes e = tt
   entries_keep_shape values (write k key ws) e =
       let parts = and_parts (fits_in_range kind.String key) (are_values_shaped values ws) e in
       behind_keeps_shape values (text_of_key key) ws (key_utf8 key parts.0) parts.1
 
-  behind_keeps_shape : (values : Option Schema) (key : List ℕ) (ws : Writes) → is_utf8 key ≡ true → are_values_shaped values ws ≡ true → AllByRecursion (IsEntry values) (settled_behind values key ws)
+  behind_keeps_shape : (values : Option Schema) (key : List ℕ) (ws : Writes) → is_utf8 key ≡ true → are_values_shaped values ws ≡ true → AreEntries values (settled_behind values key ws)
   behind_keeps_shape values key no_writes utf8 e = tt
   behind_keeps_shape values key (write l v ws) utf8 e =
       let parts = and_parts (is_shaped values v) (are_entries_shaped values ws) e in
-      (record { key = utf8; shaped = keeps_shape values v parts.0 }, entries_keep_shape values ws parts.1)
+      ((utf8, keeps_shape values v parts.0), entries_keep_shape values ws parts.1)
 
-  fields_keep_shape : (here : Option Schema) (ws : Writes) → are_fields_shaped here ws ≡ true → AllByRecursion (IsField here) (settled_fields here ws)
+  pub fields_keep_shape : (here : Option Schema) (ws : Writes) → are_fields_shaped here ws ≡ true → AllByRecursion (IsField here) (settled_fields here ws)
   fields_keep_shape here no_writes e = tt
   fields_keep_shape here (write l v ws) e =
       let a = and_parts (is_some (named_member here l.member_name) && is_shaped (named_member here l.member_name) v) (are_fields_shaped here ws) e in

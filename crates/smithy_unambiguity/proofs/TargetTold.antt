@@ -20,46 +20,28 @@ use Rattle.smithy_schema.specs.WellMade.{has_utf8}
 use Rattle.smithy_binding.specs.Placing.{Protocol, Omit, template_of}
 use Rattle.smithy_binding.specs.NormalForm.{member_view, bound_view_at, with_own_elements, unless_empty}
 use Rattle.smithy_unambiguity.proofs.Bytes.{AreBytes-from_utf8}
-use Rattle.smithy_unambiguity.proofs.ByMember.{first_value, first_at, at_member}
-use Rattle.smithy_unambiguity.proofs.ByName.{found-front, front, query_of, pairs_of_member}
+use Rattle.smithy_unambiguity.proofs.ByMember.{first_value, first_texts}
+use Rattle.smithy_unambiguity.proofs.ByName.{found-front, front}
 use Rattle.smithy_unambiguity.proofs.Fits.{is_flat}
 use Rattle.smithy_unambiguity.proofs.HeaderTexts.{none_written}
-use Rattle.smithy_unambiguity.proofs.HeadersTold.{AreSeenSame, typed_writes, clear_template}
+use Rattle.smithy_unambiguity.proofs.HeadersTold.{AreSeenSame, bound_told, clear_template}
 use Rattle.smithy_unambiguity.proofs.LabelFirst.{label_of_first}
 use Rattle.smithy_unambiguity.proofs.Labels.{path_tells_labels}
 use Rattle.smithy_unambiguity.proofs.MemberTexts.{query_told, query_list_told, bound_list, list_of_element}
-use Rattle.smithy_unambiguity.proofs.Members.{held_member, names_apart, all_have_names, HasApartNames}
-use Rattle.smithy_unambiguity.proofs.Placed.{HasTypedWrites, IsPlacedValue, placed_value, bound_member_view, member_among, placed_bound}
-use Rattle.smithy_unambiguity.proofs.Positions.{members_by_position, queries_apart, query_name_found}
+use Rattle.smithy_unambiguity.proofs.Members.{member_in_place, names_apart, all_have_names, HasApartNames}
+use Rattle.smithy_unambiguity.proofs.Placed.{IsPlacedValue, placed_value, member_among}
+use Rattle.smithy_unambiguity.proofs.Positions.{members_by_position}
 use Rattle.smithy_unambiguity.proofs.Queries.{query_tells_texts}
+use Rattle.smithy_unambiguity.proofs.QueryNames.{pairs_of_member}
 use Rattle.smithy_unambiguity.proofs.TemplateQuery.{pieces_of_template, query_leaves_path}
+use Rattle.smithy_unambiguity.proofs.Traits.{trait_of}
 use Rattle.smithy_unambiguity.proofs.TextsBytes.{labels_are_bytes, pairs_are_bytes}
 use Rattle.smithy_unambiguity.proofs.Values.{flat_value, flat_texts}
-
--- the texts of a member's first write
-abbrev pub first_texts : Schema → Option Value → List (List ℕ)
-first_texts m o = option_map_or (λ v. unwrap_or (texts m v) []) o []
-
-by_value : (m : Schema) (i : ℕ) (o : Option Value) → option_map_or (λ (r : Resolved). unwrap_or (texts m r.value) []) (option_map (at_member i m) o) [] ≡ first_texts m o
-by_value m i None = refl
-by_value m i (Some v) = refl
 
 there : (m : Schema) (v : Value) (is : IsPlacedValue m v) → unwrap_or (texts m v) [] ≡ is.ts
 there m v is = ap (λ (o : Option (List (List ℕ))). unwrap_or o []) is.texts
 
 -- Labels.
-
-label_at : (h p q : Option (List ℕ)) (query_map label payload : Bool) → binding_at h p q query_map label payload ≡ to_label → label ≡ true
-label_at (Some h) p q query_map label payload e = absurd (cc e)
-label_at None (Some p) q query_map label payload e = absurd (cc e)
-label_at None None (Some q) query_map label payload e = absurd (cc e)
-label_at None None None true label payload e = absurd (cc e)
-label_at None None None false true payload e = refl
-label_at None None None false false true e = absurd (cc e)
-label_at None None None false false false e = absurd (cc e)
-
-pub label_of : (m : Schema) → binding_of m ≡ to_label → m.node.traits.http_label ≡ true
-label_of m e = label_at m.node.traits.http_header m.node.traits.http_prefix_headers m.node.traits.http_query m.node.traits.http_query_params m.node.traits.http_label m.node.traits.http_payload e
 
 -- the one text of a flat value
 one_text : (m : Schema) (v : Value) → is_flat m.node.kind ≡ true → (is : IsPlacedValue m v) → (t : List ℕ) × (is.ts ≡ t ∷ [])
@@ -96,41 +78,26 @@ label_kind m is kinds =
 pub label_member_told : (protocol : Protocol) (schema : Schema) (endpoint : List ℕ) (omit : Omit) (v w : List Write) → AreSeenSame protocol schema endpoint omit v w → (i : ℕ) (m : Schema)
     → member_at schema i ≡ Some m → has_bound_kind m ≡ true → binding_of m ≡ to_label → member_view schema v i m ≡ member_view schema w i m
 label_member_told protocol schema endpoint omit v w are i m at kinds label =
-    bound_member_view schema v i m at bound
-    ∙ ap (option_and_then (bound_view_at (binding_of m) (query_names schema) m))
-    (flat_part m (first_value schema v i) (first_value schema w i) (label_kind m (label_of m label) kinds)
-    (λ u e. placed_value schema v i m u typed_v at placed e) (λ u e. placed_value schema w i m u typed_w at placed e)
-    (sym (of_first v) ∙ told ∙ of_first w))
-    ∙ sym (bound_member_view schema w i m at bound)
+    bound_told protocol schema endpoint omit v w are i m to_label at label refl
+    (ap (option_and_then Some)
+    (flat_part m (first_value schema v i) (first_value schema w i) (label_kind m (trait_of m to_label label) kinds)
+    (λ u e. placed_value schema v i m u are.writes_v at (ap is_placed_at label) e) (λ u e. placed_value schema w i m u are.writes_w at (ap is_placed_at label) e)
+    (sym (of_first v) ∙ told ∙ of_first w)))
   where
-    placed : is_placed_at (binding_of m) ≡ true
-    placed = ap is_placed_at label
-
-    bound : is_bound m ≡ true
-    bound = placed_bound (binding_of m) placed
-
-    typed_v : HasTypedWrites schema v
-    typed_v = typed_writes protocol schema endpoint omit v are.typed_v
-
-    typed_w : HasTypedWrites schema w
-    typed_w = typed_writes protocol schema endpoint omit w are.typed_w
-
     apart : HasApartNames schema
-    apart = names_apart schema are.checked are.setting.held
+    apart = names_apart schema are.checked are.setting.well_made
 
     of_first : (ws : List Write) → found (name_of m) (labels schema ws) ≡ front (first_texts m (first_value schema ws i))
-    of_first ws =
-        found-front (name_of m) (labels schema ws)
-        ∙ ap front (label_of_first schema apart ws i m at label ∙ ap (λ (o : Option Resolved). option_map_or (λ (r : Resolved). unwrap_or (texts m r.value) []) o []) (first_at schema ws i m at) ∙ by_value m i (first_value schema ws i))
+    of_first ws = found-front (name_of m) (labels schema ws) ∙ ap front (label_of_first schema apart ws i m at label)
 
     told : found (name_of m) (labels schema v) ≡ found (name_of m) (labels schema w)
     told =
         member_among (λ n. found (name_of n) (labels schema v) ≡ found (name_of n) (labels schema w)) (λ n. n.node.traits.http_label) (members_of schema) i m
         (path_tells_labels schema (template_of schema endpoint) (labels schema v) (labels schema w) are.request_v.path are.request_w.path
-        (labels_are_bytes schema v typed_v.conforming typed_v.in_range) (labels_are_bytes schema w typed_w.conforming typed_w.in_range)
-        (all_have_names (λ n. n.node.traits.http_label) schema are.setting.held) (clear_template schema endpoint are.checked are.typed_v.clear) are.request_v.fills are.request_w.fills
+        (labels_are_bytes schema v are.writes_v.conforming are.writes_v.in_range) (labels_are_bytes schema w are.writes_w.conforming are.writes_w.in_range)
+        (all_have_names (λ n. n.node.traits.http_label) schema are.setting.well_made) (clear_template schema endpoint are.checked are.typed_v.clear) are.request_v.fills are.request_w.fills
         (sym (query_leaves_path are.request_v.path (pairs schema v)) ∙ are.seen.paths ∙ query_leaves_path are.request_w.path (pairs schema w)))
-        (members_by_position schema are.checked i ∙ at) (label_of m label)
+        (members_by_position schema are.checked i ∙ at) (trait_of m to_label label)
 
 -- The query.
 
@@ -138,10 +105,8 @@ label_member_told protocol schema endpoint omit v w are i m at kinds label =
 pub pairs_told : (protocol : Protocol) (schema : Schema) (endpoint : List ℕ) (omit : Omit) (v w : List Write) → AreSeenSame protocol schema endpoint omit v w → (name : List ℕ) → AreBytes name
     → values_at name (pairs schema v) ≡ values_at name (pairs schema w)
 pairs_told protocol schema endpoint omit v w are name bytes =
-    let typed_v = typed_writes protocol schema endpoint omit v are.typed_v in
-    let typed_w = typed_writes protocol schema endpoint omit w are.typed_w in
     query_tells_texts are.request_v.path are.request_w.path name (pairs schema v) (pairs schema w) bytes
-    (pairs_are_bytes schema v are.setting.held typed_v.conforming typed_v.in_range) (pairs_are_bytes schema w are.setting.held typed_w.conforming typed_w.in_range)
+    (pairs_are_bytes schema v are.setting.well_made are.writes_v.conforming are.writes_v.in_range) (pairs_are_bytes schema w are.setting.well_made are.writes_w.conforming are.writes_w.in_range)
     (pieces_of_template schema (template_of schema endpoint) (labels schema v) (labels schema w) are.request_v.path are.request_w.path (clear_template schema endpoint are.checked are.typed_v.clear) are.request_v.fills are.request_w.fills)
     (are.seen.query (escape name))
 
@@ -191,31 +156,13 @@ query_part m names name o p kinds is_o is_p e = go (same_kind m.node.kind kind.L
         let q : false ≡ true = sym is_list ∙ ap (λ k. same_kind k kind.List) l.kind in
         absurd (cc q)
 
-utf8_of : (o : Option (List ℕ)) (n : List ℕ) → has_utf8 o ≡ true → o ≡ Some n → is_utf8 n ≡ true
-utf8_of o n h e = ap has_utf8 (sym e) ∙ h
-
 pub query_member_told : (protocol : Protocol) (schema : Schema) (endpoint : List ℕ) (omit : Omit) (v w : List Write) → AreSeenSame protocol schema endpoint omit v w → (i : ℕ) (m : Schema) (name : List ℕ)
     → member_at schema i ≡ Some m → has_bound_kind m ≡ true → binding_of m ≡ to_query name → member_view schema v i m ≡ member_view schema w i m
 query_member_told protocol schema endpoint omit v w are i m name at kinds query =
-    bound_member_view schema v i m at bound
-    ∙ ap (λ b. option_and_then (bound_view_at b (query_names schema) m) (first_value schema v i)) query
-    ∙ query_part m (query_names schema) name (first_value schema v i) (first_value schema w i) (query_kinds m name (query_of m name query) kinds)
-    (λ u e. placed_value schema v i m u (typed_writes protocol schema endpoint omit v are.typed_v) at placed e)
-    (λ u e. placed_value schema w i m u (typed_writes protocol schema endpoint omit w are.typed_w) at placed e)
-    (sym (of_first v) ∙ pairs_told protocol schema endpoint omit v w are name bytes ∙ of_first w)
-    ∙ ap (λ b. option_and_then (bound_view_at b (query_names schema) m) (first_value schema w i)) (sym query)
-    ∙ sym (bound_member_view schema w i m at bound)
+    bound_told protocol schema endpoint omit v w are i m (to_query name) at query refl
+    (query_part m (query_names schema) name (first_value schema v i) (first_value schema w i) (query_kinds m name (trait_of m (to_query name) query) kinds)
+    (λ u e. placed_value schema v i m u are.writes_v at (ap is_placed_at query) e) (λ u e. placed_value schema w i m u are.writes_w at (ap is_placed_at query) e)
+    (sym (pairs_of_member schema are.checked v i m name at query) ∙ pairs_told protocol schema endpoint omit v w are name bytes ∙ pairs_of_member schema are.checked w i m name at query))
   where
-    placed : is_placed_at (binding_of m) ≡ true
-    placed = ap is_placed_at query
-
-    bound : is_bound m ≡ true
-    bound = placed_bound (binding_of m) placed
-
     bytes : AreBytes name
-    bytes = AreBytes-from_utf8 name (utf8_of m.node.traits.http_query name (held_member schema i m are.setting.held at).texts.query (query_of m name query))
-
-    of_first : (ws : List Write) → values_at name (pairs schema ws) ≡ first_texts m (first_value schema ws i)
-    of_first ws =
-        pairs_of_member schema (queries_apart schema are.checked) ws i m name at query (query_name_found schema are.checked i m name at (query_of m name query))
-        ∙ ap (λ (o : Option Resolved). option_map_or (λ (r : Resolved). unwrap_or (texts m r.value) []) o []) (first_at schema ws i m at) ∙ by_value m i (first_value schema ws i)
+    bytes = AreBytes-from_utf8 name (ap has_utf8 (sym (trait_of m (to_query name) query)) ∙ (member_in_place schema i m are.setting.well_made at).texts.query)

@@ -16,12 +16,11 @@ use Rattle.smithy_binding.specs.Faults.{writes_fault}
 use Rattle.smithy_schema.specs.WellMade.{is_well_made, has_utf8}
 use Rattle.smithy_unambiguity.proofs.AsciiTexts.{utf8_from_low}
 use Rattle.smithy_unambiguity.proofs.Bytes.{AreBytes-from_utf8}
-use Rattle.smithy_unambiguity.proofs.ByName.{query_of}
-use Rattle.smithy_unambiguity.proofs.Conforming.{resolved_at}
+use Rattle.smithy_unambiguity.proofs.Traits.{trait_of}
+use Rattle.smithy_unambiguity.proofs.Conforming.{resolved_at, IsFittingWrite, fitting_writes}
 use Rattle.smithy_unambiguity.proofs.Firsts.{all_firsts}
-use Rattle.smithy_unambiguity.proofs.Fitting.{IsHeldWrite, held_writes}
-use Rattle.smithy_unambiguity.proofs.Members.{held_member}
-use Rattle.smithy_unambiguity.proofs.PairLemmas.{both_hold, all_filter}
+use Rattle.smithy_unambiguity.proofs.Members.{member_in_place}
+use Rattle.smithy_unambiguity.proofs.Lists.{both_hold, all_filter, all_given}
 use Rattle.smithy_unambiguity.proofs.Values.{each_first}
 use Rattle.smithy_unambiguity.proofs.WireTexts.{wire_utf8}
 use Rattle.smithy_unambiguity.proofs.Paths.{HaveBytes}
@@ -51,15 +50,7 @@ texts_utf8 m (value.list ws) range = go (each (element_text (place_of m)) (list_
     go None e = tt
     go (Some ts) e = elements_utf8 (place_of m) ws ts range e
 texts_utf8 m (value.map ws) range = tt
-texts_utf8 m (value.scalar (value.boolean b)) range = one_utf8 m (value.scalar (value.boolean b)) range
-texts_utf8 m (value.scalar (value.whole w z)) range = one_utf8 m (value.scalar (value.whole w z)) range
-texts_utf8 m (value.scalar (value.big_integer t)) range = one_utf8 m (value.scalar (value.big_integer t)) range
-texts_utf8 m (value.scalar (value.big_decimal t)) range = one_utf8 m (value.scalar (value.big_decimal t)) range
-texts_utf8 m (value.scalar (value.text t)) range = one_utf8 m (value.scalar (value.text t)) range
-texts_utf8 m (value.scalar (value.blob bytes)) range = one_utf8 m (value.scalar (value.blob bytes)) range
-texts_utf8 m (value.scalar (value.timestamp z)) range = one_utf8 m (value.scalar (value.timestamp z)) range
-texts_utf8 m (value.scalar (value.document d)) range = one_utf8 m (value.scalar (value.document d)) range
-texts_utf8 m (value.scalar value.null) range = one_utf8 m (value.scalar value.null) range
+texts_utf8 m (value.scalar x) range = one_utf8 m (value.scalar x) range
 texts_utf8 m (value.structure ws) range = one_utf8 m (value.structure ws) range
 
 -- a pair of a name and a text
@@ -108,18 +99,8 @@ map_in_range (value.scalar s) range = tt
 map_in_range (value.list ws) range = tt
 map_in_range (value.structure ws) range = tt
 
-all_append : (P : List ℕ × List ℕ → Type 0) (ps qs : List (List ℕ × List ℕ)) → AllByRecursion P ps → AllByRecursion P qs → AllByRecursion P (ps ++ qs)
-all_append P [] qs a b = b
-all_append P (p ∷ ps) qs a b = (a.0, all_append P ps qs a.1 b)
-
 entries_bytes : (es : List (List ℕ × Value)) → AllByRecursion IsEntryInRange es → AllByRecursion IsBytePair (flat_map entry_pairs es)
-entries_bytes [] all = tt
-entries_bytes (e ∷ es) all =
-    all_append IsBytePair (entry_pairs e) (flat_map entry_pairs es) (under_bytes e.0 (entry_texts e.1) (AreBytes-from_utf8 e.0 all.0.0) (entry_utf8 e.1 all.0.1)) (entries_bytes es all.1)
-
-all_given : (P : List ℕ × List ℕ → Type 0) (Q : Resolved → Type 0) (g : Resolved → List (List ℕ × List ℕ)) (rs : List Resolved) → ((r : Resolved) → Q r → AllByRecursion P (g r)) → AllByRecursion Q rs → AllByRecursion P (flat_map g rs)
-all_given P Q g [] f all = tt
-all_given P Q g (r ∷ rs) f all = all_append P (g r) (flat_map g rs) (f r all.0) (all_given P Q g rs f all.1)
+entries_bytes es all = all_given IsBytePair IsEntryInRange entry_pairs es (λ e range. under_bytes e.0 (entry_texts e.1) (AreBytes-from_utf8 e.0 range.0) (entry_utf8 e.1 range.1)) all
 
 labelled_at_bytes : (b : Binding) (m : Schema) (v : Value) → is_in_range v ≡ true → HaveBytes (labelled_at b m v)
 labelled_at_bytes to_label m v range = labelled_bytes (name_of m) (unwrap_or (texts m v) []) (texts_utf8 m v range)
@@ -128,28 +109,21 @@ labelled_at_bytes _ m v range = tt
 pub labels_are_bytes : (schema : Schema) (ws : List Write) → writes_fault schema [] ws ≡ None → are_in_range ws ≡ true → HaveBytes (labels schema ws)
 unfolding labels
 labels_are_bytes schema ws conforming range =
-    all_given (λ p. AreBytes p.1) IsHeldWrite labelled (firsts schema ws) (λ r held. labelled_at_bytes (binding_of r.member) r.member r.value held.in_range)
-    (all_firsts IsHeldWrite (all_resolved schema ws) (held_writes schema ws conforming range))
-
-utf8_of : (o : Option (List ℕ)) (n : List ℕ) → has_utf8 o ≡ true → o ≡ Some n → is_utf8 n ≡ true
-utf8_of o n h e = ap has_utf8 (sym e) ∙ h
+    all_given (λ p. AreBytes p.1) IsFittingWrite labelled (firsts schema ws) (λ r fitting. labelled_at_bytes (binding_of r.member) r.member r.value fitting.in_range)
+    (all_firsts IsFittingWrite (all_resolved schema ws) (fitting_writes schema ws conforming range))
 
 pub pairs_are_bytes : (schema : Schema) (ws : List Write) → is_well_made schema ≡ true → writes_fault schema [] ws ≡ None → are_in_range ws ≡ true → AllByRecursion IsBytePair (pairs schema ws)
 unfolding pairs
-pairs_are_bytes schema ws held conforming range =
+pairs_are_bytes schema ws well_made conforming range =
     all_given IsBytePair Both (pairs_of schema) (firsts schema ws) (λ r both. by r both (binding_of r.member) refl)
-    (all_firsts Both (all_resolved schema ws) (both_hold IsHeldWrite (λ r. member_at schema r.position ≡ Some r.member) (all_resolved schema ws) (held_writes schema ws conforming range) (resolved_at schema ws)))
+    (all_firsts Both (all_resolved schema ws) (both_hold IsFittingWrite (λ r. member_at schema r.position ≡ Some r.member) (all_resolved schema ws) (fitting_writes schema ws conforming range) (resolved_at schema ws)))
   where
     Both : Resolved → Type 0
-    Both r = IsHeldWrite r × (member_at schema r.position ≡ Some r.member)
+    Both r = IsFittingWrite r × (member_at schema r.position ≡ Some r.member)
 
-    by : (r : Resolved) → IsHeldWrite r × (member_at schema r.position ≡ Some r.member) → (b : Binding) → binding_of r.member ≡ b → AllByRecursion IsBytePair (pairs_at b (query_names schema) r.member r.value)
+    by : (r : Resolved) → IsFittingWrite r × (member_at schema r.position ≡ Some r.member) → (b : Binding) → binding_of r.member ≡ b → AllByRecursion IsBytePair (pairs_at b (query_names schema) r.member r.value)
     by r both (to_query name) e =
-        let member = held_member schema r.position r.member held both.1 in
-        under_bytes name (unwrap_or (texts r.member r.value) []) (AreBytes-from_utf8 name (utf8_of r.member.node.traits.http_query name member.texts.query (query_of r.member name e))) (texts_utf8 r.member r.value both.0.in_range)
+        let member = member_in_place schema r.position r.member well_made both.1 in
+        under_bytes name (unwrap_or (texts r.member r.value) []) (AreBytes-from_utf8 name (ap has_utf8 (sym (trait_of r.member (to_query name) e)) ∙ member.texts.query)) (texts_utf8 r.member r.value both.0.in_range)
     by r both to_query_map e = entries_bytes (filter (has_key_outside (query_names schema)) (map_entries r.value)) (all_filter IsEntryInRange (has_key_outside (query_names schema)) (map_entries r.value) (map_in_range r.value both.0.in_range))
-    by r both (to_header n) e = tt
-    by r both (to_prefix n) e = tt
-    by r both to_label e = tt
-    by r both to_payload e = tt
-    by r both to_body e = tt
+    by r both _ e = tt

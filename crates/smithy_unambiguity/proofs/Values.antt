@@ -20,7 +20,7 @@ use Rattle.smithy_binding.specs.Bindings.{member_text, element_text, texts, plac
 use Rattle.smithy_binding.specs.Faults.{element_fault, wrong_item_kind}
 use Rattle.smithy_binding.specs.Checked.{same_format}
 use Rattle.smithy_binding.specs.NormalForm.{with_own_elements}
-use Rattle.smithy_unambiguity.proofs.Fits.{is_flat, taken, SameForm-from_fits}
+use Rattle.smithy_unambiguity.proofs.Fits.{is_flat, taken}
 use Rattle.smithy_unambiguity.proofs.Wires.{wire-injective}
 
 -- each element of a list fits the element node, and is in range
@@ -126,6 +126,6 @@ elements_told k f e place (write l v vs) (write m u us) ts flat fit_v fit_u own_
     let rests : x.rest ≡ y.rest = cc both in
     let first_v : wire f false place v ≡ Some x.text = ap (λ g. wire g false place v) (sym own_v.0) ∙ x.first in
     let first_u : wire f false place u ≡ Some x.text = ap (λ g. wire g false place u) (sym own_u.0) ∙ y.first ∙ ap Some (sym texts) in
-    let same = wire-injective f false place v u x.text (SameForm-from_fits k v u flat fit_v.0 fit_u.0) (and_parts (is_in_range v) (fits k v) fit_v.0).0 (and_parts (is_in_range u) (fits k u) fit_u.0).0 first_v first_u in
+    let same = wire-injective f false place k v u x.text flat fit_v.0 fit_u.0 first_v first_u in
     let rest = elements_told k f e place vs us x.rest flat fit_v.1 fit_u.1 own_v.1 own_u.1 x.later (y.later ∙ ap Some (sym rests)) in
     λ i. write (label_of e) (settled (Some e) (same i)) (rest i)

@@ -1,7 +1,6 @@
 -- The normal form has the document of its input, and is typed where its target is a legal one.
 use Rattle.std.proofs.Common.{◌≡◌, refl, sym, ◌∙◌, ap, ℕ, true, List, Option, Some, None, option_map, option_and_then}
 use Rattle.std.specs.Result.{result_ok, result_err}
-use Rattle.std.proofs.lemmas.List.Sums.{list_all-from_AllPass}
 use Rattle.smithy_schema.specs.Nodes.{Schema, member_at, members_of as nodes_of}
 use Rattle.smithy_schema.specs.Templates.{pieces}
 use Rattle.smithy_serde.specs.Values.{Value, Write}
@@ -20,8 +19,7 @@ use Rattle.smithy_unambiguity.proofs.HeadersTold.{typed_writes}
 use Rattle.smithy_unambiguity.proofs.Placed.{member_has}
 use Rattle.smithy_unambiguity.proofs.Positions.{members_by_position}
 use Rattle.smithy_unambiguity.proofs.Conformity.{conforming, from_conforming}
-use Rattle.smithy_unambiguity.proofs.UnboundTold.{are_bodied}
-use Rattle.smithy_unambiguity.proofs.Conforming.{resolved_at}
+use Rattle.smithy_unambiguity.proofs.BodyObject.{typed_bodied}
 use Rattle.smithy_unambiguity.proofs.ViewBody.{bodied_view, docs_alike, doc_by, body_of_view}
 use Rattle.smithy_unambiguity.proofs.ViewHeaders.{headers_of_view}
 use Rattle.smithy_unambiguity.proofs.ViewParts.{labels_of_view}
@@ -43,26 +41,24 @@ view_body_fault schema ws same e =
 pub view_typed : TargetOfView → ViewTyped
 view_typed target protocol schema endpoint omit ws setting typed =
     let checked = IsCheckedInput-from_test schema setting.checked in
-    let viewed = has_viewed protocol schema endpoint omit ws checked typed in
-    let alike = docs_alike protocol schema endpoint omit ws checked setting.held typed in
+    let viewed = has_viewed protocol schema endpoint omit ws checked setting.well_made typed in
+    let alike = docs_alike protocol schema endpoint omit ws checked setting.well_made typed in
     let x = conforming schema ws endpoint typed.conforming in
-    let kinds : (m : Schema) (i : ℕ) → member_at schema i ≡ Some m → has_bound_kind m ≡ true = λ m i at.
-    member_has has_bound_kind (nodes_of schema) i m (list_all-from_AllPass has_bound_kind (nodes_of schema) checked.kinds) (members_by_position schema checked i ∙ at) in
-    let fills = fill_same (labels schema (view schema ws)) (labels schema ws) (pieces (template_of schema endpoint)) (labels_of_view schema ws checked setting.held) ∙ x.fills in
+    let fills = fill_same (labels schema (view schema ws)) (labels schema ws) (pieces (template_of schema endpoint)) (labels_of_view schema ws checked setting.well_made) ∙ x.fills in
     record {
       in_range = view_in_range schema ws checked viewed;
       conforming = from_conforming schema (view schema ws) endpoint (record {
-        writes = view_writes_conform schema ws checked setting.held viewed;
+        writes = view_writes_conform schema ws checked setting.well_made viewed;
         body = view_body_fault schema ws alike x.body;
         path = x.path;
         fills = fills;
         legal = target protocol schema endpoint omit ws setting typed x.path x.legal;
       });
-      unbound_shaped = unbound_are_shaped schema (all_resolved schema (view schema ws)) (bodied_view schema ws checked setting.held (are_bodied schema (all_resolved schema ws) (resolved_at schema ws) typed.unbound_shaped));
-      payload_shaped = view_payload_shaped schema ws checked setting.held viewed;
-      placed_values = view_placed_values schema ws checked setting.held viewed;
-      defaults = view_defaults protocol schema omit ws (body_of_view protocol schema endpoint omit ws checked setting.held typed) (headers_of_view schema ws checked setting.held kinds (typed_writes protocol schema endpoint omit ws typed)) typed.defaults;
-      prefixed = view_prefixed schema ws checked setting.held viewed;
+      unbound_shaped = unbound_are_shaped schema (all_resolved schema (view schema ws)) (bodied_view schema ws checked setting.well_made (typed_bodied protocol schema endpoint omit ws typed));
+      payload_shaped = view_payload_shaped schema ws checked setting.well_made viewed;
+      placed_values = view_placed_values schema ws checked setting.well_made viewed;
+      defaults = view_defaults protocol schema omit ws (body_of_view protocol schema endpoint omit ws checked setting.well_made typed) (headers_of_view schema ws checked setting.well_made (typed_writes protocol schema endpoint omit ws typed)) typed.defaults;
+      prefixed = view_prefixed schema ws checked setting.well_made viewed;
       clear = typed.clear;
       shallow = ap is_shallow (doc_by (document_value schema (view schema ws)) ∙ ap (option_and_then result_ok) alike ∙ sym (doc_by (document_value schema ws))) ∙ typed.shallow;
     }

@@ -6,10 +6,11 @@ use Rattle.std.specs.Str.{str_to_ascii_lowercase}
 use Rattle.std.proofs.lemmas.Bool.{eqb-true}
 use Rattle.std.proofs.lemmas.List.{map-append, append_cancel_left}
 use Rattle.smithy_types.specs.Texts.{found, same_text}
-use Rattle.smithy_schema.specs.Nodes.{Schema, member_at, Binding, to_header, to_prefix, to_query, to_query_map, to_label, to_payload, to_body, binding_of}
+use Rattle.smithy_schema.specs.Nodes.{Schema, member_at, Binding, to_header, to_prefix, binding_of}
 use Rattle.smithy_serde.specs.Values.{Value, Write, text_of_key}
 use Rattle.smithy_serde.specs.Writes.{Resolved}
 use Rattle.smithy_http.specs.Facts.{values_at}
+use Rattle.smithy_http.proofs.ValueLemmas.{lower_twice}
 use Rattle.smithy_binding.specs.Bindings.{headers, inserted_at, query_names, place_at}
 use Rattle.smithy_binding.specs.Checked.{IsCheckedInput, has_bound_kind, is_text_map}
 use Rattle.smithy_binding.specs.Faults.{is_placed_at}
@@ -19,17 +20,18 @@ use Rattle.smithy_binding.specs.Placing.{with_default}
 use Rattle.smithy_binding.proofs.Tests.{same_text_self}
 use Rattle.smithy_document.proofs.OrderedPairs.{Pairs, all_put}
 use Rattle.smithy_unambiguity.proofs.LastTexts.{last_value, lowered}
-use Rattle.smithy_unambiguity.proofs.ByMember.{at_member, first_value, only_member}
-use Rattle.smithy_unambiguity.proofs.ByName.{under_name, found-front, front}
+use Rattle.smithy_unambiguity.proofs.ByMember.{at_member, first_value, only_member, none_given}
+use Rattle.smithy_unambiguity.proofs.ByName.{found-front, front}
 use Rattle.smithy_unambiguity.proofs.EntriesTold.{as_text}
 use Rattle.smithy_unambiguity.proofs.HeaderNames.{HasApartHeaders, headers_apart}
-use Rattle.smithy_unambiguity.proofs.Headers.{given, headers_at, header_values, headers_of_member, header_of, prefix_of, prefixed, map_pairs, inserted_entries, none_prefixed}
+use Rattle.smithy_unambiguity.proofs.Headers.{given, given_is, headers_at, header_values, headers_of_member, prefixed, map_pairs, none_prefixed, under_front, named_header, is_prefix, nothing_inserted}
 use Rattle.smithy_unambiguity.proofs.HeadersTold.{header_kinds}
-use Rattle.smithy_unambiguity.proofs.MapsTold.{written_pairs, prefix_map_view, text_map_at, lower_again}
+use Rattle.smithy_unambiguity.proofs.MapsTold.{written_pairs, prefix_map_view, text_map_at}
 use Rattle.smithy_unambiguity.proofs.PairLemmas.{AllPairs, ordered_all}
-use Rattle.smithy_unambiguity.proofs.Placed.{HasTypedWrites, IsPlacedValue, placed_value}
+use Rattle.smithy_unambiguity.proofs.Placed.{HasTypedWrites, IsPlacedValue, placed_value, kinds_at}
 use Rattle.smithy_unambiguity.proofs.Queries.{values_at-append}
-use Rattle.smithy_unambiguity.proofs.ViewParts.{member_or, none_given, bound_part}
+use Rattle.smithy_unambiguity.proofs.Traits.{trait_of}
+use Rattle.smithy_unambiguity.proofs.ViewParts.{member_or, bound_part}
 use Rattle.smithy_unambiguity.proofs.ViewValues.{header_kept, map_left, ordered_last}
 
 -- Header members.
@@ -37,7 +39,7 @@ use Rattle.smithy_unambiguity.proofs.ViewValues.{header_kept, map_left, ordered_
 header_part_left : (m : Schema) (names : List (List ℕ)) (name : List ℕ) (o : Option Value) → (m' : binding_of m ≡ to_header name) → has_bound_kind m ≡ true → ((v : Value) → o ≡ Some v → IsPlacedValue m v)
     → option_map_or (header_values m) (option_and_then (bound_view_at (to_header name) names m) o) [] ≡ option_map_or (header_values m) o []
 header_part_left m names name None header kinds is = refl
-header_part_left m names name (Some v) header kinds is = header_kept m v (header_kinds m name (header_of m name header) kinds) (ap place_at header) (is v refl).value
+header_part_left m names name (Some v) header kinds is = header_kept m v (header_kinds m name (trait_of m (to_header name) header) kinds) (ap place_at header) (is v refl).value
 
 -- The prefix map.
 
@@ -46,7 +48,7 @@ AreLower ps = AllPairs (λ k. str_to_ascii_lowercase k ≡ k) (λ t. t ≡ t) ps
 
 are_lower : (ps : Pairs (List ℕ)) → AreLower (lowered ps)
 are_lower [] = tt
-are_lower (p ∷ ps) = ((lower_again p.0, refl), are_lower ps)
+are_lower (p ∷ ps) = ((lower_twice p.0, refl), are_lower ps)
 
 lower_same : (ps : Pairs (List ℕ)) → AreLower ps → lowered ps ≡ ps
 lower_same [] all = refl
@@ -66,27 +68,6 @@ begins_or (b ∷ front) (c ∷ name) = go (b == c) refl (begins_or front name)
     go true e (inl x) = let same = eqb-true b c e in inl (x.0, λ i. sym same i ∷ x.1 i)
     go true e (inr none) = inr (λ key h. let q : front ++ key ≡ name = cc h in none key q)
     go false e rest = inr (λ key h. let q : b ≡ c = cc h in let z : true ≡ false = sym (eq-eqb b c q) ∙ e in cc z)
-
--- under a name with the prefix stands what stands under the key, in lower case
-under_front : (prefix key : List ℕ) (ps : List (List ℕ × List ℕ)) → values_at (str_to_ascii_lowercase prefix ++ key) (prefixed prefix ps) ≡ values_at key (lowered ps)
-under_front prefix key [] = refl
-under_front prefix key (p ∷ ps) = go (same_text (str_to_ascii_lowercase (prefix ++ p.0)) (str_to_ascii_lowercase prefix ++ key)) (same_text (str_to_ascii_lowercase p.0) key) refl refl (under_front prefix key ps)
-  where
-    go : (s t : Bool) → same_text (str_to_ascii_lowercase (prefix ++ p.0)) (str_to_ascii_lowercase prefix ++ key) ≡ s → same_text (str_to_ascii_lowercase p.0) key ≡ t
-        → values_at (str_to_ascii_lowercase prefix ++ key) (prefixed prefix ps) ≡ values_at key (lowered ps)
-        → values_at (str_to_ascii_lowercase prefix ++ key) (prefixed prefix (p ∷ ps)) ≡ values_at key (lowered (p ∷ ps))
-    go true true es et rest = rw (es, et) (ap (λ vs. p.1 ∷ vs) rest)
-    go false false es et rest = rw (es, et) rest
-    go true false es et rest =
-        let whole = sym (map-append _ prefix p.0) ∙ same_from_test (str_to_ascii_lowercase (prefix ++ p.0)) (str_to_ascii_lowercase prefix ++ key) (sym es) in
-        let keys : str_to_ascii_lowercase p.0 ≡ key = append_cancel_left (str_to_ascii_lowercase prefix) (str_to_ascii_lowercase p.0) key whole in
-        let q : true ≡ false = sym (same_text_self (str_to_ascii_lowercase p.0)) ∙ ap (same_text (str_to_ascii_lowercase p.0)) keys ∙ et in
-        absurd (cc q)
-    go false true es et rest =
-        let keys = same_from_test (str_to_ascii_lowercase p.0) key (sym et) in
-        let whole : str_to_ascii_lowercase (prefix ++ p.0) ≡ str_to_ascii_lowercase prefix ++ key = map-append _ prefix p.0 ∙ ap (λ k. str_to_ascii_lowercase prefix ++ k) keys in
-        let q : true ≡ false = sym (same_text_self (str_to_ascii_lowercase (prefix ++ p.0))) ∙ ap (same_text (str_to_ascii_lowercase (prefix ++ p.0))) whole ∙ es in
-        absurd (cc q)
 
 prefix_left : (prefix name : List ℕ) (ps : List (List ℕ × List ℕ)) → last_value (values_at name (prefixed prefix (all_put (lowered ps) []))) ≡ last_value (values_at name (prefixed prefix ps))
 prefix_left prefix name ps = go (begins_or (str_to_ascii_lowercase prefix) name)
@@ -111,10 +92,6 @@ prefix_part_left m names prefix name (Some v) text_map is =
 
 -- Headers.
 
-abbrev named_header : List ℕ → Binding → Bool
-named_header name (to_header n) = same_text (str_to_ascii_lowercase n) name
-named_header name _ = false
-
 -- a header of this name
 record IsHeaderNamed (name : List ℕ) (b : Binding) : Type 0 where
   own : List ℕ
@@ -123,41 +100,15 @@ record IsHeaderNamed (name : List ℕ) (b : Binding) : Type 0 where
 
 header_named : (name : List ℕ) (b : Binding) → named_header name b ≡ true → IsHeaderNamed name b
 header_named name (to_header n) e = record { own = n; is = refl; lower = same_from_test (str_to_ascii_lowercase n) name (sym e) }
-header_named name (to_query n) e = absurd (cc e)
-header_named name (to_prefix n) e = absurd (cc e)
-header_named name to_query_map e = absurd (cc e)
-header_named name to_label e = absurd (cc e)
-header_named name to_payload e = absurd (cc e)
-header_named name to_body e = absurd (cc e)
-
-abbrev is_prefix : Binding → Bool
-is_prefix (to_prefix p) = true
-is_prefix _ = false
+header_named name _ e = absurd (cc e)
 
 prefix_is : (b : Binding) → is_prefix b ≡ true → (p : List ℕ) × (b ≡ to_prefix p)
 prefix_is (to_prefix p) e = (p, refl)
-prefix_is (to_header n) e = absurd (cc e)
-prefix_is (to_query n) e = absurd (cc e)
-prefix_is to_query_map e = absurd (cc e)
-prefix_is to_label e = absurd (cc e)
-prefix_is to_payload e = absurd (cc e)
-prefix_is to_body e = absurd (cc e)
+prefix_is _ e = absurd (cc e)
 
-nothing_inserted : (name : List ℕ) (r : Resolved) → named_header name (binding_of r.member) ≡ false → is_prefix (binding_of r.member) ≡ false → given name r ≡ []
-nothing_inserted name r unnamed no_prefix = go (binding_of r.member) unnamed no_prefix
-  where
-    go : (b : Binding) → named_header name b ≡ false → is_prefix b ≡ false → values_at name (inserted_at b r.member r.value) ≡ []
-    go (to_header n) a c = under_name name (str_to_ascii_lowercase n) false (header_values r.member r.value) a
-    go (to_prefix p) a c = absurd (cc c)
-    go (to_query n) a c = refl
-    go to_query_map a c = refl
-    go to_label a c = refl
-    go to_payload a c = refl
-    go to_body a c = refl
-
-pub headers_of_view : (schema : Schema) (ws : List Write) → IsCheckedInput schema → is_well_made schema ≡ true → ((m : Schema) (i : ℕ) → member_at schema i ≡ Some m → has_bound_kind m ≡ true) → HasTypedWrites schema ws
+pub headers_of_view : (schema : Schema) (ws : List Write) → IsCheckedInput schema → is_well_made schema ≡ true → HasTypedWrites schema ws
     → (name : List ℕ) → values_at name (headers schema (view schema ws)) ≡ values_at name (headers schema ws)
-headers_of_view schema ws checked held kinds typed name = go (member_or schema checked (λ m. named_header name (binding_of m))) (member_or schema checked (λ m. is_prefix (binding_of m)))
+headers_of_view schema ws checked well_made typed name = go (member_or schema checked (λ m. named_header name (binding_of m))) (member_or schema checked (λ m. is_prefix (binding_of m)))
   where
     apart : HasApartHeaders schema
     apart = headers_apart schema checked
@@ -171,16 +122,16 @@ headers_of_view schema ws checked held kinds typed name = go (member_or schema c
         let of_first : (us : List Write) → values_at name (headers schema us) ≡ option_to_list (last_value (option_map_or (header_values m) (first_value schema us x.0) [])) = λ us.
         ap (λ n. values_at n (headers schema us)) (sym h.lower) ∙ headers_of_member schema us x.0 m h.own apart x.2 h.is in
         of_first (view schema ws)
-        ∙ ap (λ (o : Option Value). option_to_list (last_value (option_map_or (header_values m) o []))) (bound_part schema ws x.0 m (to_header h.own) checked held x.2 h.is refl)
-        ∙ ap (λ vs. option_to_list (last_value vs)) (header_part_left m (query_names schema) h.own (first_value schema ws x.0) h.is (kinds m x.0 x.2) (λ v e. placed_value schema ws x.0 m v typed x.2 (ap is_placed_at h.is) e))
+        ∙ ap (λ (o : Option Value). option_to_list (last_value (option_map_or (header_values m) o []))) (bound_part schema ws x.0 m (to_header h.own) checked well_made x.2 h.is refl)
+        ∙ ap (λ vs. option_to_list (last_value vs)) (header_part_left m (query_names schema) h.own (first_value schema ws x.0) h.is (kinds_at schema checked x.0 m x.2) (λ v e. placed_value schema ws x.0 m v typed x.2 (ap is_placed_at h.is) e))
         ∙ sym (of_first ws)
     go (inr unnamed) (inr no_prefix) =
         let none : (us : List Write) → values_at name (headers schema us) ≡ [] = λ us.
-        headers_at schema us name ∙ ap (λ vs. option_to_list (last_value vs)) (none_given (given name) schema us (λ r at. nothing_inserted name r (unnamed r.position r.member at) (no_prefix r.position r.member at))) in
+        headers_at schema us name ∙ ap (λ vs. option_to_list (last_value vs)) (none_given (given name) schema us (λ r at. nothing_inserted name r (unnamed r.position r.member at) (λ p e. let q : true ≡ false = sym (ap is_prefix e) ∙ no_prefix r.position r.member at in absurd (cc q)))) in
         none (view schema ws) ∙ sym (none ws)
     go (inr unnamed) (inl x) =
         of_map (view schema ws)
-        ∙ ap (λ o. option_to_list (last_value (values_at name (prefixed prefix (written_pairs o))))) (bound_part schema ws x.0 x.1 (to_prefix prefix) checked held x.2 begins refl)
+        ∙ ap (λ o. option_to_list (last_value (values_at name (prefixed prefix (written_pairs o))))) (bound_part schema ws x.0 x.1 (to_prefix prefix) checked well_made x.2 begins refl)
         ∙ ap option_to_list (prefix_part_left x.1 (query_names schema) prefix name (first_value schema ws x.0) (text_map_at schema checked x.0 x.1 prefix x.2 begins) (λ v e. placed_value schema ws x.0 x.1 v typed x.2 (ap is_placed_at begins) e))
         ∙ sym (of_map ws)
       where
@@ -191,20 +142,16 @@ headers_of_view schema ws checked held kinds typed name = go (member_or schema c
         begins = (prefix_is (binding_of x.1) x.3).1
 
         others : (r : Resolved) → member_at schema r.position ≡ Some r.member → r.position ≢ x.0 → given name r ≡ []
-        others r at_r other = nothing_inserted name r (unnamed r.position r.member at_r) (no_prefix (is_prefix (binding_of r.member)) refl)
-          where
-            no_prefix : (t : Bool) → is_prefix (binding_of r.member) ≡ t → is_prefix (binding_of r.member) ≡ false
-            no_prefix false e = e
-            no_prefix true e =
-                let p = prefix_is (binding_of r.member) e in
-                absurd (other (apart.one_prefix r.position x.0 r.member x.1 at_r x.2 (ap is_some (prefix_of r.member p.0 p.1)) (ap is_some (prefix_of x.1 prefix begins))))
+        others r at_r other =
+            nothing_inserted name r (unnamed r.position r.member at_r)
+            (λ p e. absurd (other (apart.one_prefix r.position x.0 r.member x.1 at_r x.2 (ap is_some (trait_of r.member (to_prefix p) e)) (ap is_some (trait_of x.1 (to_prefix (prefix_is (binding_of x.1) x.3).0) begins)))))
 
         of_map : (us : List Write) → values_at name (headers schema us) ≡ option_to_list (last_value (values_at name (prefixed (prefix_is (binding_of x.1) x.3).0 (written_pairs (first_value schema us x.0)))))
         of_map us = headers_at schema us name ∙ ap (λ vs. option_to_list (last_value vs)) (only_member (given name) schema us x.0 x.1 x.2 others ∙ by (first_value schema us x.0))
           where
             by : (o : Option Value) → option_map_or (λ v. given name (at_member x.0 x.1 v)) o [] ≡ values_at name (prefixed (prefix_is (binding_of x.1) x.3).0 (written_pairs o))
             by None = refl
-            by (Some v) = ap (λ b. values_at name (inserted_at b x.1 v)) begins ∙ ap (values_at name) (inserted_entries (prefix_is (binding_of x.1) x.3).0 x.1 v)
+            by (Some v) = ap (λ b. values_at name (inserted_at b x.1 v)) begins ∙ given_is name (to_prefix (prefix_is (binding_of x.1) x.3).0) x.1 v
 
 -- Headers with the defaults.
 

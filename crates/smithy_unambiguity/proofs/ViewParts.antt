@@ -8,7 +8,7 @@ use Rattle.smithy_types.specs.Texts.{found, same_text, is_one_of}
 use Rattle.smithy_ids.specs.declared.shape_type.ShapeType.{ShapeType}
 use Rattle.smithy_ids.specs.declared.shape_type.ShapeType.TheVariants as kind
 use Rattle.smithy_ids.specs.Kinds.{same_kind, is_scalar}
-use Rattle.smithy_schema.specs.Nodes.{Schema, element_of, value_of, member_at, members_of, name_of, Binding, to_header, to_prefix, to_query, to_query_map, to_label, to_payload, to_body, binding_of}
+use Rattle.smithy_schema.specs.Nodes.{Schema, element_of, value_of, member_at, members_of, name_of, Binding, to_query, to_query_map, to_label, binding_of, is_outside_body}
 use Rattle.smithy_serde.specs.Values as value
 use Rattle.smithy_serde.specs.Values.{Value, Writes, no_writes, write, Write}
 use Rattle.smithy_serde.specs.NormalBody.{settled_elements}
@@ -19,20 +19,19 @@ use Rattle.smithy_binding.specs.Checked.{IsCheckedInput, has_element, has_bound_
 use Rattle.smithy_binding.specs.Faults.{is_placed_at}
 use Rattle.smithy_schema.specs.WellMade.{is_well_made}
 use Rattle.smithy_binding.specs.NormalForm.{view, bound_view_at, unless_empty, with_own_elements}
-use Rattle.smithy_unambiguity.proofs.ByMember.{at_member, first_value, first_at, only_member, no_member}
-use Rattle.smithy_unambiguity.proofs.ByName.{no_values, values_at-flat_map, under_name, query_of, pairs_of_member, found-front, front}
-use Rattle.smithy_unambiguity.proofs.Conforming.{resolved_at}
-use Rattle.smithy_unambiguity.proofs.EntriesTold.{own_value, key_texts, written_texts, text_pairs, query_map_gives, query_texts, query_texts_kept}
-use Rattle.smithy_unambiguity.proofs.Firsts.{all_firsts}
+use Rattle.smithy_unambiguity.proofs.ByMember.{first_value, first_texts}
+use Rattle.smithy_unambiguity.proofs.ByName.{found-front, front}
+use Rattle.smithy_unambiguity.proofs.EntriesTold.{own_value, key_texts, written_texts, text_pairs, query_texts, query_texts_kept}
 use Rattle.smithy_unambiguity.proofs.Fits.{is_flat}
-use Rattle.smithy_unambiguity.proofs.LabelFirst.{label_of_first}
+use Rattle.smithy_unambiguity.proofs.LabelFirst.{is_label, label_is, is_label_named, no_labels, label_of_first}
 use Rattle.smithy_unambiguity.proofs.MapsTold.{query_map_view, query_map_at, keys_distinct}
 use Rattle.smithy_unambiguity.proofs.MemberTexts.{list_of_element, bound_list}
 use Rattle.smithy_unambiguity.proofs.Members.{names_apart, HasApartNames}
-use Rattle.smithy_unambiguity.proofs.Placed.{HasTypedWrites, IsPlacedValue, placed_value, bound_member_view, placed_bound}
-use Rattle.smithy_unambiguity.proofs.Positions.{members_by_position, queries_apart, query_name_found}
-use Rattle.smithy_unambiguity.proofs.QueryMap.{one_query_map, query_map_of}
-use Rattle.smithy_unambiguity.proofs.TargetTold.{first_texts, query_kinds}
+use Rattle.smithy_unambiguity.proofs.Placed.{HasTypedWrites, IsPlacedValue, placed_value, bound_view_of, kinds_at}
+use Rattle.smithy_unambiguity.proofs.Positions.{members_by_position}
+use Rattle.smithy_unambiguity.proofs.QueryNames.{named_query, is_map, map_is, IsUnnamed, no_pairs, pairs_of_member, pairs_of_map}
+use Rattle.smithy_unambiguity.proofs.TargetTold.{query_kinds}
+use Rattle.smithy_unambiguity.proofs.Traits.{trait_of}
 use Rattle.smithy_unambiguity.proofs.ViewValues.{list_texts_kept, map_left, own_texts}
 use Rattle.smithy_unambiguity.proofs.ViewWrites.{first_value_of_view}
 
@@ -61,21 +60,11 @@ member_or schema checked t = go (some_or t (members_of schema))
     go (inl found) = inl (found.0, found.1, sym (members_by_position schema checked found.0) ∙ found.2, found.3)
     go (inr none) = inr (λ i m at. none i m (members_by_position schema checked i ∙ at))
 
--- where no member's write gives anything, no writes do
-pub none_given : {X : Type 0} (g : Resolved → List X) (schema : Schema) (ws : List Write) → ((r : Resolved) → member_at schema r.position ≡ Some r.member → g r ≡ []) → flat_map g (firsts schema ws) ≡ []
-none_given g schema ws none = no_member g schema (firsts schema ws) (all_firsts (λ r. g r ≡ []) (all_resolved schema ws) (all (all_resolved schema ws) (resolved_at schema ws)))
-  where
-    all : (rs : List Resolved) → AllByRecursion (λ r. member_at schema r.position ≡ Some r.member) rs → AllByRecursion (λ r. g r ≡ []) rs
-    all [] h = tt
-    all (r ∷ rs) h = (none r h.0, all rs h.1)
-
 -- The parts of the normal form that a bound member's first write leaves.
 
-pub bound_part : (schema : Schema) (ws : List Write) (i : ℕ) (m : Schema) (b : Binding) → IsCheckedInput schema → is_well_made schema ≡ true → member_at schema i ≡ Some m → binding_of m ≡ b → is_placed_at b ≡ true
+pub bound_part : (schema : Schema) (ws : List Write) (i : ℕ) (m : Schema) (b : Binding) → IsCheckedInput schema → is_well_made schema ≡ true → member_at schema i ≡ Some m → binding_of m ≡ b → is_outside_body b ≡ true
     → first_value schema (view schema ws) i ≡ option_and_then (bound_view_at b (query_names schema) m) (first_value schema ws i)
-bound_part schema ws i m b checked held at is placed =
-    first_value_of_view schema ws i m checked held at ∙ bound_member_view schema ws i m at (placed_bound (binding_of m) (ap is_placed_at is ∙ placed))
-    ∙ ap (λ c. option_and_then (bound_view_at c (query_names schema) m) (first_value schema ws i)) is
+bound_part schema ws i m b checked well_made at is bound = first_value_of_view schema ws i m checked well_made at ∙ bound_view_of schema ws i m b at is bound
 
 -- Query members.
 
@@ -86,16 +75,7 @@ list_left m (write l v ws) = refl
 -- a list is no scalar
 pub no_list : (k : ShapeType) → is_scalar k ≡ true → same_kind k kind.List ≡ true → ⊥
 no_list kind.List a c = cc a
-no_list kind.Boolean a c = cc c
-no_list kind.Byte a c = cc c
-no_list kind.Short a c = cc c
-no_list kind.Integer a c = cc c
-no_list kind.Long a c = cc c
-no_list kind.BigInteger a c = cc c
-no_list kind.BigDecimal a c = cc c
-no_list kind.String a c = cc c
-no_list kind.Timestamp a c = cc c
-no_list _ a c = cc a
+no_list _ a c = cc (a, c)
 
 query_left : (m : Schema) (names : List (List ℕ)) (name : List ℕ) (v : Value) → (is_scalar m.node.kind || has_element is_scalar m) ≡ true → IsPlacedValue m v
     → first_texts m (bound_view_at (to_query name) names m v) ≡ unwrap_or (texts m v) []
@@ -133,168 +113,52 @@ query_map_left m names name (Some v) query_map is =
 
 -- Pairs.
 
-abbrev named_query : List ℕ → Binding → Bool
-named_query name (to_query n) = same_text n name
-named_query name _ = false
-
 query_named : (name : List ℕ) (b : Binding) → named_query name b ≡ true → b ≡ to_query name
 query_named name (to_query n) e = ap to_query (same_from_test n name (sym e))
-query_named name (to_header n) e = absurd (cc e)
-query_named name (to_prefix n) e = absurd (cc e)
-query_named name to_query_map e = absurd (cc e)
-query_named name to_label e = absurd (cc e)
-query_named name to_payload e = absurd (cc e)
-query_named name to_body e = absurd (cc e)
+query_named name _ e = absurd (cc e)
 
-abbrev is_map : Binding → Bool
-is_map to_query_map = true
-is_map _ = false
-
-map_is : (b : Binding) → is_map b ≡ true → b ≡ to_query_map
-map_is to_query_map e = refl
-map_is (to_query n) e = absurd (cc e)
-map_is (to_header n) e = absurd (cc e)
-map_is (to_prefix n) e = absurd (cc e)
-map_is to_label e = absurd (cc e)
-map_is to_payload e = absurd (cc e)
-map_is to_body e = absurd (cc e)
-
--- what a write gives to the query at a name
-abbrev asked : Schema → List ℕ → Resolved → List (List ℕ)
-asked schema name r = values_at name (pairs_of schema r)
-
--- no other binding gives a pair of the name
-nothing_asked : (schema : Schema) (name : List ℕ) (r : Resolved) → named_query name (binding_of r.member) ≡ false → is_map (binding_of r.member) ≡ false → asked schema name r ≡ []
-nothing_asked schema name r unnamed no_map = go (binding_of r.member) unnamed no_map
+pub pairs_of_view : (schema : Schema) (ws : List Write) → IsCheckedInput schema → is_well_made schema ≡ true → HasTypedWrites schema ws → (name : List ℕ) → values_at name (pairs schema (view schema ws)) ≡ values_at name (pairs schema ws)
+pairs_of_view schema ws checked well_made typed name = go (member_or schema checked (λ m. named_query name (binding_of m))) (member_or schema checked (λ m. is_map (binding_of m)))
   where
-    go : (b : Binding) → named_query name b ≡ false → is_map b ≡ false → values_at name (pairs_at b (query_names schema) r.member r.value) ≡ []
-    go (to_query n) a c = under_name name n false (unwrap_or (texts r.member r.value) []) a
-    go to_query_map a c = absurd (cc c)
-    go (to_header n) a c = refl
-    go (to_prefix n) a c = refl
-    go to_label a c = refl
-    go to_payload a c = refl
-    go to_body a c = refl
-
-pairs_at_name : (schema : Schema) (ws : List Write) (name : List ℕ) → values_at name (pairs schema ws) ≡ flat_map (asked schema name) (firsts schema ws)
-unfolding pairs
-pairs_at_name schema ws name = values_at-flat_map name (pairs_of schema) (firsts schema ws)
-
-by_value : (m : Schema) (i : ℕ) (o : Option Value) → option_map_or (λ (r : Resolved). unwrap_or (texts m r.value) []) (option_map (at_member i m) o) [] ≡ first_texts m o
-by_value m i None = refl
-by_value m i (Some v) = refl
-
-pub pairs_of_view : (schema : Schema) (ws : List Write) → IsCheckedInput schema → is_well_made schema ≡ true → ((m : Schema) (i : ℕ) → member_at schema i ≡ Some m → has_bound_kind m ≡ true) → HasTypedWrites schema ws
-    → (name : List ℕ) → values_at name (pairs schema (view schema ws)) ≡ values_at name (pairs schema ws)
-pairs_of_view schema ws checked held kinds typed name = go (member_or schema checked (λ m. named_query name (binding_of m))) (member_or schema checked (λ m. is_map (binding_of m)))
-  where
-    go : ((i : ℕ) × (m : Schema) × (member_at schema i ≡ Some m) × (named_query name (binding_of m) ≡ true)) ⊎ ((i : ℕ) (m : Schema) → member_at schema i ≡ Some m → named_query name (binding_of m) ≡ false)
+    go : ((i : ℕ) × (m : Schema) × (member_at schema i ≡ Some m) × (named_query name (binding_of m) ≡ true)) ⊎ IsUnnamed schema name
         → ((i : ℕ) × (m : Schema) × (member_at schema i ≡ Some m) × (is_map (binding_of m) ≡ true)) ⊎ ((i : ℕ) (m : Schema) → member_at schema i ≡ Some m → is_map (binding_of m) ≡ false)
         → values_at name (pairs schema (view schema ws)) ≡ values_at name (pairs schema ws)
     go (inl x) other =
         let i = x.0 in
         let m = x.1 in
         let query = query_named name (binding_of m) x.3 in
-        let of_first : (us : List Write) → values_at name (pairs schema us) ≡ first_texts m (first_value schema us i) = λ us.
-        pairs_of_member schema (queries_apart schema checked) us i m name x.2 query (query_name_found schema checked i m name x.2 (query_of m name query))
-        ∙ ap (λ (o : Option Resolved). option_map_or (λ (r : Resolved). unwrap_or (texts m r.value) []) o []) (first_at schema us i m x.2) ∙ by_value m i (first_value schema us i) in
-        of_first (view schema ws) ∙ ap (first_texts m) (bound_part schema ws i m (to_query name) checked held x.2 query refl)
-        ∙ query_part_left m (query_names schema) name (first_value schema ws i) (query_kinds m name (query_of m name query) (kinds m i x.2)) (λ v e. placed_value schema ws i m v typed x.2 (ap is_placed_at query) e)
-        ∙ sym (of_first ws)
-    go (inr unnamed) (inr no_map) =
-        let none : (us : List Write) → values_at name (pairs schema us) ≡ [] = λ us.
-        pairs_at_name schema us name ∙ none_given (asked schema name) schema us (λ r at. nothing_asked schema name r (unnamed r.position r.member at) (no_map r.position r.member at)) in
-        none (view schema ws) ∙ sym (none ws)
-    go (inr unnamed) (inl x) = of_map (view schema ws) ∙ left ∙ sym (of_map ws)
-      where
-        query_map : binding_of x.1 ≡ to_query_map
-        query_map = map_is (binding_of x.1) x.3
-
-        others : (r : Resolved) → member_at schema r.position ≡ Some r.member → r.position ≢ x.0 → asked schema name r ≡ []
-        others r at_r other = nothing_asked schema name r (unnamed r.position r.member at_r) (no_map (is_map (binding_of r.member)) refl)
-          where
-            no_map : (t : Bool) → is_map (binding_of r.member) ≡ t → is_map (binding_of r.member) ≡ false
-            no_map false e = e
-            no_map true e = absurd (other (one_query_map schema checked r.position x.0 r.member x.1 at_r x.2 (query_map_of r.member (map_is (binding_of r.member) e)) (query_map_of x.1 query_map)))
-
-        of_map : (us : List Write) → values_at name (pairs schema us) ≡ cond (is_one_of name (query_names schema)) [] (values_at name (flat_map text_pairs (written_texts (first_value schema us x.0))))
-        of_map us = pairs_at_name schema us name ∙ only_member (asked schema name) schema us x.0 x.1 x.2 others ∙ by (first_value schema us x.0)
-          where
-            by : (o : Option Value) → option_map_or (λ v. asked schema name (at_member x.0 x.1 v)) o [] ≡ cond (is_one_of name (query_names schema)) [] (values_at name (flat_map text_pairs (written_texts o)))
-            by None = none (is_one_of name (query_names schema))
-              where
-                none : (t : Bool) → no_values ≡ cond t no_values no_values
-                none true = refl
-                none false = refl
-            by (Some v) = ap (λ b. values_at name (pairs_at b (query_names schema) x.1 v)) query_map ∙ query_map_gives (query_names schema) name v
-
-        left : cond (is_one_of name (query_names schema)) [] (values_at name (flat_map text_pairs (written_texts (first_value schema (view schema ws) x.0))))
-            ≡ cond (is_one_of name (query_names schema)) [] (values_at name (flat_map text_pairs (written_texts (first_value schema ws x.0))))
-        left =
-            ap (λ o. cond (is_one_of name (query_names schema)) [] (values_at name (flat_map text_pairs (written_texts o)))) (bound_part schema ws x.0 x.1 to_query_map checked held x.2 query_map refl)
-            ∙ query_map_left x.1 (query_names schema) name (first_value schema ws x.0) (query_map_at schema checked x.0 x.1 x.2 query_map) (λ v e. placed_value schema ws x.0 x.1 v typed x.2 (ap is_placed_at query_map) e)
+        pairs_of_member schema checked (view schema ws) i m name x.2 query ∙ ap (first_texts m) (bound_part schema ws i m (to_query name) checked well_made x.2 query refl)
+        ∙ query_part_left m (query_names schema) name (first_value schema ws i) (query_kinds m name (trait_of m (to_query name) query) (kinds_at schema checked i m x.2)) (λ v e. placed_value schema ws i m v typed x.2 (ap is_placed_at query) e)
+        ∙ sym (pairs_of_member schema checked ws i m name x.2 query)
+    go (inr unnamed) (inr no_map) = no_pairs schema (view schema ws) name unnamed no_map ∙ sym (no_pairs schema ws name unnamed no_map)
+    go (inr unnamed) (inl x) =
+        let query_map = map_is (binding_of x.1) x.3 in
+        pairs_of_map schema checked (view schema ws) x.0 x.1 name x.2 query_map unnamed
+        ∙ ap (λ o. cond (is_one_of name (query_names schema)) [] (values_at name (flat_map text_pairs (written_texts o)))) (bound_part schema ws x.0 x.1 to_query_map checked well_made x.2 query_map refl)
+        ∙ query_map_left x.1 (query_names schema) name (first_value schema ws x.0) (query_map_at schema checked x.0 x.1 x.2 query_map) (λ v e. placed_value schema ws x.0 x.1 v typed x.2 (ap is_placed_at query_map) e)
+        ∙ sym (pairs_of_map schema checked ws x.0 x.1 name x.2 query_map unnamed)
 
 -- Labels.
-
-abbrev is_label : Binding → Bool
-is_label to_label = true
-is_label _ = false
-
-label_is : (b : Binding) → is_label b ≡ true → b ≡ to_label
-label_is to_label e = refl
-label_is to_query_map e = absurd (cc e)
-label_is (to_query n) e = absurd (cc e)
-label_is (to_header n) e = absurd (cc e)
-label_is (to_prefix n) e = absurd (cc e)
-label_is to_payload e = absurd (cc e)
-label_is to_body e = absurd (cc e)
-
--- a label member of this name
-abbrev is_label_named : List ℕ → Schema → Bool
-is_label_named name m = is_label (binding_of m) && same_text (name_of m) name
-
-abbrev spoken : List ℕ → Resolved → List (List ℕ)
-spoken name r = values_at name (labelled r)
-
-labels_at_name : (schema : Schema) (ws : List Write) (name : List ℕ) → values_at name (labels schema ws) ≡ flat_map (spoken name) (firsts schema ws)
-unfolding labels
-labels_at_name schema ws name = values_at-flat_map name labelled (firsts schema ws)
-
-nothing_spoken : (name : List ℕ) (r : Resolved) → is_label_named name r.member ≡ false → spoken name r ≡ []
-nothing_spoken name r other = go (binding_of r.member) other
-  where
-    go : (b : Binding) → (is_label b && same_text (name_of r.member) name) ≡ false → values_at name (labelled_at b r.member r.value) ≡ []
-    go to_label e = under_name name (name_of r.member) false (unwrap_or (texts r.member r.value) []) e
-    go to_query_map e = refl
-    go (to_query n) e = refl
-    go (to_header n) e = refl
-    go (to_prefix n) e = refl
-    go to_payload e = refl
-    go to_body e = refl
 
 same_option : (o : Option Value) → option_and_then (λ v. Some v) o ≡ o
 same_option None = refl
 same_option (Some v) = refl
 
 pub labels_of_view : (schema : Schema) (ws : List Write) → IsCheckedInput schema → is_well_made schema ≡ true → (name : List ℕ) → found name (labels schema (view schema ws)) ≡ found name (labels schema ws)
-labels_of_view schema ws checked held name = found-front name (labels schema (view schema ws)) ∙ ap front (go (member_or schema checked (is_label_named name))) ∙ sym (found-front name (labels schema ws))
+labels_of_view schema ws checked well_made name = found-front name (labels schema (view schema ws)) ∙ ap front (go (member_or schema checked (is_label_named name))) ∙ sym (found-front name (labels schema ws))
   where
     apart : HasApartNames schema
-    apart = names_apart schema checked held
+    apart = names_apart schema checked well_made
 
     go : ((i : ℕ) × (m : Schema) × (member_at schema i ≡ Some m) × (is_label_named name m ≡ true)) ⊎ ((i : ℕ) (m : Schema) → member_at schema i ≡ Some m → is_label_named name m ≡ false)
         → values_at name (labels schema (view schema ws)) ≡ values_at name (labels schema ws)
-    go (inr none) =
-        let nothing : (us : List Write) → values_at name (labels schema us) ≡ [] = λ us. labels_at_name schema us name ∙ none_given (spoken name) schema us (λ r at. nothing_spoken name r (none r.position r.member at)) in
-        nothing (view schema ws) ∙ sym (nothing ws)
+    go (inr none) = no_labels schema (view schema ws) name none ∙ sym (no_labels schema ws name none)
     go (inl x) =
         let m = x.1 in
         let tests = and_parts (is_label (binding_of m)) (same_text (name_of m) name) x.3 in
         let label = label_is (binding_of m) tests.0 in
-        let named = same_from_test (name_of m) name (sym tests.1) in
         let of_first : (us : List Write) → values_at name (labels schema us) ≡ first_texts m (first_value schema us x.0) = λ us.
-        ap (λ n. values_at n (labels schema us)) (sym named) ∙ label_of_first schema apart us x.0 m x.2 label
-        ∙ ap (λ (o : Option Resolved). option_map_or (λ (r : Resolved). unwrap_or (texts m r.value) []) o []) (first_at schema us x.0 m x.2) ∙ by_value m x.0 (first_value schema us x.0) in
+        ap (λ n. values_at n (labels schema us)) (sym (same_from_test (name_of m) name (sym tests.1))) ∙ label_of_first schema apart us x.0 m x.2 label in
         of_first (view schema ws)
-        ∙ ap (first_texts m) (bound_part schema ws x.0 m to_label checked held x.2 label refl ∙ same_option (first_value schema ws x.0))
+        ∙ ap (first_texts m) (bound_part schema ws x.0 m to_label checked well_made x.2 label refl ∙ same_option (first_value schema ws x.0))
         ∙ sym (of_first ws)

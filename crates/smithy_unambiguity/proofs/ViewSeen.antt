@@ -2,7 +2,6 @@
 use Rattle.std.proofs.Common.{◌≡◌, refl, sym, ◌∙◌, ap, ℕ, ◌⊎◌, inl, inr, Bool, true, false, cond, List, [], ◌∷◌, ◌++◌, map, filter, length, codes, decimal, Result, Ok, Some, option_map}
 use Rattle.std.specs.List.{AllByRecursion}
 use Rattle.std.specs.Cmp.Lexicographic.{same_text as same_from_test}
-use Rattle.std.proofs.lemmas.List.Sums.{list_all-from_AllPass}
 use Rattle.std.proofs.lemmas.List.{map-append}
 use Rattle.smithy_types.specs.Texts.{found, same_text}
 use Rattle.smithy_types.specs.Grammars.{before_query}
@@ -18,19 +17,20 @@ use Rattle.smithy_binding.specs.Filling.{fill, fill_rest, filled_hole}
 use Rattle.smithy_binding.specs.NormalForm.{view}
 use Rattle.smithy_binding.specs.Answer.{request_at}
 use Rattle.smithy_binding.specs.Placing.{template_of, with_query, pair_text, all_headers, with_default, adds_content_type, adds_content_length}
+use Rattle.smithy_binding.specs.Typed.{IsTyped}
+use Rattle.smithy_serde.specs.Values.{Write}
 use Rattle.smithy_binding.proofs.CheckedLaws.{IsCheckedInput-from_test}
 use Rattle.smithy_binding.proofs.Tests.{same_text_self}
 use Rattle.smithy_unambiguity.proofs.Setting.{SeenOfView, ViewTyped}
 use Rattle.smithy_unambiguity.proofs.HeadersTold.{typed_writes}
-use Rattle.smithy_unambiguity.proofs.Placed.{HasTypedWrites, member_has}
-use Rattle.smithy_unambiguity.proofs.Positions.{members_by_position}
+use Rattle.smithy_unambiguity.proofs.Placed.{HasTypedWrites}
 use Rattle.smithy_unambiguity.proofs.Queries.{pieces_of_query, pieces_of_pairs, name_of_pair, values_at-append}
 use Rattle.smithy_unambiguity.proofs.Requests.{IsPlacedRequest, placed_request}
 use Rattle.smithy_unambiguity.proofs.TemplateQuery.{query_leaves_path}
 use Rattle.smithy_unambiguity.proofs.ViewBody.{body_of_view}
 use Rattle.smithy_unambiguity.proofs.ViewHeaders.{headers_of_view, values_at-with_default_same}
 use Rattle.smithy_unambiguity.proofs.ViewParts.{pairs_of_view, labels_of_view}
-use Rattle.smithy_unambiguity.proofs.MapsTold.{no_bytes, are_bytes_or}
+use Rattle.smithy_unambiguity.proofs.Lists.{all_apply}
 use Rattle.smithy_unambiguity.proofs.TextsBytes.{IsBytePair, pairs_are_bytes}
 
 -- Labels that are found alike fill a template alike.
@@ -77,23 +77,6 @@ pieces_same ps qs all_p all_q same name = go (escaped_or name ps all_p) (escaped
     go (inr none) (inl x) = by x.0 x.1 x.2
     go (inr none) (inr empty) = none ∙ sym empty
 
--- the names are bytes where only names of bytes have texts
-bytes_from : (qs : List (List ℕ × List ℕ)) → ((name : List ℕ) → (AreBytes name → ⊥) → values_at name qs ≡ []) → AllByRecursion (λ p. AreBytes p.0) qs
-bytes_from [] none = tt
-bytes_from (q ∷ qs) none = (here (are_bytes_or q.0), bytes_from qs (λ name other. later name (same_text q.0 name) refl (none name other)))
-  where
-    here : AreBytes q.0 ⊎ (AreBytes q.0 → ⊥) → AreBytes q.0
-    here (inl bytes) = bytes
-    here (inr other) =
-        let full : q.1 ∷ values_at q.0 qs ≡ [] = ap (λ t. map (λ (p : List ℕ × List ℕ). p.1) (cond t (q ∷ filter (λ (p : List ℕ × List ℕ). same_text p.0 q.0) qs) (filter (λ (p : List ℕ × List ℕ). same_text p.0 q.0) qs))) (sym (same_text_self q.0)) ∙ none q.0 other in
-        absurd (cc full)
-
-    later : (name : List ℕ) (t : Bool) → same_text q.0 name ≡ t → values_at name (q ∷ qs) ≡ [] → values_at name qs ≡ []
-    later name true e h =
-        let full : q.1 ∷ values_at name qs ≡ [] = ap (λ t. map (λ (p : List ℕ × List ℕ). p.1) (cond t (q ∷ filter (λ (p : List ℕ × List ℕ). same_text p.0 name) qs) (filter (λ (p : List ℕ × List ℕ). same_text p.0 name) qs))) (sym e) ∙ h in
-        absurd (cc full)
-    later name false e h = ap (λ t. map (λ (p : List ℕ × List ℕ). p.1) (cond t (q ∷ filter (λ (p : List ℕ × List ℕ). same_text p.0 name) qs) (filter (λ (p : List ℕ × List ℕ). same_text p.0 name) qs))) (sym e) ∙ h
-
 -- the query at a name, from the path's pieces and the pairs'
 query_at_name : (path name : List ℕ) (ps : List (List ℕ × List ℕ)) → values_at name (map named_piece (query_pieces (with_query path ps))) ≡ values_at name (map named_piece (query_pieces path)) ++ values_at name (pieces_for ps)
 query_at_name path name ps =
@@ -108,37 +91,33 @@ seen_of_view view_typed protocol schema endpoint omit ws setting typed =
     checked : IsCheckedInput schema
     checked = IsCheckedInput-from_test schema setting.checked
 
+    viewed : IsTyped protocol schema endpoint omit (view schema ws)
+    viewed = view_typed protocol schema endpoint omit ws setting typed
+
     x : IsPlacedRequest protocol schema ws endpoint omit
     x = placed_request protocol schema ws endpoint omit typed.conforming
 
     y : IsPlacedRequest protocol schema (view schema ws) endpoint omit
-    y = placed_request protocol schema (view schema ws) endpoint omit (view_typed protocol schema endpoint omit ws setting typed).conforming
+    y = placed_request protocol schema (view schema ws) endpoint omit viewed.conforming
 
     one_path : y.path ≡ x.path
     one_path =
-        let fills : Ok y.path ≡ Ok x.path = sym y.fills ∙ fill_same (labels schema (view schema ws)) (labels schema ws) (pieces (template_of schema endpoint)) (labels_of_view schema ws checked setting.held) ∙ x.fills in
+        let fills : Ok y.path ≡ Ok x.path = sym y.fills ∙ fill_same (labels schema (view schema ws)) (labels schema ws) (pieces (template_of schema endpoint)) (labels_of_view schema ws checked setting.well_made) ∙ x.fills in
         cc fills
 
     writes : HasTypedWrites schema ws
     writes = typed_writes protocol schema endpoint omit ws typed
 
-    kinds : (m : Schema) (i : ℕ) → member_at schema i ≡ Some m → has_bound_kind m ≡ true
-    kinds m i at = member_has has_bound_kind (members_of schema) i m (list_all-from_AllPass has_bound_kind (members_of schema) checked.kinds) (members_by_position schema checked i ∙ at)
-
     pairs_same : (name : List ℕ) → values_at name (pairs schema (view schema ws)) ≡ values_at name (pairs schema ws)
-    pairs_same name = pairs_of_view schema ws checked setting.held kinds writes name
+    pairs_same name = pairs_of_view schema ws checked setting.well_made writes name
 
-    own_bytes : AllByRecursion IsBytePair (pairs schema ws)
-    own_bytes = pairs_are_bytes schema ws setting.held writes.conforming writes.in_range
-
-    own_names : AllByRecursion (λ p. AreBytes p.0) (pairs schema ws)
-    own_names = bytes_from (pairs schema ws) (λ name other. no_bytes name (pairs schema ws) own_bytes other)
-
-    view_names : AllByRecursion (λ p. AreBytes p.0) (pairs schema (view schema ws))
-    view_names = bytes_from (pairs schema (view schema ws)) (λ name other. pairs_same name ∙ no_bytes name (pairs schema ws) own_bytes other)
+    names : (us : List Write) → IsTyped protocol schema endpoint omit us → AllByRecursion (λ p. AreBytes p.0) (pairs schema us)
+    names us is =
+        let typed = typed_writes protocol schema endpoint omit us is in
+        all_apply IsBytePair (λ p. AreBytes p.0) (pairs schema us) (λ p bytes. bytes.0) (pairs_are_bytes schema us setting.well_made typed.conforming typed.in_range)
 
     bodies : body protocol.text_of schema (view schema ws) ≡ body protocol.text_of schema ws
-    bodies = body_of_view protocol schema endpoint omit ws checked setting.held typed
+    bodies = body_of_view protocol schema endpoint omit ws checked setting.well_made typed
 
     header : (name : List ℕ) → values_at name (all_headers protocol (body protocol.text_of schema (view schema ws)) omit (headers schema (view schema ws))) ≡ values_at name (all_headers protocol (body protocol.text_of schema ws) omit (headers schema ws))
     header name =
@@ -147,12 +126,12 @@ seen_of_view view_typed protocol schema endpoint omit ws setting typed =
         (with_default (adds_content_type (body protocol.text_of schema ws) omit) (codes "content-type") protocol.content_type (headers schema (view schema ws)))
         (with_default (adds_content_type (body protocol.text_of schema ws) omit) (codes "content-type") protocol.content_type (headers schema ws))
         (values_at-with_default_same (adds_content_type (body protocol.text_of schema ws) omit) (codes "content-type") protocol.content_type (headers schema (view schema ws)) (headers schema ws)
-        (headers_of_view schema ws checked setting.held kinds writes)) name
+        (headers_of_view schema ws checked setting.well_made writes)) name
 
     query : (name : List ℕ) → values_at name (map named_piece (query_pieces (with_query x.path (pairs schema (view schema ws))))) ≡ values_at name (map named_piece (query_pieces (with_query x.path (pairs schema ws))))
     query name =
         query_at_name x.path name (pairs schema (view schema ws))
-        ∙ ap (λ vs. values_at name (map named_piece (query_pieces x.path)) ++ vs) (pieces_same (pairs schema (view schema ws)) (pairs schema ws) view_names own_names pairs_same name)
+        ∙ ap (λ vs. values_at name (map named_piece (query_pieces x.path)) ++ vs) (pieces_same (pairs schema (view schema ws)) (pairs schema ws) (names (view schema ws) viewed) (names ws typed) pairs_same name)
         ∙ sym (query_at_name x.path name (pairs schema ws))
 
     path : before_query (with_query x.path (pairs schema (view schema ws))) ≡ before_query (with_query x.path (pairs schema ws))

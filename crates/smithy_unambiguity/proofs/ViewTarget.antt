@@ -5,7 +5,6 @@ use Rattle.std.specs.Option.{option_or}
 use Rattle.std.proofs.lemmas.Bool.{and_parts, and_from, agree_below, agree_below_at}
 use Rattle.std.proofs.lemmas.List.{length-append}
 use Rattle.std.proofs.lemmas.List.Folds.{list_all-append}
-use Rattle.std.proofs.lemmas.List.Sums.{list_all-from_AllPass}
 use Rattle.percent_encoding.specs.Percent.{percent_encode_byte}
 use Rattle.smithy_types.specs.Texts.{has_byte, same_text}
 use Rattle.smithy_types.specs.Grammars.{is_query_byte, is_stem, is_target, is_short_target, max_target_len, before_query}
@@ -14,7 +13,6 @@ use Rattle.smithy_schema.specs.Nodes.{Schema, member_at, members_of}
 use Rattle.smithy_http.specs.Facts.{values_at}
 use Rattle.smithy_strings.specs.Escapes.{escape, escape_byte, AreBytes}
 use Rattle.smithy_binding.specs.Bindings.{pairs}
-use Rattle.smithy_binding.specs.Checked.{has_bound_kind}
 use Rattle.smithy_binding.specs.Faults.{legal_fault, too_long, not_legal}
 use Rattle.smithy_binding.specs.NormalForm.{view}
 use Rattle.smithy_binding.specs.Placing.{pair_text, with_query, Protocol}
@@ -26,8 +24,6 @@ use Rattle.smithy_unambiguity.proofs.Join.{facts_decide_by, settles_by}
 use Rattle.smithy_unambiguity.proofs.ViewSeen.{seen_of_view}
 use Rattle.smithy_unambiguity.proofs.ViewTold.{seen_tells_view}
 use Rattle.smithy_unambiguity.proofs.HeadersTold.{typed_writes}
-use Rattle.smithy_unambiguity.proofs.Placed.{member_has}
-use Rattle.smithy_unambiguity.proofs.Positions.{members_by_position}
 use Rattle.smithy_unambiguity.proofs.Queries.{after, after_first-after, after-append, after-cut}
 use Rattle.smithy_unambiguity.proofs.TemplateQuery.{query_leaves_path}
 use Rattle.smithy_unambiguity.proofs.TextsBytes.{IsBytePair, pairs_are_bytes}
@@ -145,11 +141,9 @@ pub target_of_view : TargetOfView
 target_of_view protocol schema endpoint omit ws setting typed path legal =
     let checked = IsCheckedInput-from_test schema setting.checked in
     let writes = typed_writes protocol schema endpoint omit ws typed in
-    let viewed = has_viewed protocol schema endpoint omit ws checked typed in
-    let kinds : (m : Schema) (i : ℕ) → member_at schema i ≡ Some m → has_bound_kind m ≡ true = λ m i at.
-    member_has has_bound_kind (members_of schema) i m (list_all-from_AllPass has_bound_kind (members_of schema) checked.kinds) (members_by_position schema checked i ∙ at) in
-    legal_again path (pairs schema ws) (pairs schema (view schema ws)) (pairs_are_bytes schema (view schema ws) setting.held (view_writes_conform schema ws checked setting.held viewed) (view_in_range schema ws checked viewed))
-    (pairs_of_view schema ws checked setting.held kinds writes) legal
+    let viewed = has_viewed protocol schema endpoint omit ws checked setting.well_made typed in
+    legal_again path (pairs schema ws) (pairs schema (view schema ws)) (pairs_are_bytes schema (view schema ws) setting.well_made (view_writes_conform schema ws checked setting.well_made viewed) (view_in_range schema ws checked viewed))
+    (pairs_of_view schema ws checked setting.well_made writes) legal
 
 -- the view of a typed input is typed, and is seen the same
 is_typed : ViewTyped
@@ -160,15 +154,15 @@ is_seen = seen_of_view is_typed
 
 -- Of a protocol with a lawful codec, facts are the same exactly if the normal forms are.
 pub facts_decide : (protocol : Protocol) (holds : List ℕ → Option Held) → IsLawfulText protocol.text_of holds → FactsDecideView protocol
-facts_decide protocol holds lawful schema endpoint omit v w checked held =
-    facts_decide_by seen_tells_view is_seen protocol schema endpoint omit v w (record { holds = holds; lawful = lawful; checked = checked; held = held })
+facts_decide protocol holds lawful schema endpoint omit v w checked well_made =
+    facts_decide_by seen_tells_view is_seen protocol schema endpoint omit v w (record { holds = holds; lawful = lawful; checked = checked; well_made = well_made })
 
 -- The normal form of a normal form is itself,
 pub settles : (protocol : Protocol) (holds : List ℕ → Option Held) → IsLawfulText protocol.text_of holds → ViewSettles protocol
-settles protocol holds lawful schema endpoint omit ws checked held =
-    settles_by seen_tells_view is_typed is_seen protocol schema endpoint omit ws (record { holds = holds; lawful = lawful; checked = checked; held = held })
+settles protocol holds lawful schema endpoint omit ws checked well_made =
+    settles_by seen_tells_view is_typed is_seen protocol schema endpoint omit ws (record { holds = holds; lawful = lawful; checked = checked; well_made = well_made })
 
 -- and is typed.
 pub normal_form_typed : (protocol : Protocol) (holds : List ℕ → Option Held) → IsLawfulText protocol.text_of holds → ViewIsTyped protocol
-normal_form_typed protocol holds lawful schema endpoint omit ws checked held =
-    is_typed protocol schema endpoint omit ws (record { holds = holds; lawful = lawful; checked = checked; held = held })
+normal_form_typed protocol holds lawful schema endpoint omit ws checked well_made =
+    is_typed protocol schema endpoint omit ws (record { holds = holds; lawful = lawful; checked = checked; well_made = well_made })

@@ -1,7 +1,6 @@
 -- The facts of a request tell the normal form of its input.
 use Rattle.std.proofs.Common.{◌≡◌, refl, sym, ◌∙◌, ap, ℕ, suc, ◌+◌, arith, true, List, [], ◌∷◌, filter_map, slice_get, Option, Some, option_map, IsTrue}
 use Rattle.std.specs.List.{enumerate_from, cons_option}
-use Rattle.std.proofs.lemmas.List.Sums.{list_all-from_AllPass}
 use Rattle.smithy_schema.specs.Nodes.{Schema, members_of, Binding, to_header, to_prefix, to_query, to_query_map, to_label, to_payload, to_body, binding_of, member_at}
 use Rattle.smithy_serde.specs.Values.{Value, Write, label_of}
 use Rattle.smithy_binding.specs.Checked.{has_bound_kind, checked_input}
@@ -11,7 +10,7 @@ use Rattle.smithy_unambiguity.proofs.Setting.{SeenTellsView, IsSetting}
 use Rattle.smithy_unambiguity.proofs.HeadersTold.{AreSeenSame, seen_same, header_member_told}
 use Rattle.smithy_unambiguity.proofs.MapsTold.{prefix_member_told, query_map_told, all_pairs_told}
 use Rattle.smithy_unambiguity.proofs.PayloadTold.{payload_member_told}
-use Rattle.smithy_unambiguity.proofs.Placed.{member_has}
+use Rattle.smithy_unambiguity.proofs.Placed.{kinds_at}
 use Rattle.smithy_unambiguity.proofs.Positions.{members_by_position}
 use Rattle.smithy_unambiguity.proofs.TargetTold.{label_member_told, query_member_told}
 use Rattle.smithy_unambiguity.proofs.UnboundTold.{unbound_member_told}
@@ -29,7 +28,7 @@ member_told protocol schema endpoint omit v w setting typed_v typed_w same i m a
     are = seen_same protocol schema endpoint omit v w setting typed_v typed_w same
 
     kinds : has_bound_kind m ≡ true
-    kinds = member_has has_bound_kind (members_of schema) i m (list_all-from_AllPass has_bound_kind (members_of schema) are.checked.kinds) (members_by_position schema are.checked i ∙ at)
+    kinds = kinds_at schema are.checked i m at
 
     go : (b : Binding) → binding_of m ≡ b → member_view schema v i m ≡ member_view schema w i m
     go (to_header name) e = header_member_told protocol schema endpoint omit v w are i m name at kinds e

@@ -24,7 +24,7 @@ use Rattle.smithy_unambiguity.proofs.ByMember.{at_member}
 use Rattle.smithy_unambiguity.proofs.ByName.{found-front, front}
 use Rattle.smithy_unambiguity.proofs.Firsts.{all_firsts}
 use Rattle.smithy_unambiguity.proofs.Positions.{members_by_position}
-use Rattle.smithy_unambiguity.proofs.UnboundTold.{IsBodied}
+use Rattle.smithy_unambiguity.proofs.BodyObject.{IsBodied}
 use Rattle.smithy_unambiguity.proofs.ViewBody.{all_of_view}
 use Rattle.smithy_unambiguity.proofs.ViewTold.{own_write}
 use Rattle.smithy_unambiguity.proofs.ViewWrites.{own_is_resolved}
@@ -69,8 +69,8 @@ no_write_fault schema (w ∷ ws) all seen =
     ap (λ o. option_or o (writes_fault schema (seen ++ option_to_list (resolve schema w.label)) ws)) (all.0 seen) ∙ no_write_fault schema ws all.1 (seen ++ option_to_list (resolve schema w.label))
 
 viewed_fault : (schema : Schema) (i : ℕ) (m : Schema) (u : Value) → is_well_made schema ≡ true → member_at schema i ≡ Some m → IsViewed m u → (seen : List ℕ) → write_fault schema seen (record { label = label_of m; value = u }) ≡ None
-viewed_fault schema i m u held at is seen =
-    ap (λ o. option_map_or (resolved_fault seen) o (Some (no_member (label_of m)))) (own_is_resolved schema i m u held at)
+viewed_fault schema i m u well_made at is seen =
+    ap (λ o. option_map_or (resolved_fault seen) o (Some (no_member (label_of m)))) (own_is_resolved schema i m u well_made at)
     ∙ ap (λ t. option_or (unless t (wrong_kind m u)) (if is_placed seen (at_member i m u) then bound_fault (at_member i m u) else None)) is.fits
     ∙ go (is_placed_at (binding_of m)) refl
   where
@@ -83,8 +83,8 @@ viewed_fault schema i m u held at is seen =
         by false = refl
 
 pub view_writes_conform : (schema : Schema) (ws : List Write) → IsCheckedInput schema → is_well_made schema ≡ true → HasViewed schema ws → writes_fault schema [] (view schema ws) ≡ None
-view_writes_conform schema ws checked held viewed =
-    no_write_fault schema (view schema ws) (writes_of_view (λ w. (seen : List ℕ) → write_fault schema seen w ≡ None) schema ws checked (λ i m u at e. viewed_fault schema i m u held at (viewed i m u at e))) []
+view_writes_conform schema ws checked well_made viewed =
+    no_write_fault schema (view schema ws) (writes_of_view (λ w. (seen : List ℕ) → write_fault schema seen w ≡ None) schema ws checked (λ i m u at e. viewed_fault schema i m u well_made at (viewed i m u at e))) []
 
 pub view_in_range : (schema : Schema) (ws : List Write) → IsCheckedInput schema → HasViewed schema ws → are_in_range (view schema ws) ≡ true
 view_in_range schema ws checked viewed = all (view schema ws) (writes_of_view (λ w. is_in_range w.value ≡ true) schema ws checked (λ i m u at e. (viewed i m u at e).in_range))
@@ -96,13 +96,13 @@ view_in_range schema ws checked viewed = all (view schema ws) (writes_of_view (�
 -- The tests of first writes.
 
 pub view_placed_values : (schema : Schema) (ws : List Write) → IsCheckedInput schema → is_well_made schema ≡ true → HasViewed schema ws → AllByRecursion (λ r. IsTrue (is_placed_typed r)) (firsts schema (view schema ws))
-view_placed_values schema ws checked held viewed =
-    all_firsts (λ r. IsTrue (is_placed_typed r)) (all_resolved schema (view schema ws)) (all_of_view (λ r. IsTrue (is_placed_typed r)) schema ws checked held (λ i m u at e. (viewed i m u at e).typed))
+view_placed_values schema ws checked well_made viewed =
+    all_firsts (λ r. IsTrue (is_placed_typed r)) (all_resolved schema (view schema ws)) (all_of_view (λ r. IsTrue (is_placed_typed r)) schema ws checked well_made (λ i m u at e. (viewed i m u at e).typed))
 
 pub view_prefixed : (schema : Schema) (ws : List Write) → IsCheckedInput schema → is_well_made schema ≡ true → HasViewed schema ws → AllByRecursion (λ r. IsTrue (has_no_default_name (binding_of r.member) r)) (firsts schema (view schema ws))
-view_prefixed schema ws checked held viewed =
+view_prefixed schema ws checked well_made viewed =
     all_firsts (λ r. IsTrue (has_no_default_name (binding_of r.member) r)) (all_resolved schema (view schema ws))
-    (all_of_view (λ r. IsTrue (has_no_default_name (binding_of r.member) r)) schema ws checked held (λ i m u at e. any_position i m u (viewed i m u at e).unlike))
+    (all_of_view (λ r. IsTrue (has_no_default_name (binding_of r.member) r)) schema ws checked well_made (λ i m u at e. any_position i m u (viewed i m u at e).unlike))
   where
     any_position : (i : ℕ) (m : Schema) (u : Value) → has_no_default_name (binding_of m) (at_member 0 m u) ≡ true → has_no_default_name (binding_of m) (at_member i m u) ≡ true
     any_position i m u = go (binding_of m)
@@ -112,10 +112,10 @@ view_prefixed schema ws checked held viewed =
         go _ h = h
 
 pub view_payload_shaped : (schema : Schema) (ws : List Write) → IsCheckedInput schema → is_well_made schema ≡ true → HasViewed schema ws → is_shaped_payload schema (view schema ws) ≡ true
-view_payload_shaped schema ws checked held viewed =
+view_payload_shaped schema ws checked well_made viewed =
     all (firsts schema (view schema ws))
     (all_firsts (λ r. (not (is_codec_payload r.member) || is_shaped_write r) ≡ true) (all_resolved schema (view schema ws))
-    (all_of_view (λ r. (not (is_codec_payload r.member) || is_shaped_write r) ≡ true) schema ws checked held (λ i m u at e. (viewed i m u at e).codec)))
+    (all_of_view (λ r. (not (is_codec_payload r.member) || is_shaped_write r) ≡ true) schema ws checked well_made (λ i m u at e. (viewed i m u at e).codec)))
   where
     all : (rs : List Resolved) → AllByRecursion (λ r. (not (is_codec_payload r.member) || is_shaped_write r) ≡ true) rs → list_all (λ r. not (is_codec_payload r.member) || is_shaped_write r) rs ≡ true
     all [] h = refl

@@ -1,8 +1,8 @@
 -- The normal form of a typed input is typed, if its target is a legal one.
 use Rattle.std.proofs.Common.{◌≡◌, refl, sym, ◌∙◌, ap, subst, ℕ, Bool, true, false, not, ◌&&◌, ◌||◌, List, Option, Some, if◌then◌else◌}
-use Rattle.std.proofs.lemmas.List.Sums.{list_all-from_AllPass}
 use Rattle.smithy_ids.specs.declared.shape_type.ShapeType.{ShapeType}
-use Rattle.smithy_schema.specs.Nodes.{Schema, member_at, members_of as nodes_of, Binding, to_header, to_prefix, to_query, to_query_map, to_label, to_payload, to_body, binding_of, is_outside_body, is_bound}
+use Rattle.smithy_schema.specs.Nodes.{Schema, member_at, Binding, to_header, to_prefix, to_query, to_query_map, to_label, to_payload, to_body, binding_of, is_outside_body, is_bound}
+use Rattle.smithy_schema.specs.WellMade.{is_well_made}
 use Rattle.smithy_serde.specs.Values as value
 use Rattle.smithy_serde.specs.Values.{Value, Write}
 use Rattle.smithy_serde.specs.Ranges.{is_in_range}
@@ -18,15 +18,12 @@ use Rattle.smithy_binding.specs.NormalForm.{member_view, bound_view_at, unless_e
 use Rattle.smithy_binding.specs.Typed.{has_distinct_keys, has_own_formats, has_no_default_name, is_codec_payload, is_shaped_write, IsTyped}
 use Rattle.smithy_binding.specs.Placing.{Protocol, Omit}
 use Rattle.smithy_unambiguity.proofs.ByMember.{at_member, first_value}
-use Rattle.smithy_unambiguity.proofs.Conforming.{resolved_at}
-use Rattle.smithy_unambiguity.proofs.Fitting.{IsHeldWrite}
+use Rattle.smithy_unambiguity.proofs.Conforming.{IsFittingWrite}
 use Rattle.smithy_unambiguity.proofs.HeadersTold.{typed_writes}
-use Rattle.smithy_unambiguity.proofs.PayloadTold.{all_tests}
-use Rattle.smithy_unambiguity.proofs.Placed.{HasTypedWrites, first_held, first_has, bound_fits, member_has}
-use Rattle.smithy_unambiguity.proofs.Positions.{members_by_position}
+use Rattle.smithy_unambiguity.proofs.Lists.{all_from_test}
+use Rattle.smithy_unambiguity.proofs.Placed.{HasTypedWrites, first_fitting, first_has, bound_fits, kinds_at}
 use Rattle.smithy_unambiguity.proofs.Settled.{settled_shaped, shaped_range}
-use Rattle.smithy_unambiguity.proofs.UnboundTold.{are_bodied}
-use Rattle.smithy_unambiguity.proofs.ViewBody.{free_view_shaped}
+use Rattle.smithy_unambiguity.proofs.BodyObject.{typed_bodied, free_view_shaped}
 use Rattle.smithy_unambiguity.proofs.ViewTyped.{IsViewed, HasViewed}
 use Rattle.smithy_unambiguity.proofs.ViewedMaps.{prefix_viewed, query_map_viewed}
 use Rattle.smithy_unambiguity.proofs.ViewedMembers.{free_viewed, label_viewed, query_viewed, header_viewed, WasMade, bound_made, some_left, inserts_nothing}
@@ -59,21 +56,21 @@ payload_viewed protocol schema endpoint omit ws i m u typed at payload e = go (i
     writes : HasTypedWrites schema ws
     writes = typed_writes protocol schema endpoint omit ws typed
 
-    held : IsHeldWrite (at_member i m x.from)
-    held = first_held schema ws i m x.from writes.conforming writes.in_range at x.is
+    fitting : IsFittingWrite (at_member i m x.from)
+    fitting = first_fitting schema ws i m x.from writes.conforming writes.in_range at x.is
 
     fit : fits m.node.kind x.from ≡ true
-    fit = bound_fits (fits m.node.kind x.from) (is_null x.from) (is_bound m) (ap is_outside_body payload) held.fits
+    fit = bound_fits (fits m.node.kind x.from) (is_null x.from) (is_bound m) (ap is_outside_body payload) fitting.fits
 
     tested : (not (is_codec_payload m) || is_shaped (Some m) x.from) ≡ true
     tested =
         first_has (λ r. (not (is_codec_payload r.member) || is_shaped_write r) ≡ true) schema ws i m x.from at x.is
-        (all_tests (λ r. not (is_codec_payload r.member) || is_shaped_write r) (firsts schema ws) typed.payload_shaped)
+        (all_from_test (λ r. not (is_codec_payload r.member) || is_shaped_write r) (firsts schema ws) typed.payload_shaped)
 
     go : (t : Bool) → is_codec_kind m.node.kind ≡ t → (if t then Some (settled (Some m) x.from) else unless_empty x.from) ≡ Some u → IsViewed m u
     go false q h =
         subst (IsViewed m) (some_left x.from u h)
-        (payload_parts m x.from payload fit held.in_range (ap (λ t. not t || is_shaped (Some m) x.from) q))
+        (payload_parts m x.from payload fit fitting.in_range (ap (λ t. not t || is_shaped (Some m) x.from) q))
     go true q h =
         let same : settled (Some m) x.from ≡ u = cc h in
         let codec : is_codec_payload m ≡ true = ap (λ b. is_payload b && is_codec_kind m.node.kind) payload ∙ q in
@@ -83,14 +80,14 @@ payload_viewed protocol schema endpoint omit ws i m u typed at payload e = go (i
         (ap (λ t. not t || is_shaped (Some m) (settled (Some m) x.from)) q ∙ kept))
 
 -- each member's part of a typed input's normal form may be written to it
-pub has_viewed : (protocol : Protocol) (schema : Schema) (endpoint : List ℕ) (omit : Omit) (ws : List Write) → IsCheckedInput schema → IsTyped protocol schema endpoint omit ws → HasViewed schema ws
-has_viewed protocol schema endpoint omit ws checked typed i m u at e = go (binding_of m) refl
+pub has_viewed : (protocol : Protocol) (schema : Schema) (endpoint : List ℕ) (omit : Omit) (ws : List Write) → IsCheckedInput schema → is_well_made schema ≡ true → IsTyped protocol schema endpoint omit ws → HasViewed schema ws
+has_viewed protocol schema endpoint omit ws checked well_made typed i m u at e = go (binding_of m) refl
   where
     writes : HasTypedWrites schema ws
     writes = typed_writes protocol schema endpoint omit ws typed
 
     kinds : has_bound_kind m ≡ true
-    kinds = member_has has_bound_kind (nodes_of schema) i m (list_all-from_AllPass has_bound_kind (nodes_of schema) checked.kinds) (members_by_position schema checked i ∙ at)
+    kinds = kinds_at schema checked i m at
 
     go : (b : Binding) → binding_of m ≡ b → IsViewed m u
     go (to_header name) b = header_viewed schema ws i m name u writes kinds at b e
@@ -100,4 +97,4 @@ has_viewed protocol schema endpoint omit ws checked typed i m u at e = go (bindi
     go to_label b = label_viewed schema ws i m u writes at b e
     go to_payload b = payload_viewed protocol schema endpoint omit ws i m u typed at b e
     go to_body b =
-        free_viewed m u b (free_view_shaped schema ws i m u (are_bodied schema (all_resolved schema ws) (resolved_at schema ws) typed.unbound_shaped) at (ap is_outside_body b) e)
+        free_viewed m u b (free_view_shaped schema ws i m u checked well_made (typed_bodied protocol schema endpoint omit ws typed) at (ap is_outside_body b) e)

@@ -9,6 +9,7 @@ use Rattle.std.proofs.lemmas.List.{map-append}
 use Rattle.smithy_types.specs.Texts.{is_one_of, are_distinct, has_byte}
 use Rattle.smithy_types.specs.Grammars.{is_token, is_token_byte, is_between, is_header_value}
 use Rattle.smithy_types.specs.Results.{unless}
+use Rattle.smithy_http.proofs.ValueLemmas.{lower_twice}
 use Rattle.smithy_ids.specs.declared.shape_type.ShapeType.TheVariants as kind
 use Rattle.smithy_ids.specs.Kinds.{same_kind}
 use Rattle.smithy_ids.proofs.KindLemmas.{one_kind}
@@ -33,8 +34,9 @@ use Rattle.smithy_unambiguity.proofs.ByMember.{at_member}
 use Rattle.smithy_unambiguity.proofs.Conforming.{no_first}
 use Rattle.smithy_unambiguity.proofs.EntriesTold.{passed, text_writes, own_list, own_value, own_value_list, as_text, is_text_node, string_kind, text_part, key_texts, has_texts, query_texts, query_texts_ascend}
 use Rattle.smithy_unambiguity.proofs.Headers.{prefixed, map_pairs, inserted_entries}
-use Rattle.smithy_unambiguity.proofs.MapsTold.{text_map_at, query_map_at, query_map_view, prefix_map_view, lower_again}
-use Rattle.smithy_unambiguity.proofs.PairLemmas.{valued, AllPairs, valued_all, both_hold, all_filter, ordered_all, names, names-valued, ascending_distinct, ordered_ascends}
+use Rattle.smithy_unambiguity.proofs.Lists.{both_hold, all_filter}
+use Rattle.smithy_unambiguity.proofs.MapsTold.{text_map_at, query_map_at, query_map_view, prefix_map_view}
+use Rattle.smithy_unambiguity.proofs.PairLemmas.{valued, AllPairs, valued_all, ordered_all, names, names-valued, ascending_distinct, ordered_ascends}
 use Rattle.smithy_unambiguity.proofs.Placed.{HasTypedWrites, placed_value, first_has}
 use Rattle.smithy_unambiguity.proofs.Settled.{keys_of-entry_writes}
 use Rattle.smithy_unambiguity.proofs.TextsBytes.{AreUtf8, text_utf8, entry_utf8, IsEntryInRange, map_in_range}
@@ -178,7 +180,7 @@ abbrev IsValueText : List ℕ → Type 0
 IsValueText t = (is_header_value t ≡ true) × (is_utf8 t ≡ true)
 
 lower_key : (prefix key : List ℕ) → str_to_ascii_lowercase (prefix ++ str_to_ascii_lowercase key) ≡ str_to_ascii_lowercase (prefix ++ key)
-lower_key prefix key = map-append _ prefix (str_to_ascii_lowercase key) ∙ ap (λ k. str_to_ascii_lowercase prefix ++ k) (lower_again key) ∙ sym (map-append _ prefix key)
+lower_key prefix key = map-append _ prefix (str_to_ascii_lowercase key) ∙ ap (λ k. str_to_ascii_lowercase prefix ++ k) (lower_twice key) ∙ sym (map-append _ prefix key)
 
 -- what stands behind a prefix, from what a write of it inserts
 prefix_facts : (m : Schema) (prefix : List ℕ) (ps : List (List ℕ × List ℕ)) → pairs_fault m (prefixed prefix ps) ≡ None → list_all (λ (p : List ℕ × List ℕ). not (is_one_of p.0 default_names)) (prefixed prefix ps) ≡ true → AllPairs (λ k. is_utf8 k ≡ true) (λ t. is_utf8 t ≡ true) ps

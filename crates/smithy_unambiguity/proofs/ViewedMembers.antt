@@ -25,14 +25,13 @@ use Rattle.smithy_types.specs.Texts.{is_one_of}
 use Rattle.smithy_binding.specs.Typed.{has_distinct_keys, has_own_formats, has_no_default_name, default_names}
 use Rattle.smithy_unambiguity.proofs.ByMember.{at_member, first_value}
 use Rattle.smithy_unambiguity.proofs.Conforming.{conforming_bound}
-use Rattle.smithy_unambiguity.proofs.Forms.{shaped_fits}
-use Rattle.smithy_unambiguity.proofs.Placed.{HasTypedWrites, IsPlacedValue, placed_value, bound_member_view, first_found}
+use Rattle.smithy_unambiguity.proofs.Settled.{shaped_fits}
+use Rattle.smithy_unambiguity.proofs.Placed.{HasTypedWrites, IsPlacedValue, placed_value, bound_view_of, first_found}
 use Rattle.smithy_unambiguity.proofs.Settled.{shaped_range}
 use Rattle.smithy_unambiguity.proofs.Fits.{is_flat}
 use Rattle.smithy_unambiguity.proofs.MemberTexts.{IsBoundValue, IsListOf, bound_list, list_of_element}
 use Rattle.smithy_unambiguity.proofs.Values.{AreItems, flat_value, flat_settled, flat_own}
-use Rattle.smithy_unambiguity.proofs.ByName.{query_of}
-use Rattle.smithy_unambiguity.proofs.Headers.{header_of}
+use Rattle.smithy_unambiguity.proofs.Traits.{trait_of}
 use Rattle.smithy_unambiguity.proofs.HeadersTold.{header_kinds}
 use Rattle.smithy_unambiguity.proofs.TargetTold.{query_kinds}
 use Rattle.smithy_unambiguity.proofs.ViewParts.{no_list}
@@ -102,8 +101,7 @@ some_left v u e = go (is_empty_value v) e
 pub bound_made : (schema : Schema) (ws : List Write) (i : ℕ) (m : Schema) (u : Value) (b : Binding) → member_at schema i ≡ Some m → binding_of m ≡ b → is_outside_body b ≡ true → member_view schema ws i m ≡ Some u
     → WasMade (bound_view_at b (query_names schema) m) (first_value schema ws i) u
 bound_made schema ws i m u b at is outside e =
-    was_made (bound_view_at b (query_names schema) m) (first_value schema ws i) u
-    (ap (λ c. option_and_then (bound_view_at c (query_names schema) m) (first_value schema ws i)) (sym is) ∙ sym (bound_member_view schema ws i m at (ap is_outside_body is ∙ outside)) ∙ e)
+    was_made (bound_view_at b (query_names schema) m) (first_value schema ws i) u (sym (bound_view_of schema ws i m b at is outside) ∙ e)
 
 -- where nothing is inserted, nothing has a default's name
 pub inserts_nothing : (m : Schema) (u : Value) (b : Binding) → binding_of m ≡ b → inserted_at b m u ≡ [] → list_all (λ (p : List ℕ × List ℕ). not (is_one_of p.0 default_names)) (inserted_at (binding_of m) m u) ≡ true
@@ -183,7 +181,7 @@ query_viewed schema ws i m name u typed kinds at query e = go (same_kind m.node.
 
     go : (t : Bool) → same_kind m.node.kind kind.List ≡ t → (if t then unless_empty (with_own_elements m x.from) else Some x.from) ≡ Some u → IsViewed m u
     go false q h = let same : x.from ≡ u = cc h in kept_viewed schema ws i m u typed (unlike u) at placed (x.is ∙ ap Some same)
-    go true q h = by (is_scalar m.node.kind) refl (query_kinds m name (query_of m name query) kinds)
+    go true q h = by (is_scalar m.node.kind) refl (query_kinds m name (trait_of m (to_query name) query) kinds)
       where
         by : (s : Bool) → is_scalar m.node.kind ≡ s → (s || has_element is_scalar m) ≡ true → IsViewed m u
         by true scalar has = absurd (no_list m.node.kind scalar q)
@@ -216,7 +214,7 @@ header_viewed schema ws i m name u typed kinds at header e = go (is_flat m.node.
     unlike w = ap (λ c. has_no_default_name c (at_member 0 m w)) header
 
     wide : (is_flat m.node.kind || has_element is_header_kind m) ≡ true
-    wide = header_kinds m name (header_of m name header) kinds
+    wide = header_kinds m name (trait_of m (to_header name) header) kinds
 
     headers : pairs_fault m (inserted_at (binding_of m) m (with_own_elements m x.from)) ≡ None
     headers =

@@ -5,6 +5,7 @@ ghost use Rattle.smithy_serde.specs.Values.{Write};
 ghost use Rattle.smithy_binding.specs.Checked.{checked_input};
 ghost use Rattle.smithy_binding.specs.NormalForm.{view};
 ghost use Rattle.smithy_binding.specs.Placing.{Omit};
+ghost use Rattle.smithy_binding.specs.Protocols.{codec_of, protocol_of};
 ghost use Rattle.smithy_binding.specs.Typed.{IsTyped};
 ghost use Rattle.smithy_unambiguity.specs.Laws.{SeesSame};
 

@@ -3,7 +3,7 @@ use Rattle.smithy_binding.specs.Protocols.{codec_of}
 use Rattle.smithy_unambiguity.proofs.laws.view_settles.Goals as goal
 
 pub returns-clause-settles : goal.returns-clause-settles
-returns-clause-settles g c = settles _ _ (g.met.C.Codec.tells (codec_of c.args.protocol.now) c.requires)
+returns-clause-settles g c = settles _ _ (g.met.C.Codec.tells (codec_of c.args.protocol.now) c.requires.lawful)
 
 pub returns-clause-typed : goal.returns-clause-typed
-returns-clause-typed g c = normal_form_typed _ _ (g.met.C.Codec.tells (codec_of c.args.protocol.now) c.requires)
+returns-clause-typed g c = normal_form_typed _ _ (g.met.C.Codec.tells (codec_of c.args.protocol.now) c.requires.lawful)
