@@ -1,22 +1,17 @@
 -- What stands at a name, in the query and in headers.
-use Rattle.std.proofs.Common.{◌≡◌, ◌≢◌, refl, sym, ◌∙◌, ap, subst, ℕ, Bool, true, false, not, cond, ◌==◌, List, [], ◌∷◌, ◌++◌, map, filter, find, flat_map, Option, Some, None, option_map, option_to_list, unwrap_or, if◌then◌else◌}
+use Rattle.std.proofs.Common.{◌≡◌, ◌≢◌, refl, sym, ◌∙◌, ap, subst, ℕ, Bool, true, false, not, cond, List, [], ◌∷◌, ◌++◌, map, filter, find, flat_map, Option, Some, None, option_map, option_to_list, if◌then◌else◌}
 use Rattle.std.specs.List.{AllByRecursion}
-use Rattle.std.specs.Option.{option_map_or, option_or}
+use Rattle.std.specs.Option.{option_or}
 use Rattle.std.specs.Cmp.Lexicographic.{same_text as same_from_test}
-use Rattle.std.proofs.lemmas.Bool.{eqb-true}
 use Rattle.smithy_types.specs.Texts.{found, same_text, is_one_of}
-use Rattle.smithy_schema.specs.Nodes.{Schema, member_at, Binding, to_header, to_prefix, to_query, to_query_map, to_label, to_payload, to_body, binding_at, binding_of}
-use Rattle.smithy_serde.specs.Values.{Value, Write}
-use Rattle.smithy_serde.specs.Writes.{Resolved, all_resolved, first, firsts, is_of}
-use Rattle.smithy_binding.specs.Bindings.{pairs, pairs_at, pairs_of, query_names, has_key_outside, entry_texts, entry_pairs, texts, map_entries}
+use Rattle.smithy_serde.specs.Values.{Value}
+use Rattle.smithy_serde.specs.Writes.{Resolved}
+use Rattle.smithy_binding.specs.Bindings.{has_key_outside, entry_texts, entry_pairs, texts}
 use Rattle.smithy_http.specs.Headers.{without, put, put_all}
 use Rattle.smithy_http.specs.Facts.{values_at}
 use Rattle.smithy_binding.proofs.Tests.{same_text_self}
 use Rattle.smithy_unambiguity.proofs.LastTexts.{last_value, last_at}
 use Rattle.smithy_unambiguity.proofs.Queries.{values_at-append}
-use Rattle.smithy_unambiguity.proofs.Firsts.{only_one_gives}
-use Rattle.smithy_unambiguity.proofs.Conforming.{resolved_at}
-use Rattle.smithy_unambiguity.proofs.Positions.{HasApartQueries}
 
 -- nothing stands at a name that none of them has
 pub nothing_at : (name : List ℕ) (ps : List (List ℕ × List ℕ)) → AllByRecursion (λ p. p.0 ≢ name) ps → values_at name ps ≡ []

@@ -2,11 +2,8 @@
 use Rattle.std.proofs.Common.{◌≡◌, ◌≢◌, refl, sym, ◌∙◌, ap, subst, ℕ, ◌^◌, Bool, true, false, List, [], Option, Some, ℤ}
 use Rattle.std.specs.List.{AllByRecursion}
 use Rattle.std.specs.Str.{is_utf8}
-use Rattle.std.specs.Fmt.{signed_decimal}
 use Rattle.std.proofs.lemmas.Bool.{and_parts}
 use Rattle.smithy_types.specs.Results.{each}
-use Rattle.smithy_types.specs.declared.date_time.Format.{Format}
-use Rattle.smithy_types.specs.declared.date_time.Format.TheVariants as text
 use Rattle.smithy_types.specs.Timestamps.{timestamp_text}
 use Rattle.smithy_ids.specs.declared.shape_type.ShapeType.{ShapeType}
 use Rattle.smithy_ids.specs.declared.shape_type.ShapeType.TheVariants as kind

@@ -4,7 +4,7 @@ use Rattle.std.specs.List.{AllByRecursion, list_all}
 use Rattle.std.specs.Option.{option_map_or}
 use Rattle.std.specs.Cmp.Lexicographic.{same_text as same_from_test}
 use Rattle.std.specs.Str.{str_to_ascii_lowercase}
-use Rattle.std.proofs.lemmas.Bool.{and_parts, not-true}
+use Rattle.std.proofs.lemmas.Bool.{and_parts}
 use Rattle.smithy_http.proofs.ValueLemmas.{lower_twice}
 use Rattle.smithy_types.specs.Texts.{same_text, is_one_of, are_distinct}
 use Rattle.smithy_ids.specs.declared.shape_type.ShapeType.TheVariants as kind

@@ -1,9 +1,9 @@
 -- The members of a schema that a program holds: each has its position for its index and a name of its own.
-use Rattle.std.proofs.Common.{◌≡◌, refl, sym, ◌∙◌, ap, subst, ℕ, zero, suc, ◌+◌, arith, Bool, true, false, cond, ◌&&◌, ◌==◌, List, [], ◌∷◌, filter, filter_map, slice_get, Option, Some, None, option_map, option_and_then, unwrap_or, is_some}
+use Rattle.std.proofs.Common.{◌≡◌, refl, sym, ◌∙◌, ap, subst, ℕ, suc, Bool, true, false, ◌==◌, List, [], ◌∷◌, filter, filter_map, slice_get, Option, Some, None, option_map, option_and_then, unwrap_or, is_some}
 use Rattle.std.specs.List.{AllByRecursion, cons_option}
 use Rattle.std.specs.Option.{option_map_or}
 use Rattle.std.proofs.lemmas.Bool.{and_parts, eqb-true}
-use Rattle.smithy_schema.specs.Nodes.{Node, Table, Schema, node_at, at_place, member_at, members_of, name_of}
+use Rattle.smithy_schema.specs.Nodes.{Node, Schema, node_at, at_place, member_at, members_of, name_of}
 use Rattle.smithy_schema.specs.Defining.{is_member}
 use Rattle.smithy_schema.specs.WellMade.{is_well_made}
 use Rattle.smithy_document.specs.ReadsBack.{Stands}

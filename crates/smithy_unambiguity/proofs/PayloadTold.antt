@@ -1,7 +1,6 @@
 -- The body of a payload tells its normal form.
-use Rattle.std.proofs.Common.{◌≡◌, refl, sym, ◌∙◌, ap, ℕ, ◌≤◌, nat_le, ◌⊎◌, inl, inr, Bool, true, false, not, ◌&&◌, ◌||◌, ◌==◌, List, [], ◌∷◌, length, filter, find, Result, Ok, Err, Option, Some, None, option_map, option_and_then, unwrap_or, if◌then◌else◌, eq-eqb}
-use Rattle.std.specs.List.{AllByRecursion, list_all}
-use Rattle.std.specs.Result.{result_ok, result_err}
+use Rattle.std.proofs.Common.{◌≡◌, refl, sym, ◌∙◌, ap, ℕ, ◌≤◌, nat_le, ◌⊎◌, inl, inr, Bool, true, false, not, ◌&&◌, ◌||◌, ◌==◌, List, [], length, filter, find, Result, Ok, Option, Some, None, option_map, option_and_then, unwrap_or, if◌then◌else◌, eq-eqb}
+use Rattle.std.specs.Result.{result_ok}
 use Rattle.std.proofs.lemmas.Bool.{and_parts, eqb-true, leb-true}
 use Rattle.smithy_types.specs.Documents.{Document, nesting}
 use Rattle.smithy_ids.specs.declared.shape_type.ShapeType.{ShapeType}
@@ -10,30 +9,26 @@ use Rattle.smithy_schema.specs.Nodes.{Schema, member_at, members_of, Binding, to
 use Rattle.smithy_serde.specs.Values as value
 use Rattle.smithy_serde.specs.Values.{Value, Write}
 use Rattle.smithy_serde.specs.Fits.{fits, is_null}
-use Rattle.smithy_serde.specs.Held as held
 use Rattle.smithy_serde.specs.Held.{Held}
-use Rattle.smithy_serde.specs.Lawful.{IsLawfulText, TellsApart, is_sound, max_nesting}
-use Rattle.smithy_serde.specs.DocumentOf.{DocumentFault, document_of, doc_of, document_fault_text}
+use Rattle.smithy_serde.specs.Lawful.{IsLawfulText, is_sound, max_nesting}
+use Rattle.smithy_serde.specs.DocumentOf.{DocumentFault, document_of, doc_of}
 use Rattle.smithy_serde.specs.Shaped.{is_shaped}
 use Rattle.smithy_serde.specs.NormalBody.{settled}
 use Rattle.smithy_serde.specs.Writes.{Resolved, all_resolved, firsts, is_of}
-use Rattle.smithy_binding.specs.Bindings.{query_names}
 use Rattle.smithy_binding.specs.Bodies.{is_payload, is_codec_kind, payload_kind, has_unbound_member, is_raw_kind, unbound_form, form_at, form_in, body_parts, body, document_value, document_by, raw_bytes, text_of_document, bytes_by}
 use Rattle.smithy_binding.specs.declared.body_form.BodyForm.{BodyForm}
 use Rattle.smithy_binding.specs.declared.body_form.BodyForm.TheVariants as form
 use Rattle.smithy_binding.specs.Checked.{IsCheckedInput, has_at_most_one, is_sound_payload, is_payload_kind}
-use Rattle.smithy_binding.specs.Faults.{custom, body_fault, fault_of_document}
 use Rattle.smithy_schema.specs.WellMade.{is_well_made}
 use Rattle.smithy_binding.specs.Placing.{Protocol, Omit}
 use Rattle.smithy_binding.specs.Typed.{IsTyped, is_codec_payload, is_shaped_write, is_shallow}
-use Rattle.smithy_binding.specs.NormalForm.{member_view, bound_view_at, unless_empty}
+use Rattle.smithy_binding.specs.NormalForm.{member_view, unless_empty}
 use Rattle.smithy_document.specs.ReadsBack.{Stands}
 use Rattle.smithy_serde.proofs.LawfulLemmas.{lawful_apart}
 use Rattle.smithy_document.proofs.ShapedDocuments.{has_document}
 use Rattle.smithy_document.proofs.ShapedReads.{tells_normal_form}
 use Rattle.smithy_unambiguity.proofs.ByMember.{first_value}
 use Rattle.smithy_unambiguity.proofs.Conforming.{resolved_at}
-use Rattle.smithy_unambiguity.proofs.Conformity.{conforming}
 use Rattle.smithy_unambiguity.proofs.Firsts.{first_finds, all_firsts}
 use Rattle.smithy_unambiguity.proofs.HeadersTold.{AreSeenSame, bound_told}
 use Rattle.smithy_unambiguity.proofs.Lists.{all_apply, all_from_test}

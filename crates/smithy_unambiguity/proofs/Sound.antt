@@ -1,10 +1,10 @@
 -- The document of a shaped value is one that a codec tells apart: canonical, and in range.
-use Rattle.std.proofs.Common.{◌≡◌, refl, sym, ◌∙◌, ap, subst, ℕ, ◌^◌, ◌<◌, ◌≤◌, arith, Bool, true, false, cond, ◌&&◌, List, [], ◌∷◌, find, filter_map, Option, Some, None, option_map, option_and_then, is_some, Result, Ok, ℤ, pos, negsuc}
+use Rattle.std.proofs.Common.{◌≡◌, refl, sym, ◌∙◌, ap, subst, ℕ, ◌^◌, ◌<◌, arith, Bool, true, false, cond, ◌&&◌, List, [], ◌∷◌, find, filter_map, Option, Some, None, option_map, option_and_then, is_some, Result, Ok, ℤ, pos, negsuc}
 use Rattle.std.specs.Prelude.{int_le, int_lt, neg_ℤ}
 use Rattle.std.specs.List.{AllByRecursion, cons_option}
 use Rattle.std.specs.Option.{option_map_or}
-use Rattle.std.specs.Ordering.{nat_cmp, match_ordering}
-use Rattle.std.specs.Cmp.Lexicographic.{slice_cmp, same_text as same_from_test}
+use Rattle.std.specs.Ordering.{match_ordering}
+use Rattle.std.specs.Cmp.Lexicographic.{same_text as same_from_test}
 use Rattle.std.specs.Str.{is_utf8}
 use Rattle.std.proofs.lemmas.Bool.{and_parts, and_from, lt-ltb}
 use Rattle.std.proofs.lemmas.Int.{ints}
@@ -20,10 +20,10 @@ use Rattle.smithy_schema.specs.Nodes.{Node, Table, Schema, node_at, at_place, el
 use Rattle.smithy_schema.specs.WellMade.{has_utf8}
 use Rattle.smithy_serde.specs.Values as value
 use Rattle.smithy_serde.specs.Values.{Scalar, Value, Writes, no_writes, write, keys_of}
-use Rattle.smithy_serde.specs.Ranges.{is_in_width, is_signed_within, is_number_in_range, is_in_range, is_document_in_range, are_items_in_range, are_members_in_range, is_before}
+use Rattle.smithy_serde.specs.Ranges.{is_signed_within, is_number_in_range, is_in_range, is_document_in_range, are_items_in_range, are_members_in_range, is_before}
 use Rattle.smithy_serde.specs.Lawful.{is_sound, is_canonical}
 use Rattle.smithy_serde.specs.DocumentOf.{DocumentFault, document_of, elements_of, entries_of, fields_of, scalar_document, base64}
-use Rattle.smithy_serde.specs.NormalBody.{settled, settled_fields, settled_entries}
+use Rattle.smithy_serde.specs.NormalBody.{settled_fields, settled_entries}
 use Rattle.smithy_serde.specs.Shaped.{is_shaped, are_shaped, are_fields_shaped, are_entries_shaped, fits_at, has_distinct_fields, named_member, is_named, is_kind}
 use Rattle.smithy_document.specs.ReadsBack.{Stands}
 use Rattle.smithy_document.proofs.NamedPairs.{try_gave, give_gave, members_ordered, EntriesHave, BehindHave, entries_paired, FieldsHave, fields_paired}
@@ -32,7 +32,7 @@ use Rattle.smithy_document.proofs.ShapedCanonical.{canonical_document}
 use Rattle.smithy_document.proofs.StandingNodes.{Standing, stands_cited, stands_shape, found_stands}
 use Rattle.smithy_unambiguity.proofs.AsciiTexts.{big_integer-utf8, big_decimal-utf8}
 use Rattle.smithy_unambiguity.proofs.PairLemmas.{AllPairs, ordered_all}
-use Rattle.smithy_unambiguity.proofs.Settled.{shaped_range, IsField, entries_keep_shape, fields_keep_shape}
+use Rattle.smithy_unambiguity.proofs.Settled.{shaped_range, entries_keep_shape, fields_keep_shape}
 use Rattle.smithy_unambiguity.proofs.WellMadeNodes.{has_texts}
 use Rattle.smithy_unambiguity.proofs.Widths.{long_width}
 use Rattle.smithy_unambiguity.proofs.WireTexts.{ascii_utf8}

@@ -1,16 +1,13 @@
 -- What is seen of a request tells the normal form's part of each label and query member.
 use Rattle.std.proofs.Common.{◌≡◌, refl, sym, ◌∙◌, ap, ℕ, Bool, true, false, not, ◌&&◌, ◌||◌, List, [], ◌∷◌, Option, Some, None, option_map, option_and_then, unwrap_or, is_none, if◌then◌else◌}
-use Rattle.std.specs.Option.{option_map_or}
-use Rattle.std.specs.Str.{is_utf8}
 use Rattle.std.proofs.lemmas.Bool.{and_parts}
 use Rattle.smithy_types.specs.Texts.{found}
 use Rattle.smithy_ids.specs.declared.shape_type.ShapeType.TheVariants as kind
 use Rattle.smithy_ids.specs.Kinds.{same_kind, is_scalar}
 use Rattle.smithy_ids.proofs.KindLemmas.{one_kind}
-use Rattle.smithy_schema.specs.Nodes.{Schema, member_at, members_of, name_of, to_query, to_label, binding_at, binding_of, is_bound}
+use Rattle.smithy_schema.specs.Nodes.{Schema, member_at, members_of, name_of, to_query, to_label, binding_of}
 use Rattle.smithy_serde.specs.Values as value
 use Rattle.smithy_serde.specs.Values.{Value, Write, no_writes}
-use Rattle.smithy_serde.specs.Writes.{Resolved}
 use Rattle.smithy_strings.specs.Escapes.{escape, AreBytes}
 use Rattle.smithy_http.specs.Facts.{values_at}
 use Rattle.smithy_binding.specs.Bindings.{pairs, labels, texts, query_names, place_of, member_text}

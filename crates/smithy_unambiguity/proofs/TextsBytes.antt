@@ -1,10 +1,10 @@
 -- The texts of labels and of the query, and the names in the query, are bytes.
-use Rattle.std.proofs.Common.{◌≡◌, refl, sym, ◌∙◌, ap, subst, ℕ, true, false, ◌&&◌, List, [], ◌∷◌, ◌++◌, map, filter, flat_map, Option, Some, None, option_map, unwrap_or, is_some}
+use Rattle.std.proofs.Common.{◌≡◌, refl, sym, ◌∙◌, ap, subst, ℕ, true, false, ◌&&◌, List, [], ◌∷◌, map, filter, flat_map, Option, Some, None, option_map, unwrap_or, is_some}
 use Rattle.std.specs.List.{AllByRecursion}
 use Rattle.std.specs.Str.{is_utf8}
 use Rattle.std.proofs.lemmas.Bool.{and_parts}
 use Rattle.smithy_types.specs.Results.{each}
-use Rattle.smithy_schema.specs.Nodes.{Schema, member_at, name_of, Binding, to_header, to_prefix, to_query, to_query_map, to_label, to_payload, to_body, binding_of}
+use Rattle.smithy_schema.specs.Nodes.{Schema, member_at, name_of, Binding, to_query, to_query_map, to_label, binding_of}
 use Rattle.smithy_serde.specs.Values as value
 use Rattle.smithy_serde.specs.Values.{Value, Writes, no_writes, write, Write, list_of, text_of_key}
 use Rattle.smithy_serde.specs.Ranges.{is_in_range, are_writes_in_range, are_in_range}

@@ -1,14 +1,13 @@
 -- The normal form has the document of its input, and is typed where its target is a legal one.
-use Rattle.std.proofs.Common.{◌≡◌, refl, sym, ◌∙◌, ap, ℕ, true, List, Option, Some, None, option_map, option_and_then}
+use Rattle.std.proofs.Common.{◌≡◌, refl, sym, ◌∙◌, ap, List, Option, Some, None, option_map, option_and_then}
 use Rattle.std.specs.Result.{result_ok, result_err}
-use Rattle.smithy_schema.specs.Nodes.{Schema, member_at, members_of as nodes_of}
+use Rattle.smithy_schema.specs.Nodes.{Schema}
 use Rattle.smithy_schema.specs.Templates.{pieces}
 use Rattle.smithy_serde.specs.Values.{Value, Write}
 use Rattle.smithy_serde.specs.DocumentOf.{DocumentFault, document_of, document_fault_text}
 use Rattle.smithy_serde.specs.Writes.{all_resolved}
 use Rattle.smithy_binding.specs.Bindings.{labels}
 use Rattle.smithy_binding.specs.Bodies.{document_value}
-use Rattle.smithy_binding.specs.Checked.{has_bound_kind}
 use Rattle.smithy_binding.specs.Faults.{custom, body_fault, fault_of_document}
 use Rattle.smithy_binding.specs.NormalForm.{view}
 use Rattle.smithy_binding.specs.Placing.{template_of}
@@ -16,8 +15,6 @@ use Rattle.smithy_binding.specs.Typed.{is_shallow}
 use Rattle.smithy_binding.proofs.CheckedLaws.{IsCheckedInput-from_test}
 use Rattle.smithy_unambiguity.proofs.Setting.{TargetOfView, ViewTyped}
 use Rattle.smithy_unambiguity.proofs.HeadersTold.{typed_writes}
-use Rattle.smithy_unambiguity.proofs.Placed.{member_has}
-use Rattle.smithy_unambiguity.proofs.Positions.{members_by_position}
 use Rattle.smithy_unambiguity.proofs.Conformity.{conforming, from_conforming}
 use Rattle.smithy_unambiguity.proofs.BodyObject.{typed_bodied}
 use Rattle.smithy_unambiguity.proofs.ViewBody.{bodied_view, docs_alike, doc_by, body_of_view}

@@ -4,8 +4,8 @@ use Rattle.std.specs.Option.{option_map_or}
 use Rattle.std.specs.Cmp.Lexicographic.{same_text as same_from_test}
 use Rattle.std.specs.Str.{str_to_ascii_lowercase}
 use Rattle.std.proofs.lemmas.Bool.{eqb-true}
-use Rattle.std.proofs.lemmas.List.{map-append, append_cancel_left}
-use Rattle.smithy_types.specs.Texts.{found, same_text}
+use Rattle.std.proofs.lemmas.List.{map-append}
+use Rattle.smithy_types.specs.Texts.{found}
 use Rattle.smithy_schema.specs.Nodes.{Schema, member_at, Binding, to_header, to_prefix, binding_of}
 use Rattle.smithy_serde.specs.Values.{Value, Write, text_of_key}
 use Rattle.smithy_serde.specs.Writes.{Resolved}
@@ -17,7 +17,6 @@ use Rattle.smithy_binding.specs.Faults.{is_placed_at}
 use Rattle.smithy_schema.specs.WellMade.{is_well_made}
 use Rattle.smithy_binding.specs.NormalForm.{view, bound_view_at}
 use Rattle.smithy_binding.specs.Placing.{with_default}
-use Rattle.smithy_binding.proofs.Tests.{same_text_self}
 use Rattle.smithy_document.proofs.OrderedPairs.{Pairs, all_put}
 use Rattle.smithy_unambiguity.proofs.LastTexts.{last_value, lowered}
 use Rattle.smithy_unambiguity.proofs.ByMember.{at_member, first_value, only_member, none_given}

@@ -1,7 +1,5 @@
 -- The normal form gives the same pairs, labels and headers at each name.
-use Rattle.std.proofs.Common.{◌≡◌, ◌≢◌, refl, sym, ◌∙◌, ap, ℕ, zero, suc, ◌⊎◌, inl, inr, Bool, true, false, cond, ◌&&◌, ◌||◌, List, [], ◌∷◌, flat_map, slice_get, Option, Some, None, option_map, option_and_then, unwrap_or, if◌then◌else◌}
-use Rattle.std.specs.List.{AllByRecursion}
-use Rattle.std.specs.Option.{option_map_or}
+use Rattle.std.proofs.Common.{◌≡◌, refl, sym, ◌∙◌, ap, ℕ, zero, suc, ◌⊎◌, inl, inr, Bool, true, false, cond, ◌||◌, List, [], ◌∷◌, flat_map, slice_get, Option, Some, None, option_and_then, unwrap_or, if◌then◌else◌}
 use Rattle.std.specs.Cmp.Lexicographic.{same_text as same_from_test}
 use Rattle.std.proofs.lemmas.Bool.{and_parts}
 use Rattle.smithy_types.specs.Texts.{found, same_text, is_one_of}
@@ -12,10 +10,9 @@ use Rattle.smithy_schema.specs.Nodes.{Schema, element_of, value_of, member_at, m
 use Rattle.smithy_serde.specs.Values as value
 use Rattle.smithy_serde.specs.Values.{Value, Writes, no_writes, write, Write}
 use Rattle.smithy_serde.specs.NormalBody.{settled_elements}
-use Rattle.smithy_serde.specs.Writes.{Resolved, all_resolved, firsts}
 use Rattle.smithy_http.specs.Facts.{values_at}
-use Rattle.smithy_binding.specs.Bindings.{pairs, pairs_of, pairs_at, labels, labelled, labelled_at, query_names, texts, entry_texts}
-use Rattle.smithy_binding.specs.Checked.{IsCheckedInput, has_element, has_bound_kind, is_query_map}
+use Rattle.smithy_binding.specs.Bindings.{pairs, labels, query_names, texts, entry_texts}
+use Rattle.smithy_binding.specs.Checked.{IsCheckedInput, has_element, is_query_map}
 use Rattle.smithy_binding.specs.Faults.{is_placed_at}
 use Rattle.smithy_schema.specs.WellMade.{is_well_made}
 use Rattle.smithy_binding.specs.NormalForm.{view, bound_view_at, unless_empty, with_own_elements}

@@ -6,13 +6,12 @@ use Rattle.std.proofs.lemmas.List.{map-append}
 use Rattle.smithy_types.specs.Texts.{found, same_text}
 use Rattle.smithy_types.specs.Grammars.{before_query}
 use Rattle.smithy_types.specs.Results.{then_try, then_give}
-use Rattle.smithy_schema.specs.Nodes.{Schema, member_at, members_of}
 use Rattle.smithy_schema.specs.Templates.{Piece, Template, pieces}
 use Rattle.smithy_http.specs.Facts.{facts, values_at, named_piece, query_pieces}
 use Rattle.smithy_strings.specs.Escapes.{escape, AreBytes}
 use Rattle.smithy_binding.specs.Bindings.{headers, pairs, labels}
 use Rattle.smithy_binding.specs.Bodies.{body}
-use Rattle.smithy_binding.specs.Checked.{IsCheckedInput, has_bound_kind}
+use Rattle.smithy_binding.specs.Checked.{IsCheckedInput}
 use Rattle.smithy_binding.specs.Filling.{fill, fill_rest, filled_hole}
 use Rattle.smithy_binding.specs.NormalForm.{view}
 use Rattle.smithy_binding.specs.Answer.{request_at}
@@ -20,7 +19,6 @@ use Rattle.smithy_binding.specs.Placing.{template_of, with_query, pair_text, all
 use Rattle.smithy_binding.specs.Typed.{IsTyped}
 use Rattle.smithy_serde.specs.Values.{Write}
 use Rattle.smithy_binding.proofs.CheckedLaws.{IsCheckedInput-from_test}
-use Rattle.smithy_binding.proofs.Tests.{same_text_self}
 use Rattle.smithy_unambiguity.proofs.Setting.{SeenOfView, ViewTyped}
 use Rattle.smithy_unambiguity.proofs.HeadersTold.{typed_writes}
 use Rattle.smithy_unambiguity.proofs.Placed.{HasTypedWrites}

@@ -1,5 +1,5 @@
 -- The target of the normal form is as long and as legal as the input's.
-use Rattle.std.proofs.Common.{◌≡◌, refl, sym, ◌∙◌, ap, ℕ, nat_le, suc, ◌+◌, arith, Bool, true, false, cond, ◌==◌, List, [], ◌∷◌, ◌++◌, map, filter, length, codes, Some, None, append_assoc, Option}
+use Rattle.std.proofs.Common.{◌≡◌, refl, sym, ◌∙◌, ap, ℕ, nat_le, suc, ◌+◌, arith, Bool, true, false, cond, ◌==◌, List, [], ◌∷◌, ◌++◌, map, filter, length, codes, None, append_assoc, Option}
 use Rattle.std.specs.List.{AllByRecursion, list_all, join_with_byte, after_first}
 use Rattle.std.specs.Option.{option_or}
 use Rattle.std.proofs.lemmas.Bool.{and_parts, and_from, agree_below, agree_below_at}
@@ -9,7 +9,6 @@ use Rattle.percent_encoding.specs.Percent.{percent_encode_byte}
 use Rattle.smithy_types.specs.Texts.{has_byte, same_text}
 use Rattle.smithy_types.specs.Grammars.{is_query_byte, is_stem, is_target, is_short_target, max_target_len, before_query}
 use Rattle.smithy_types.specs.Results.{unless}
-use Rattle.smithy_schema.specs.Nodes.{Schema, member_at, members_of}
 use Rattle.smithy_http.specs.Facts.{values_at}
 use Rattle.smithy_strings.specs.Escapes.{escape, escape_byte, AreBytes}
 use Rattle.smithy_binding.specs.Bindings.{pairs}

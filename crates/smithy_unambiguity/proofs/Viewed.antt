@@ -9,7 +9,7 @@ use Rattle.smithy_serde.specs.Ranges.{is_in_range}
 use Rattle.smithy_serde.specs.Fits.{fits, is_null}
 use Rattle.smithy_serde.specs.Shaped.{is_shaped}
 use Rattle.smithy_serde.specs.NormalBody.{settled}
-use Rattle.smithy_serde.specs.Writes.{firsts, all_resolved}
+use Rattle.smithy_serde.specs.Writes.{firsts}
 use Rattle.smithy_binding.specs.Bindings.{query_names}
 use Rattle.smithy_binding.specs.Bodies.{is_payload, is_codec_kind}
 use Rattle.smithy_binding.specs.Checked.{IsCheckedInput, has_bound_kind}

@@ -1,5 +1,5 @@
 -- A whole number of any width is one of 64 bits.
-use Rattle.std.proofs.Common.{◌≡◌, ℕ, ◌^◌, ◌<◌, ◌≤◌, arith, true, ◌&&◌, ℤ, pos, negsuc, FitsSigned, w64}
+use Rattle.std.proofs.Common.{◌≡◌, ℕ, ◌^◌, ◌<◌, ◌≤◌, arith, true, ℤ, pos, negsuc, FitsSigned, w64}
 use Rattle.std.specs.Prelude.{int_le, int_lt, neg_ℤ}
 use lib.Signed.{mag}
 use Rattle.std.proofs.lemmas.Int.{ints}

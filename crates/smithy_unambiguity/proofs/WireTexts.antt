@@ -1,26 +1,20 @@
 -- The text of a value is UTF-8, and empty for an empty text or no bytes alone.
-use Rattle.std.proofs.Common.{◌≡◌, refl, subst, ℕ, zero, suc, ◌+◌, ◌-◌, ◌/◌, ◌%◌, ◌^◌, ◌<◌, ◌≤◌, arith, Bool, true, false, List, [], ◌++◌, length, replicate, codes, Option, Some, unwrap_or, slice_get, ℤ}
+use Rattle.std.proofs.Common.{◌≡◌, refl, subst, ℕ, Bool, true, false, List, codes, Option, Some}
 use Rattle.std.specs.Str.{is_utf8, IsAscii}
-use Rattle.std.specs.Fmt.{decimal, signed_decimal}
-use Rattle.std.proofs.lemmas.Bool.{agree_below, agree_below_at}
-use Rattle.std.proofs.lemmas.Fmt.{IsAscii-decimal, IsAscii-signed}
-use Rattle.std.proofs.lemmas.Str.{is_utf8-from_IsUtf8, IsUtf8-from_ascii, IsAscii-append}
+use Rattle.std.specs.Fmt.{signed_decimal}
+use Rattle.std.proofs.lemmas.Fmt.{IsAscii-signed}
+use Rattle.std.proofs.lemmas.Str.{is_utf8-from_IsUtf8, IsUtf8-from_ascii}
 use Rattle.base64.specs.Engines.{standard}
 use Rattle.base64.proofs.EngineFacts.{IsAscii-encode_of}
-use Rattle.smithy_types.specs.Texts.{padded_decimal}
-use Rattle.smithy_types.specs.Calendar.{date_of}
-use Rattle.smithy_types.specs.declared.date_time.Format.{Format}
-use Rattle.smithy_types.specs.declared.date_time.Format.TheVariants as text
-use Rattle.smithy_types.specs.Timestamps.{timestamp_text, clock_text, weekday_name, weekday_names, month_name, full_date_text, short_date_text, date_time_text, http_date_text}
 use Rattle.smithy_ids.specs.declared.traits.TimestampFormat.{TimestampFormat}
 use Rattle.smithy_serde.specs.Values as value
 use Rattle.smithy_serde.specs.Values.{Value}
-use Rattle.smithy_serde.specs.Ranges.{is_in_range, is_signed_within}
+use Rattle.smithy_serde.specs.Ranges.{is_in_range}
 use Rattle.smithy_serde.specs.DocumentOf.{base64}
 use Rattle.smithy_strings.specs.declared.wire.Place.{Place}
 use Rattle.smithy_strings.specs.declared.wire.Place.TheVariants.{Header}
 use Rattle.smithy_strings.specs.Wire.{wire, time_format, blob_text, string_text}
-use Rattle.smithy_unambiguity.proofs.AsciiTexts.{are_low, IsAscii-from_test, big_integer-utf8, big_decimal-utf8}
+use Rattle.smithy_unambiguity.proofs.AsciiTexts.{IsAscii-from_test, big_integer-utf8, big_decimal-utf8}
 use Rattle.smithy_unambiguity.proofs.TimeTexts.{time_form, form_utf8}
 use Rattle.smithy_unambiguity.proofs.Widths.{long_width, long_magnitude}
 

@@ -1,5 +1,5 @@
 -- The text of a scalar gives the scalar back, for its kind and place.
-use Rattle.std.proofs.Common.{◌≡◌, refl, sym, ◌∙◌, ap, subst, ℕ, suc, zero, Bool, true, false, ◌&&◌, List, [], ◌∷◌, codes, Option, Some, None, option_map, option_and_then, unwrap_or, if◌then◌else◌, ltb-true, nat_lt, arith, ℤ, ◌^◌, IfSome}
+use Rattle.std.proofs.Common.{◌≡◌, refl, sym, ◌∙◌, ap, subst, ℕ, suc, zero, Bool, true, false, List, [], ◌∷◌, codes, Option, Some, None, option_map, option_and_then, unwrap_or, if◌then◌else◌, ltb-true, nat_lt, arith, ℤ, ◌^◌, IfSome}
 use Rattle.std.specs.Result.{result_ok}
 use Rattle.std.specs.Str.{is_utf8}
 use Rattle.std.proofs.lemmas.Bool.{and_parts}
@@ -16,8 +16,8 @@ use Rattle.smithy_ids.specs.declared.shape_type.ShapeType.TheVariants as kind
 use Rattle.smithy_ids.specs.declared.traits.TimestampFormat.{TimestampFormat}
 use Rattle.smithy_serde.specs.Values as value
 use Rattle.smithy_serde.specs.Values.{Scalar, Value, Width, byte, short, integer, long}
-use Rattle.smithy_serde.specs.Ranges.{is_in_range, is_scalar_in_range, is_in_width, is_signed_within, are_bytes}
-use Rattle.smithy_serde.specs.Fits.{fits, fits_in_range, scalar_kind, written_kind, width_kind, kind_takes}
+use Rattle.smithy_serde.specs.Ranges.{is_in_range, is_scalar_in_range, is_signed_within, are_bytes}
+use Rattle.smithy_serde.specs.Fits.{fits, fits_in_range, scalar_kind, width_kind}
 use Rattle.smithy_serde.specs.DocumentOf.{base64}
 use Rattle.smithy_strings.specs.declared.wire.Place.{Place}
 use Rattle.smithy_strings.specs.declared.wire.Place.TheVariants.{Header}

@@ -1,5 +1,5 @@
 use Rattle.smithy_unambiguity.proofs.ViewTarget.{facts_decide}
-use Rattle.smithy_binding.specs.Protocols.{codec_of, protocol_of}
+use Rattle.smithy_binding.specs.Protocols.{codec_of}
 use Rattle.smithy_unambiguity.proofs.laws.facts_decide_view.Goals as goal
 
 pub returns : goal.returns
