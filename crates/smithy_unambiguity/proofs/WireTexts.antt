@@ -1,4 +1,4 @@
--- The text of a value is UTF-8, and empty for an empty text or no bytes alone.
+-- The text of a value in range is UTF-8.
 use Rattle.std.proofs.Common.{◌≡◌, refl, subst, ℕ, Bool, true, false, List, codes, Option, Some}
 use Rattle.std.specs.Str.{is_utf8, IsAscii}
 use Rattle.std.specs.Fmt.{signed_decimal}
