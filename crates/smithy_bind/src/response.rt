@@ -1,5 +1,7 @@
 // The command `response`: the value of a response.
-ghost use Rattle.std.specs.Prelude.{◌≡◌, ◌++◌, codes, [], unwrap_or, IfOk, string_bytes};
+ghost use Rattle.std.specs.Prelude.{◌≡◌, ◌++◌, codes, [], Some, unwrap_or, IfOk, string_bytes};
+ghost use Rattle.smithy_schema.specs.Nodes.{at_place};
+ghost use Rattle.smithy_schema.specs.References.{schema_of};
 ghost use Rattle.smithy_serde.specs.StoredValues.{HasNode};
 ghost use Rattle.smithy_model.specs.Nodes.{Errors};
 ghost use Rattle.smithy_job.specs.ReceivedView.{IsCoded};
@@ -18,7 +20,7 @@ use smithy_job::{CodedError, Expected, Received, read_received};
 use smithy_model::JobError;
 use smithy_registry::sanitize_error_code;
 use smithy_response::response_value;
-use smithy_schema::{SchemaIndex, Schemas};
+use smithy_schema::{SchemaIndex, SchemaRef, Schemas};
 use smithy_serde::SerdeError;
 use std::alloc::{AllocError, Global};
 
@@ -62,7 +64,18 @@ struct Reading<'r> {
     table: &'r Schemas,
 }
 
-impl Reading<'_> {
+impl<'r> Reading<'r> {
+    // The node at a place.
+    fn schema_at(&self, place: SchemaIndex) -> SchemaRef<'r>
+        requires { HasNode self.now.table.now place.0 }
+        ensures { at_place self.now.table.now place.0 ≡ Some (schema_of result) }
+    {
+        let Some(schema) = self.table.get(place) else {
+            unreachable!()
+        };
+        schema
+    }
+
     // What is to be told of the response, read by the node at a place, as an output or as a modelled error.
     #[tactic(auto, unfolding(crate::specs::Responding::read_by))]
     fn answer_by(
@@ -74,9 +87,7 @@ impl Reading<'_> {
         requires { HasNode self.now.table.now place.0 }
         ensures { AnswersBy self.now.table.now place.0 is_error self.now.response.now self.now.policy result }
     {
-        let Some(schema) = self.table.get(place) else {
-            unreachable!()
-        };
+        let schema = self.schema_at(place);
         if !checked_output(alloc, schema)? {
             return Err(JobError::NoJob);
         }
@@ -118,9 +129,7 @@ impl Reading<'_> {
         requires { HasNode self.now.table.now place.0 }
         ensures { AnswersNamed self.now.table.now place.0 self.now.response.now self.now.policy result }
     {
-        let Some(schema) = self.table.get(place) else {
-            unreachable!()
-        };
+        let schema = self.schema_at(place);
         match self.answer_by(alloc, place, true)? {
             Answer::Output(text) => {
                 let name = schema.shape_id().as_str();
