@@ -1,24 +1,28 @@
 // A reader of JSON.
-ghost use Rattle.std.specs.Prelude.{◌≡◌, IsTrue};
+ghost use Rattle.std.specs.Prelude.{◌≡◌, Some, IfOk, IsTrue};
 ghost use Rattle.smithy_serde.specs.Refusals.{IsRefusal};
+ghost use Rattle.smithy_serde.specs.ReadCalls.{Gives, is_of_kind, scalar_of_read, type_of};
+ghost use Rattle.smithy_serde.specs.DocumentReads.{scalar_of_document};
+ghost use Rattle.smithy_document.specs.InOrder.{is_read, is_tree_read};
 ghost use Rattle.smithy_document.specs.JsonHeld.{not_json as not_json_lem};
-ghost use Rattle.smithy_document.specs.Roots.{is_root_canonical};
+ghost use Rattle.smithy_document.specs.JsonTree.{node_view};
 
-use crate::cursor::Cursor;
-use crate::place::{is_null, size_of};
+use crate::json_tree::{JsonTree, Node};
+use crate::json_tree_cursor::TreeCursor;
+use crate::json_tree_documents::document_of;
 use crate::scalar_reads::read_as;
 use smithy_schema::SchemaRef;
 use smithy_serde::{Group, ReadScalar, ScalarKind, SerdeError, ShapeDeserializer};
-use smithy_types::{Document, NoSettings, Text};
+use smithy_types::{NoSettings, Text};
 use std::alloc::Global;
 
 /// Reads a JSON text as `DocumentShapeDeserializer` reads its document. Over what is no JSON, or has a float in it, each
 /// read and each opening is refused with `InvalidInput`.
 #[derive(Drop)]
 pub struct JsonDeserializer {
-    pub(crate) root: Option<Document>,
-    pub(crate) cursor: Cursor,
-    ghost canonical: { IsTrue (is_root_canonical root) },
+    pub(crate) tree: Option<JsonTree>,
+    pub(crate) cursor: TreeCursor,
+    ghost read: { IsTrue (is_tree_read tree) },
 }
 
 // The refusal of what is no JSON.
@@ -26,6 +30,27 @@ fn not_json(alloc: Global) -> SerdeError
     ensures { IsRefusal not_json_lem result }
 {
     SerdeError::invalid_input(alloc, "body is not JSON")
+}
+
+// One of the tree's values as a scalar of the kind.
+fn read_node(
+    alloc: Global,
+    tree: &JsonTree,
+    node: &Node,
+    kind: ScalarKind,
+) -> Result<ReadScalar, SerdeError>
+    requires { IsTrue (is_read (node_view tree.now.texts node.now)) }
+    ensures of_kind { IfOk result (λ a. IsTrue (is_of_kind kind (scalar_of_read a))) }
+    ensures gives { Gives scalar_of_read (Some (scalar_of_document (type_of kind) (node_view tree.now.texts node.now))) result }
+{
+    match (kind, node) {
+        (ScalarKind::String, Node::Text(place)) => {
+            let text = Text::from_str(alloc, tree.texts.get(*place))?;
+            Ok(ReadScalar::String(text))
+        }
+        (ScalarKind::Document, _) => Ok(ReadScalar::Document(document_of(alloc, tree, node)?)),
+        _ => read_as::<NoSettings>(alloc, &document_of(alloc, tree, node)?, kind, None),
+    }
 }
 
 impl ShapeDeserializer for JsonDeserializer {
@@ -39,8 +64,8 @@ impl ShapeDeserializer for JsonDeserializer {
         _schema: SchemaRef<'_>,
         kind: ScalarKind,
     ) -> Result<ReadScalar, SerdeError> {
-        match &self.root {
-            Some(root) => read_as::<NoSettings>(alloc, self.cursor.document(root), kind, None),
+        match &self.tree {
+            Some(tree) => read_node(alloc, tree, self.cursor.node(tree), kind),
             None => Err(not_json(alloc)),
         }
     }
@@ -51,8 +76,8 @@ impl ShapeDeserializer for JsonDeserializer {
         _schema: SchemaRef<'_>,
         group: Group,
     ) -> Result<(), SerdeError> {
-        match &self.root {
-            Some(root) => self.cursor.open(alloc, root, group),
+        match &self.tree {
+            Some(tree) => self.cursor.open(alloc, tree, group),
             None => Err(not_json(alloc)),
         }
     }
@@ -62,22 +87,22 @@ impl ShapeDeserializer for JsonDeserializer {
         _alloc: Global,
         schema: SchemaRef<'s>,
     ) -> Result<Option<SchemaRef<'s>>, SerdeError> {
-        match &self.root {
-            Some(root) => Ok(self.cursor.next_member(root, schema)),
+        match &self.tree {
+            Some(tree) => Ok(self.cursor.next_member(tree, schema)),
             None => unreachable!(),
         }
     }
 
     fn next_element(&mut self, _alloc: Global) -> Result<bool, SerdeError> {
-        match &self.root {
-            Some(root) => Ok(self.cursor.next_element(root)),
+        match &self.tree {
+            Some(tree) => Ok(self.cursor.next_element(tree)),
             None => unreachable!(),
         }
     }
 
     fn next_entry(&mut self, alloc: Global) -> Result<Option<Text>, SerdeError> {
-        match &self.root {
-            Some(root) => self.cursor.next_entry(alloc, root),
+        match &self.tree {
+            Some(tree) => self.cursor.next_entry(alloc, tree),
             None => unreachable!(),
         }
     }
@@ -87,13 +112,14 @@ impl ShapeDeserializer for JsonDeserializer {
     }
 
     fn is_null(&self) -> bool {
-        match &self.root {
-            Some(root) => is_null(self.cursor.document(root)),
+        match &self.tree {
+            Some(tree) => self.cursor.node(tree).is_null(),
             None => false,
         }
     }
 
     fn container_size(&self) -> Option<usize> {
-        size_of(self.cursor.document(self.root.as_ref()?))
+        let tree = self.tree.as_ref()?;
+        self.cursor.node(tree).container_size()
     }
 }

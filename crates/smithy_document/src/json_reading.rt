@@ -1,12 +1,11 @@
 // The document of a JSON text.
-ghost use Rattle.std.specs.Prelude.{◌≡◌, IfOk, IfErr, IsTrue, option_map};
+ghost use Rattle.std.specs.Prelude.{◌≡◌, IfOk, IfErr, option_map};
 ghost use Rattle.smithy_types.specs.Documents.{members_of};
 ghost use Rattle.serde_json.specs.View.{view, items_view, members_view, number_view as json_number_view};
 ghost use Rattle.smithy_types.specs.DocumentView.{number_view, view as document_view, items_view as documents_view, members_view as fields_view};
 ghost use Rattle.smithy_document.specs.FromData.{number_of_data, of_data, items_of_data, pairs_of_data};
 ghost use Rattle.smithy_document.specs.JsonHeld.{document_of_text};
 ghost use Rattle.smithy_document.specs.JsonFaults.{Reads};
-ghost use Rattle.smithy_document.specs.Roots.{is_root_canonical};
 
 use crate::json_fault::JsonFault;
 use serde_json::{Map, Number as JsonNumber, Value};
@@ -69,7 +68,6 @@ fn fields_of(alloc: Global, members: &Map<String, Value>) -> Result<Members, Jso
 /// The document of a JSON text (RFC 8259) in UTF-8, none where it is no JSON or has a float in it. Takes memory.
 pub(crate) fn read_document(alloc: Global, text: &[u8]) -> Result<Option<Document>, SerdeError>
     ensures document { IfOk result (λ o. option_map document_view o ≡ document_of_text text.now) }
-    ensures canonical { IfOk result (λ o. IsTrue (is_root_canonical o)) }
     ensures memory { IfErr result (λ e. e ≡ SerdeError.OutOfMemory) }
 {
     match read_value(alloc, text) {

@@ -1,7 +1,0 @@
-use Rattle.std.proofs.Common.{true, Ok}
-use Rattle.smithy_serde.specs.ReadCalls.{NextElement}
-use Rattle.smithy_document.proofs.JsonHandLemmas.{over}
-use Rattle.smithy_document.proofs.json_deserializer.JsonDeserializerShapeDeserializer.next_element.Goals as goal
-
-pub returns : goal.returns
-returns c = over (λ old new. NextElement old new (Ok c.next_element.result)) c.args.self.now.root c.in-Some.root c.args.self.now.cursor c.next_element.new.self c.in-Some.is (c.next_element.ensures true)

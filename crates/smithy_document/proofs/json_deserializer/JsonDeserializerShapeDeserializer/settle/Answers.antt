@@ -1,5 +1,0 @@
-use Rattle.smithy_document.proofs.JsonHandLemmas.{json_answered}
-use Rattle.smithy_document.proofs.json_deserializer.JsonDeserializerShapeDeserializer.settle.Goals as goal
-
-pub returns : goal.returns
-returns c = json_answered c.args.self.now.root c.args.self.now.cursor c.args.refusal

@@ -1,0 +1,52 @@
+-- The document that a tree of JSON is.
+use Rattle.std.specs.Prelude.{◌≡◌, ℕ, List, [], ◌∷◌, ◌++◌, map, slice_get}
+use Rattle.std.specs.Option.{option_map_or, unwrap_or}
+use Rattle.smithy_types.specs.Documents as doc
+use Rattle.smithy_types.specs.Documents.{Document}
+use Rattle.smithy_types.specs.DocumentView.{number_view}
+use Rattle.smithy_document.specs.OpenDocuments.{parts_of}
+use Rattle.smithy_document.specs.declared.json_tree.JsonTree.{JsonTree}
+use Rattle.smithy_document.specs.declared.json_tree.Node.{Node, fold-Node}
+use Rattle.smithy_document.specs.declared.json_tree.Node.TheOpen.{Node-F}
+
+-- the text at a place, and the empty one behind the last
+abbrev pub text_at : List (List ℕ) → ℕ → List ℕ
+text_at texts place = unwrap_or (slice_get texts place) []
+
+-- fields whose names are places of texts, as members in this order
+abbrev pub members_in_turn : List (List ℕ) → List (ℕ × Document) → doc.Members
+members_in_turn texts [] = doc.no_members
+members_in_turn texts (f ∷ fs) = doc.member (text_at texts f.0) f.1 (members_in_turn texts fs)
+
+-- one level, with what is inside already seen as documents
+abbrev pub node_step : List (List ℕ) → Node-F Document → Document
+node_step texts Node-F.Null = doc.null
+node_step texts (Node-F.Bool b) = doc.boolean b
+node_step texts (Node-F.Number n) = doc.number (number_view n)
+node_step texts (Node-F.Text place) = doc.string (text_at texts place)
+node_step texts (Node-F.Array v) = doc.array (doc.items_of v.items)
+node_step texts (Node-F.Object v) = doc.object (members_in_turn texts v.items)
+
+abbrev pub node_view : List (List ℕ) → Node → Document
+node_view texts = fold-Node Document (node_step texts)
+
+abbrev pub nodes_view : List (List ℕ) → List Node → doc.Items
+nodes_view texts ns = doc.items_of (map (node_view texts) ns)
+
+abbrev pub fields_view : List (List ℕ) → List (ℕ × Node) → doc.Members
+fields_view texts fs = members_in_turn texts (map (λ f. (f.0, node_view texts f.1)) fs)
+
+abbrev pub tree_view : JsonTree → Document
+tree_view t = node_view t.texts t.root
+
+-- the name of the part at a place, which is empty in an array and where there is none
+abbrev pub part_name : Document → ℕ → List ℕ
+part_name d place = option_map_or (λ p. p.0) (slice_get (parts_of d) place) []
+
+-- texts were added at the end
+abbrev pub Grows : List (List ℕ) → List (List ℕ) → Type 0
+Grows old new = (added : List (List ℕ)) × (new ≡ old ++ added)
+
+-- what f sees in the texts is x, also once others are added
+abbrev pub StaysIn : {X : Type 0} → (List (List ℕ) → X) → List (List ℕ) → X → Type 0
+StaysIn f texts x = (more : List (List ℕ)) → f (texts ++ more) ≡ x

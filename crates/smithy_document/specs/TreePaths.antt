@@ -1,0 +1,45 @@
+-- Paths into a tree of JSON, and what a cursor in it stands for.
+use Rattle.std.specs.Prelude.{◌<◌, ◌-◌, ◌==◌, ℕ, true, List, [], ◌∷◌, ◌++◌, drop, length, slice_get, if◌then◌else◌, Option, Some, None}
+use Rattle.std.specs.Option.{option_map_or}
+use Rattle.smithy_types.specs.Documents.{Document}
+use Rattle.smithy_serde.specs.ReadCalls.{AtHand}
+use Rattle.smithy_document.specs.declared.json_tree_cursor.TreeCursor.{TreeCursor}
+use Rattle.smithy_document.specs.declared.json_tree_cursor.TreePlace.{TreePlace}
+use Rattle.smithy_document.specs.CursorView.{ClosesAt, StepsTo}
+use Rattle.smithy_document.specs.OpenDocuments.{parts_of, Opened, reading}
+
+-- the part that was handed out last, the container itself where none was
+abbrev pub part_behind : Document → TreePlace → Document
+part_behind d p = if p.next == 0 then d else option_map_or (λ part. part.1) (slice_get (parts_of d) (p.next - 1)) d
+
+-- the document at the end of a path
+abbrev pub path_end : Document → List TreePlace → Document
+path_end d [] = d
+path_end d (p ∷ ps) = path_end (part_behind d p) ps
+
+abbrev pub opened_at : Document → TreePlace → Opened
+opened_at d p = record { form = p.form; container = d; rest = drop p.next (parts_of d) }
+
+-- the open containers along a path, the innermost first
+abbrev pub opened_along : Document → List TreePlace → List Opened
+opened_along d [] = []
+opened_along d (p ∷ ps) = opened_along (part_behind d p) ps ++ opened_at d p ∷ []
+
+abbrev pub document_at : Document → TreeCursor → Document
+document_at root c = path_end root c.places.items
+
+abbrev pub opened_by : Document → TreeCursor → List Opened
+opened_by root c = opened_along root c.places.items
+
+-- a container is open
+abbrev pub IsOpen : TreeCursor → Type 0
+IsOpen c = 0 < length c.places.items
+
+-- what is seen of a reader that stands there
+abbrev pub tree_seen : Document → TreeCursor → AtHand
+tree_seen root c = reading true (document_at root c) (opened_by root c)
+
+-- the next part, of this name, came to hand, or the container was closed
+abbrev pub MovesOn : Document → TreeCursor → TreeCursor → Option (List ℕ) → Type 0
+MovesOn root old new None = ClosesAt (opened_by root old) (document_at root new) (opened_by root new)
+MovesOn root old new (Some name) = StepsTo name (opened_by root old) (document_at root new) (opened_by root new)

@@ -1,0 +1,98 @@
+// JSON values as trees whose texts stand in one buffer.
+ghost use Rattle.std.specs.Prelude.{◌≡◌, ℕ, List, length, option_map, slice_get};
+ghost use Rattle.smithy_types.specs.DocumentView.{view as document_view};
+ghost use Rattle.smithy_serde.specs.Held.{is_null_document};
+ghost use Rattle.smithy_document.specs.OpenDocuments.{parts_of, opens_as as opens_as_lem};
+ghost use Rattle.smithy_document.specs.JsonTree.{node_view, tree_view, part_name as part_name_lem};
+ghost use Rattle.smithy_document.specs.Sizes.{container_size};
+
+use crate::text_list::TextList;
+use smithy_serde::{Group, capped_container_size};
+use smithy_types::Number;
+
+/// A JSON value (RFC 8259) without floats. Texts and names are places of a list of texts.
+#[derive(Drop)]
+pub(crate) enum Node {
+    Null,
+    Bool(bool),
+    Number(Number),
+    Text(usize),
+    Array(Vec<Node>),
+    /// Names with their values, in byte order of the names, of which none stands twice.
+    Object(Vec<(usize, Node)>),
+}
+
+/// A JSON value with its texts, seen as the document that it is.
+#[derive(Drop)]
+pub(crate) struct JsonTree {
+    pub(crate) texts: TextList,
+    pub(crate) root: Node,
+}
+
+impl Node {
+    /// How many parts an array or an object has; other values have none.
+    pub(crate) fn part_count(&self) -> usize
+        ensures { (texts : List (List ℕ)) → result ≡ length (parts_of (node_view texts self.now)) }
+    {
+        match self {
+            Node::Array(items) => items.len(),
+            Node::Object(fields) => fields.len(),
+            _ => 0,
+        }
+    }
+
+    /// The part at a place, counted from 0.
+    pub(crate) fn part(&self, place: usize) -> Option<&Node>
+        ensures { (texts : List (List ℕ)) → option_map (λ n. node_view texts n.now) result
+            ≡ option_map (λ p. p.1) (slice_get (parts_of (node_view texts self.now)) place) }
+    {
+        match self {
+            Node::Array(items) => items.get(place),
+            Node::Object(fields) => Some(&fields.get(place)?.1),
+            _ => None,
+        }
+    }
+
+    /// Whether it opens so: an array as a list, an object as a map or a structure.
+    pub(crate) fn opens_as(&self, group: Group) -> bool
+        ensures { (texts : List (List ℕ)) → result ≡ opens_as_lem group (node_view texts self.now) }
+    {
+        match self {
+            Node::Array(_) => matches!(group, Group::List),
+            Node::Object(_) => matches!(group, Group::Map | Group::Structure),
+            _ => false,
+        }
+    }
+
+    /// How many parts an array or an object has, and 10,000 where it has more; none of any other value.
+    pub(crate) fn container_size(&self) -> Option<usize>
+        ensures { (texts : List (List ℕ)) → result ≡ container_size (node_view texts self.now) }
+    {
+        match self {
+            Node::Array(_) | Node::Object(_) => Some(capped_container_size(self.part_count())),
+            _ => None,
+        }
+    }
+
+    /// Whether it is the null.
+    pub(crate) fn is_null(&self) -> bool
+        ensures { (texts : List (List ℕ)) → result ≡ is_null_document (node_view texts self.now) }
+    {
+        matches!(self, Node::Null)
+    }
+}
+
+impl JsonTree {
+    /// The name of the part at a place of one of the tree's values, which is empty in an array.
+    pub(crate) fn part_name(&self, container: &Node, place: usize) -> &str
+        ensures { result.now ≡ part_name_lem (node_view self.now.texts container.now) place }
+    {
+        let Node::Object(fields) = container else {
+            return "";
+        };
+        match fields.get(place) {
+            Some(field) => self.texts.get(field.0),
+            None => "",
+        }
+    }
+}

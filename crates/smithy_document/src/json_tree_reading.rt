@@ -1,0 +1,179 @@
+// JSON texts as trees.
+ghost use Rattle.std.specs.Prelude.{◌≡◌, Some, IfOk, IfErr, IfSome, IsTrue, map, option_map};
+ghost use Rattle.json.specs.Find.{as_number};
+ghost use Rattle.json.specs.Value.{value_view, items_view, members_view};
+ghost use Rattle.serde_json.specs.Read.{number_of as number_of_text};
+ghost use Rattle.smithy_types.specs.DocumentView.{number_view};
+ghost use Rattle.smithy_types.specs.Maps.{IsOrdered};
+ghost use Rattle.smithy_document.specs.FromJson.{document_of_json, items_of_json, members_of_json, IsFound};
+ghost use Rattle.smithy_document.specs.InOrder.{is_tree_read};
+ghost use Rattle.smithy_document.specs.JsonHeld.{document_of_text};
+ghost use Rattle.smithy_document.specs.JsonTree.{node_view, nodes_view, fields_view, tree_view, Grows};
+
+use crate::json_fault::JsonFault;
+use crate::json_reading::read_document;
+use crate::json_tree::{JsonTree, Node};
+use crate::json_tree_documents::tree_of;
+use crate::text_list::TextList;
+use json::{Error as JsonError, Reader, Scratch, Value};
+use smithy_serde::SerdeError;
+use smithy_types::Number;
+use std::alloc::Global;
+use std::collections::BTreeMap;
+
+// The number that a text writes, where it is an integer of 64 bits.
+fn number_of(value: &Value<'_>) -> Option<Number> {
+    match value.as_u64() {
+        Some(number) => Some(Number::PosInt(number)),
+        None => Some(Number::from_i64(value.as_i64()?)),
+    }
+}
+
+// The value that stands in a text, without floats.
+#[cycle(node)]
+fn node_of(alloc: Global, texts: &mut TextList, value: &Value<'_>) -> Result<Node, JsonFault>
+    ensures grows { Grows texts.old texts.new }
+    ensures is { IfOk result (λ n. IsFound (document_of_json (value_view value.now)) (λ ts. node_view ts n) texts.new) }
+{
+    match value {
+        Value::Null => Ok(Node::Null),
+        Value::Bool(truth) => Ok(Node::Bool(*truth)),
+        Value::Number(_) => match number_of(value) {
+            Some(number) => Ok(Node::Number(number)),
+            None => Err(JsonFault::NoDocument),
+        },
+        Value::String(text) => Ok(Node::Text(texts.push(*text)?)),
+        Value::Array(items) => Ok(Node::Array(nodes_of(alloc, texts, items)?)),
+        Value::Object(members) => {
+            if are_ascending(members) {
+                Ok(Node::Object(fields_in_turn(alloc, texts, members)?))
+            } else {
+                Ok(Node::Object(fields_in_order(alloc, texts, members)?))
+            }
+        }
+    }
+}
+
+#[cycle(node)]
+fn nodes_of(
+    alloc: Global,
+    texts: &mut TextList,
+    items: &Vec<Value<'_>>,
+) -> Result<Vec<Node>, JsonFault>
+    ensures grows { Grows texts.old texts.new }
+    ensures are { IfOk result (λ ns. IsFound (items_of_json (items_view items.now.items)) (λ ts. nodes_view ts ns.items) texts.new) }
+{
+    let mut found = Vec::new(alloc);
+    'items: for item in items {
+        found.push(node_of(alloc, texts, item)?)?;
+    }
+    Ok(found)
+}
+
+// Whether each name stands before the next in byte order.
+fn are_ascending(members: &Vec<(&str, Value<'_>)>) -> bool
+    ensures { IsTrue result → IsOrdered (map (λ m. (m.0.now, m.1)) members.now.items) }
+{
+    let mut before = None;
+    'names: for member in members {
+        if let Some(name) = before {
+            if name >= member.0 {
+                return false;
+            }
+        }
+        before = Some(member.0);
+    }
+    true
+}
+
+// The fields of members that stand in order.
+#[cycle(node)]
+fn fields_in_turn(
+    alloc: Global,
+    texts: &mut TextList,
+    members: &Vec<(&str, Value<'_>)>,
+) -> Result<Vec<(usize, Node)>, JsonFault>
+    requires { IsOrdered (map (λ m. (m.0.now, m.1)) members.now.items) }
+    ensures grows { Grows texts.old texts.new }
+    ensures are { IfOk result (λ fs. IsFound (members_of_json (members_view members.now.items)) (λ ts. fields_view ts fs.items) texts.new) }
+{
+    let mut found = Vec::new(alloc);
+    'members: for member in members {
+        let place = texts.push(member.0)?;
+        found.push((place, node_of(alloc, texts, &member.1)?))?;
+    }
+    Ok(found)
+}
+
+// The fields of members in any order. At a name that stands more than once the last value stays.
+#[cycle(node)]
+fn fields_in_order(
+    alloc: Global,
+    texts: &mut TextList,
+    members: &Vec<(&str, Value<'_>)>,
+) -> Result<Vec<(usize, Node)>, JsonFault>
+    ensures grows { Grows texts.old texts.new }
+    ensures are { IfOk result (λ fs. IsFound (members_of_json (members_view members.now.items)) (λ ts. fields_view ts fs.items) texts.new) }
+{
+    let mut found = BTreeMap::new(alloc);
+    'members: for member in members {
+        let place = texts.push(member.0)?;
+        let node = node_of(alloc, texts, &member.1)?;
+        drop(found.insert(member.0, (place, node))?);
+    }
+    listed(alloc, found)
+}
+
+// The values of a map, in order.
+fn listed(
+    alloc: Global,
+    map: BTreeMap<&str, (usize, Node)>,
+) -> Result<Vec<(usize, Node)>, JsonFault>
+    ensures { IfOk result (λ fs. fs.items ≡ map (λ e. e.1) map.entries) }
+{
+    let mut fields = Vec::new(alloc);
+    'fields: for (_, field) in map {
+        fields.push(field)?;
+    }
+    Ok(fields)
+}
+
+const MAX_DEPTH: usize = 127;
+
+// The tree of a JSON text, where it is JSON and has no float in it.
+fn plain_tree(alloc: Global, text: &[u8]) -> Result<JsonTree, JsonFault>
+    ensures { IfOk result (λ t. document_of_text text.now ≡ Some (tree_view t)) }
+{
+    let Ok(text) = std::str::from_utf8(text) else {
+        return Err(JsonFault::NoDocument);
+    };
+    let mut scratch = Scratch::new(alloc);
+    let mut reader = Reader::new(text, &mut scratch)?;
+    let value = match Value::read(alloc, &mut reader, MAX_DEPTH) {
+        Ok(value) => value,
+        Err(JsonError::OutOfMemory) => return Err(JsonFault::OutOfMemory),
+        Err(_) => return Err(JsonFault::NoDocument),
+    };
+    if reader.next().is_some() {
+        return Err(JsonFault::NoDocument);
+    }
+    let mut texts = TextList::new(alloc);
+    let root = node_of(alloc, &mut texts, &value)?;
+    Ok(JsonTree { texts, root })
+}
+
+/// The tree of a JSON text (RFC 8259) in UTF-8, none where it is no JSON or has a float in it.
+pub(crate) fn read_tree(alloc: Global, text: &[u8]) -> Result<Option<JsonTree>, SerdeError>
+    ensures document { IfOk result (λ o. option_map tree_view o ≡ document_of_text text.now) }
+    ensures read { IfOk result (λ o. IsTrue (is_tree_read o)) }
+    ensures memory { IfErr result (λ e. e ≡ SerdeError.OutOfMemory) }
+{
+    match plain_tree(alloc, text) {
+        Ok(tree) => Ok(Some(tree)),
+        Err(JsonFault::OutOfMemory) => Err(SerdeError::OutOfMemory),
+        Err(JsonFault::NoDocument) => match read_document(alloc, text)? {
+            Some(document) => Ok(Some(tree_of(alloc, &document)?)),
+            None => Ok(None),
+        },
+    }
+}
