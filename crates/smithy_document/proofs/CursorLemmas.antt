@@ -46,23 +46,29 @@ same_container : (tells : Bool) (d : Document) → only_if tells (held.document 
 same_container true d = refl
 same_container false d = refl
 
-pub is_opened : (tells : Bool) (g : Group) (node : Schema) (root : Document) (old new : Cursor) (names : Names) → opens_as g (document_in root old) ≡ true
-    → rest_in (document_in root old) names 0 ≡ parts_of (document_in root old) → place_list new ≡ place_list old ++ record { form = g; names = names; next = 0 } ∷ []
-    → Opened g node (seen tells root old) (seen tells root new)
-is_opened tells g node root old new names opens all pushed =
-    let p : Place = record { form = g; names = names; next = 0 } in
-    let d = document_in root old in
+pub opened_here : (tells : Bool) (g : Group) (node : Schema) (d now : Document) (os after : List walk.Opened) → opens_as g d ≡ true → after ≡ record { form = g; container = d; rest = parts_of d } ∷ os
+    → Opened g node (reading tells d os) (reading tells now after)
+opened_here tells g node d now os after opens is =
     let o : walk.Opened = record { form = g; container = d; rest = parts_of d } in
-    let whole : opened_at d p ≡ o = ap (λ rest. record { form = g; container = d; rest = rest }) all in
     record {
       frame = frame_of tells o;
-      now_is = ap (map (frame_of tells)) (ap (opened_along root) pushed ∙ along_last root (place_list old) p ∙ ap (λ x. x ∷ opened_along root (place_list old)) whole);
+      now_is = ap (map (frame_of tells)) is;
       form = refl;
       container = same_container tells d;
       depth = refl;
       within = omega arith;
       to_come = told_listed tells g node d opens;
     }
+
+pub is_opened : (tells : Bool) (g : Group) (node : Schema) (root : Document) (old new : Cursor) (names : Names) → opens_as g (document_in root old) ≡ true
+    → rest_in (document_in root old) names 0 ≡ parts_of (document_in root old) → place_list new ≡ place_list old ++ record { form = g; names = names; next = 0 } ∷ []
+    → Opened g node (seen tells root old) (seen tells root new)
+is_opened tells g node root old new names opens all pushed =
+    let p : Place = record { form = g; names = names; next = 0 } in
+    let d = document_in root old in
+    let whole : opened_at d p ≡ record { form = g; container = d; rest = parts_of d } = ap (λ rest. record { form = g; container = d; rest = rest }) all in
+    opened_here tells g node d (document_in root new) (opened_in root old) (opened_in root new) opens
+    (ap (opened_along root) pushed ∙ along_last root (place_list old) p ∙ ap (λ x. x ∷ opened_along root (place_list old)) whole)
 
 refused_listing : (g : Group) (node : Schema) (d : Document) (e : SerdeError) → opens_as g d ≡ false → e ≡ mismatch (kind_of_group g) d → IsRefusedAt (contents g node (held.document d)) e
 unfolding elements entries fields
@@ -78,9 +84,16 @@ told_refused tells g node d e h (inr memory) = inl memory
 told_refused true g node d e h (inl is) = inr (refused_listing g node d e h is)
 told_refused false g node d e h (inl is) = inr tt
 
+pub refused_here : (tells : Bool) (g : Group) (node : Schema) (d : Document) (os : List walk.Opened) (e : SerdeError) → opens_as g d ≡ false → IsRefusal (mismatch (kind_of_group g) d) e
+    → NotOpened g node (reading tells d os) (reading tells d os) e
+refused_here tells g node d os e h refusal = record { opened = refl; levels = refl; refused = told_refused tells g node d e h refusal }
+
 pub not_opened : (tells : Bool) (g : Group) (node : Schema) (root : Document) (c : Cursor) (e : SerdeError) → opens_as g (document_in root c) ≡ false
     → IsRefusal (mismatch (kind_of_group g) (document_in root c)) e → NotOpened g node (seen tells root c) (seen tells root c) e
-not_opened tells g node root c e h refusal = record { opened = refl; levels = refl; refused = told_refused tells g node (document_in root c) e h refusal }
+not_opened tells g node root c = refused_here tells g node (document_in root c) (opened_in root c)
+
+pub starved_here : (tells : Bool) (g : Group) (node : Schema) (d now : Document) (os after : List walk.Opened) (e : SerdeError) → now ≡ d → after ≡ os → e ≡ OutOfMemory → NotOpened g node (reading tells d os) (reading tells now after) e
+starved_here tells g node d now os after e same kept memory = record { opened = ap (map (frame_of tells)) kept; levels = ap nesting same; refused = inl memory }
 
 pub starved : (tells : Bool) (g : Group) (node : Schema) (root : Document) (old new : Cursor) (e : SerdeError) → place_list new ≡ place_list old → e ≡ OutOfMemory → NotOpened g node (seen tells root old) (seen tells root new) e
 starved tells g node root old new e same memory = record { opened = ap (λ ps. map (frame_of tells) (opened_along root ps)) same; levels = ap (λ ps. nesting (at_path root ps)) same; refused = inl memory }

@@ -1,5 +1,5 @@
 -- The document that a tree of JSON is.
-use Rattle.std.specs.Prelude.{◌≡◌, ℕ, List, [], ◌∷◌, ◌++◌, map, slice_get}
+use Rattle.std.specs.Prelude.{◌≡◌, ℕ, List, [], ◌∷◌, ◌++◌, map, slice_get, Option, option_map}
 use Rattle.std.specs.Option.{option_map_or, unwrap_or}
 use Rattle.smithy_types.specs.Documents as doc
 use Rattle.smithy_types.specs.Documents.{Document}
@@ -38,6 +38,10 @@ fields_view texts fs = members_in_turn texts (map (λ f. (f.0, node_view texts f
 
 abbrev pub tree_view : JsonTree → Document
 tree_view t = node_view t.texts t.root
+
+-- the part at a place
+abbrev pub part_at : Document → ℕ → Option Document
+part_at d place = option_map (λ p. p.1) (slice_get (parts_of d) place)
 
 -- the name of the part at a place, which is empty in an array and where there is none
 abbrev pub part_name : Document → ℕ → List ℕ

@@ -1,16 +1,17 @@
 -- Paths into a tree of JSON, and what a cursor in it stands for.
-use Rattle.std.specs.Prelude.{◌<◌, ◌-◌, ◌==◌, ℕ, true, List, [], ◌∷◌, ◌++◌, drop, length, slice_get, if◌then◌else◌, Option, Some, None}
-use Rattle.std.specs.Option.{option_map_or}
+use Rattle.std.specs.Prelude.{◌<◌, ◌-◌, ◌==◌, ℕ, true, List, [], ◌∷◌, ◌++◌, drop, length, if◌then◌else◌, Option, Some, None}
+use Rattle.std.specs.Option.{unwrap_or}
 use Rattle.smithy_types.specs.Documents.{Document}
 use Rattle.smithy_serde.specs.ReadCalls.{AtHand}
 use Rattle.smithy_document.specs.declared.json_tree_cursor.TreeCursor.{TreeCursor}
 use Rattle.smithy_document.specs.declared.json_tree_cursor.TreePlace.{TreePlace}
+use Rattle.smithy_document.specs.JsonTree.{part_at}
 use Rattle.smithy_document.specs.CursorView.{ClosesAt, StepsTo}
 use Rattle.smithy_document.specs.OpenDocuments.{parts_of, Opened, reading}
 
 -- the part that was handed out last, the container itself where none was
 abbrev pub part_behind : Document → TreePlace → Document
-part_behind d p = if p.next == 0 then d else option_map_or (λ part. part.1) (slice_get (parts_of d) (p.next - 1)) d
+part_behind d p = if p.next == 0 then d else unwrap_or (part_at d (p.next - 1)) d
 
 -- the document at the end of a path
 abbrev pub path_end : Document → List TreePlace → Document

@@ -1,9 +1,9 @@
 // JSON values as trees whose texts stand in one buffer.
-ghost use Rattle.std.specs.Prelude.{◌≡◌, ℕ, List, length, option_map, slice_get};
-ghost use Rattle.smithy_types.specs.DocumentView.{view as document_view};
+ghost use Rattle.std.specs.Prelude.{◌≡◌, ℕ, List, length, option_map};
 ghost use Rattle.smithy_serde.specs.Held.{is_null_document};
+ghost use Rattle.smithy_serde.specs.Requests.{word_of_document};
 ghost use Rattle.smithy_document.specs.OpenDocuments.{parts_of, opens_as as opens_as_lem};
-ghost use Rattle.smithy_document.specs.JsonTree.{node_view, tree_view, part_name as part_name_lem};
+ghost use Rattle.smithy_document.specs.JsonTree.{node_view, part_at, part_name as part_name_lem};
 ghost use Rattle.smithy_document.specs.Sizes.{container_size};
 
 use crate::text_list::TextList;
@@ -43,8 +43,7 @@ impl Node {
 
     /// The part at a place, counted from 0.
     pub(crate) fn part(&self, place: usize) -> Option<&Node>
-        ensures { (texts : List (List ℕ)) → option_map (λ n. node_view texts n.now) result
-            ≡ option_map (λ p. p.1) (slice_get (parts_of (node_view texts self.now)) place) }
+        ensures { (texts : List (List ℕ)) → option_map (λ n. node_view texts n.now) result ≡ part_at (node_view texts self.now) place }
     {
         match self {
             Node::Array(items) => items.get(place),
@@ -71,6 +70,20 @@ impl Node {
         match self {
             Node::Array(_) | Node::Object(_) => Some(capped_container_size(self.part_count())),
             _ => None,
+        }
+    }
+
+    /// What a document of its kind is called.
+    pub(crate) fn word(&self) -> &'static str
+        ensures { (texts : List (List ℕ)) → word_of_document (node_view texts self.now) ≡ result.now }
+    {
+        match self {
+            Node::Null => "null",
+            Node::Bool(_) => "boolean",
+            Node::Number(_) => "number",
+            Node::Text(_) => "string",
+            Node::Array(_) => "list",
+            Node::Object(_) => "map",
         }
     }
 

@@ -1,18 +1,16 @@
 // Where a reader stands in a JSON value.
-ghost use Rattle.std.specs.Prelude.{◌≡◌, ℕ, List, Ok, [], option_map, IsTrue};
+ghost use Rattle.std.specs.Prelude.{◌≡◌, ℕ, List, Ok, [], option_map};
 ghost use Rattle.smithy_schema.specs.Nodes.{Schema};
 ghost use Rattle.smithy_schema.specs.References.{schema_of as node};
 ghost use Rattle.smithy_serde.specs.declared.scalar.Group.TheVariants as group;
 ghost use Rattle.smithy_serde.specs.ReadCalls.{IsIn, OpensAt, NextMember, NextElement, NextEntry};
-ghost use Rattle.smithy_document.specs.InOrder.{is_read};
 ghost use Rattle.smithy_document.specs.JsonTree.{node_view, tree_view};
 ghost use Rattle.smithy_document.specs.KnownParts.{FindsKnown};
 ghost use Rattle.smithy_document.specs.OpenDocuments.{parts_of};
 ghost use Rattle.smithy_document.specs.TreePaths.{part_behind, path_end, document_at, tree_seen, IsOpen, MovesOn};
 
 use crate::json_tree::{JsonTree, Node};
-use crate::json_tree_documents::document_of;
-use crate::mismatch::mismatch;
+use crate::mismatch::mismatch_of;
 use crate::place::kind_of;
 use smithy_schema::SchemaRef;
 use smithy_serde::{Group, SerdeError};
@@ -46,6 +44,7 @@ fn last_part<'t>(container: &'t Node, place: &TreePlace) -> &'t Node
 }
 
 // The value at the end of a path from the root: in each container the part that was handed out last.
+#[tactic(auto, using(crate::proofs::TreeLemmas::path_more, crate::proofs::TreeLemmas::path_over))]
 fn node_at<'t>(root: &'t Node, path: &[TreePlace]) -> &'t Node
     ensures { (texts : List (List ℕ)) → node_view texts result.now ≡ path_end (node_view texts root.now) path.now }
 {
@@ -63,12 +62,12 @@ fn known_part<'s>(
     from: usize,
     schema: SchemaRef<'s>,
 ) -> Option<(usize, SchemaRef<'s>)>
-    ensures { FindsKnown (node schema.entry) (parts_of (node_view tree.now.texts container.now)) from.entry
+    ensures { FindsKnown (node schema.entry) (parts_of (node_view tree.now.texts container.now)) from
         (option_map (λ found. (found.0, node found.1)) result) }
 {
     let count = container.part_count();
     let mut place = from;
-    while place < count {
+    'parts: while place < count {
         let name = tree.part_name(container, place);
         place += 1;
         if let Some(member) = schema.member_schema(name) {
@@ -102,13 +101,11 @@ impl TreeCursor {
         tree: &JsonTree,
         group: Group,
     ) -> Result<(), SerdeError>
-        requires { IsTrue (is_read (tree_view tree.now)) }
         ensures { (schema : Schema) → OpensAt group schema (tree_seen (tree_view tree.now) self.old) (tree_seen (tree_view tree.now) self.new) result }
     {
         let node = self.node(tree);
         if !node.opens_as(group) {
-            let document = document_of(alloc, tree, node)?;
-            return Err(mismatch(alloc, kind_of(group), &document));
+            return Err(mismatch_of(alloc, kind_of(group), node.word()));
         }
         self.places.push(TreePlace {
             form: group,

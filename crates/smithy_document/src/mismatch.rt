@@ -1,5 +1,6 @@
 // The refusals of reads over documents.
 ghost use Rattle.std.specs.Prelude.{◌≡◌};
+ghost use Rattle.smithy_types.specs.Documents.{Document as Doc};
 ghost use Rattle.smithy_types.specs.DocumentView.{view};
 ghost use Rattle.smithy_serde.specs.DocumentReads.{mismatch as mismatch_lem};
 ghost use Rattle.smithy_serde.specs.Refusals.{IsRefusal};
@@ -38,7 +39,14 @@ fn word_of_document(document: &Document) -> &'static str
 pub(crate) fn mismatch(alloc: Global, kind: ShapeType, document: &Document) -> SerdeError
     ensures { IsRefusal (mismatch_lem kind (view document.now)) result }
 {
-    let (expected, found) = (document_word(kind), word_of_document(document));
+    mismatch_of(alloc, kind, word_of_document(document))
+}
+
+/// The same, of a document that is called so.
+pub(crate) fn mismatch_of(alloc: Global, kind: ShapeType, found: &str) -> SerdeError
+    ensures { (d : Doc) → word_of_document_lem d ≡ found.now → IsRefusal (mismatch_lem kind d) result }
+{
+    let expected = document_word(kind);
     match format!(in alloc; "expected {expected} document, got {found}") {
         Ok(message) => SerdeError::TypeMismatch {
             message: Text::from_string(message),
