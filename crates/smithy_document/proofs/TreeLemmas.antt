@@ -3,7 +3,7 @@ use Rattle.std.proofs.Common.{◌≡◌, ℕ, suc, zero, ◌+◌, ◌-◌, ◌==
 use Rattle.std.specs.Prelude.{if◌then◌else◌, flat_map}
 use Rattle.std.specs.Option.{option_map_or, unwrap_or}
 use Rattle.std.proofs.lemmas.Bool.{and_parts}
-use Rattle.std.proofs.lemmas.List.{drop_more}
+use Rattle.std.proofs.lemmas.List.{drop_more, length-drop}
 use Rattle.std.proofs.lemmas.Option.{slice_get_cases}
 use Rattle.std.proofs.Math.ListN.{drop_of_length-le}
 use Rattle.smithy_types.specs.Documents as doc
@@ -67,16 +67,12 @@ item_read (doc.item e ds) (suc i) p c o h = item_read ds i p (and_parts (is_cano
 
 member_read : (ms : doc.Members) (i : ℕ) (p : Part) → IsTrue (are_members_canonical ms) → IsTrue (are_members_in_order ms) → slice_get (list_of_members ms) i ≡ Some p → IsTrue (is_read p.1)
 member_read doc.no_members i p c o h = absurd (cc h)
-member_read (doc.member k e ms) i p c o h = at i h
-  where
-    ordered : IsTrue (is_before k ms && is_in_order e) × IsTrue (are_members_in_order ms)
-    ordered = and_parts (is_before k ms && is_in_order e) (are_members_in_order ms) o
-
-    at : (i : ℕ) → slice_get ((k, e) ∷ list_of_members ms) i ≡ Some p → IsTrue (is_read p.1)
-    at zero h =
-        let is : (k, e) ≡ p = cc h in
-        subst (λ x. IsTrue (is_read x.1)) is (both _ _ (and_parts (is_canonical e) (are_members_canonical ms) c).0 (and_parts (is_before k ms) (is_in_order e) ordered.0).1)
-    at (suc i) h = member_read ms i p (and_parts (is_canonical e) (are_members_canonical ms) c).1 ordered.1 h
+member_read (doc.member k e ms) zero p c o h =
+    let is : (k, e) ≡ p = cc h in
+    let ordered = and_parts (is_before k ms && is_in_order e) (are_members_in_order ms) o in
+    subst (λ x. IsTrue (is_read x.1)) is (both _ _ (and_parts (is_canonical e) (are_members_canonical ms) c).0 (and_parts (is_before k ms) (is_in_order e) ordered.0).1)
+member_read (doc.member k e ms) (suc i) p c o h =
+    member_read ms i p (and_parts (is_canonical e) (are_members_canonical ms) c).1 (and_parts (is_before k ms && is_in_order e) (are_members_in_order ms) o).1 h
 
 part_read : (c : Document) (i : ℕ) (p : Part) → IsTrue (is_read c) → slice_get (parts_of c) i ≡ Some p → IsTrue (is_read p.1)
 part_read (doc.array ds) i p r h = let halves = and_parts (are_items_canonical ds) (are_items_in_order ds) r in item_read ds i p halves.0 halves.1 h
@@ -123,12 +119,6 @@ steps root ps p q part is h =
 pub closes : (root : Document) (ps : List TreePlace) (p : TreePlace) → length (parts_of (path_end root ps)) ≤ p.next → ClosesAt (opened_along root (ps ++ p ∷ [])) (path_end root ps) (opened_along root ps)
 closes root ps p h = record { top = opened_at (path_end root ps) p; was = along_last root ps p; none_left = drop_of_length-le (parts_of (path_end root ps)) h; again = refl }
 
-length_drop : {X : Type 0} (xs : List X) (i : ℕ) → length (drop i xs) ≡ length xs - i
-length_drop [] zero = refl
-length_drop [] (suc i) = refl
-length_drop (x ∷ xs) zero = refl
-length_drop (x ∷ xs) (suc i) = length_drop xs i
-
 pub steps_to_member : (root : Document) (ps : List TreePlace) (p q : TreePlace) (node m : Schema) → q.form ≡ p.form → IsNextKnown node m (parts_of (path_end root ps)) p.next q.next
     → StepsToMember node m (opened_along root (ps ++ p ∷ [])) (path_end root (ps ++ q ∷ [])) (opened_along root (ps ++ q ∷ []))
 steps_to_member root ps p q node m form h =
@@ -142,7 +132,7 @@ steps_to_member root ps p q node m form h =
       was = along_last root ps p;
       now_is = along_last root ps q ∙ ap (λ f. record { form = f; container = d; rest = drop q.next parts } ∷ opened_along root ps) form;
       field = rw comes h.field;
-      falls = rw (length_drop parts q.next, length_drop parts p.next) (let l : p.next < q.next = h.later in let w : q.next ≤ length parts = h.within in omega arith);
+      falls = rw (length-drop q.next parts, length-drop p.next parts) (let l : p.next < q.next = h.later in let w : q.next ≤ length parts = h.within in omega arith);
       within = subst (λ x. nesting x < nesting d) (sym comes) (part_within d (q.next - 1) h.part h.there);
       is_member = h.is_member;
     }
