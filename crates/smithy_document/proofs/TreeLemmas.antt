@@ -93,11 +93,20 @@ path_read d (p ∷ ps) h = path_read (part_behind d p) ps (step_read d p h)
 
 -- ---- a part comes to hand
 
-behind : (d : Document) (p : TreePlace) (part : Part) → 0 < p.next → slice_get (parts_of d) (p.next - 1) ≡ Some part → part_behind d p ≡ part.1
-behind d p part some h = go (p.next == 0) (ne_eqb p.next 0 (λ e. omega arith))
+stepped : (d : Document) (p : TreePlace) → 0 < p.next → part_behind d p ≡ unwrap_or (part_at d (p.next - 1)) d
+stepped d p some = go (p.next == 0) (ne_eqb p.next 0 (λ e. omega arith))
   where
-    go : (b : Bool) → b ≡ false → (if b then d else unwrap_or (part_at d (p.next - 1)) d) ≡ part.1
-    go b first = rw (first, h) refl
+    go : (b : Bool) → b ≡ false → (if b then d else unwrap_or (part_at d (p.next - 1)) d) ≡ unwrap_or (part_at d (p.next - 1)) d
+    go b first = rw first refl
+
+pub handed : (d : Document) (p : TreePlace) (part : Document) → 0 < p.next → part_at d (p.next - 1) ≡ Some part → part ≡ part_behind d p
+handed d p part some h = sym (stepped d p some ∙ ap (λ o. unwrap_or o d) h)
+
+pub none_handed : (d : Document) (p : TreePlace) → 0 < p.next → part_at d (p.next - 1) ≡ None → d ≡ part_behind d p
+none_handed d p some h = sym (stepped d p some ∙ ap (λ o. unwrap_or o d) h)
+
+behind : (d : Document) (p : TreePlace) (part : Part) → 0 < p.next → slice_get (parts_of d) (p.next - 1) ≡ Some part → part_behind d p ≡ part.1
+behind d p part some h = sym (handed d p part.1 some (ap (option_map (λ x. x.1)) h))
 
 pub steps : (root : Document) (ps : List TreePlace) (p q : TreePlace) (part : Part) → q ≡ record p { next = p.next + 1 } → slice_get (parts_of (path_end root ps)) p.next ≡ Some part
     → StepsTo part.0 (opened_along root (ps ++ p ∷ [])) (path_end root (ps ++ q ∷ [])) (opened_along root (ps ++ q ∷ []))

@@ -1,5 +1,5 @@
 // Where a reader stands in a JSON value.
-ghost use Rattle.std.specs.Prelude.{◌≡◌, ℕ, List, Ok, [], option_map};
+ghost use Rattle.std.specs.Prelude.{◌≡◌, Ok, [], option_map};
 ghost use Rattle.smithy_schema.specs.Nodes.{Schema};
 ghost use Rattle.smithy_schema.specs.References.{schema_of as node};
 ghost use Rattle.smithy_serde.specs.declared.scalar.Group.TheVariants as group;
@@ -30,9 +30,9 @@ pub(crate) struct TreeCursor {
     pub(crate) places: Vec<TreePlace>,
 }
 
-// The part that was handed out last, the container itself where none was.
-fn last_part<'t>(container: &'t Node, place: &TreePlace) -> &'t Node
-    ensures { (texts : List (List ℕ)) → node_view texts result.now ≡ part_behind (node_view texts container.now) place.now }
+// The part of one of the tree's values that was handed out last, the value itself where none was.
+fn last_part<'t>(tree: &'t JsonTree, container: &'t Node, place: &TreePlace) -> &'t Node
+    ensures { node_view tree.now.texts result.now ≡ part_behind (node_view tree.now.texts container.now) place.now }
 {
     if place.next == 0 {
         return container;
@@ -45,12 +45,12 @@ fn last_part<'t>(container: &'t Node, place: &TreePlace) -> &'t Node
 
 // The value at the end of a path from the root: in each container the part that was handed out last.
 #[tactic(auto, using(crate::proofs::TreeLemmas::path_more, crate::proofs::TreeLemmas::path_over))]
-fn node_at<'t>(root: &'t Node, path: &[TreePlace]) -> &'t Node
-    ensures { (texts : List (List ℕ)) → node_view texts result.now ≡ path_end (node_view texts root.now) path.now }
+fn node_at<'t>(tree: &'t JsonTree, path: &[TreePlace]) -> &'t Node
+    ensures { node_view tree.now.texts result.now ≡ path_end (tree_view tree.now) path.now }
 {
-    let mut node = root;
+    let mut node = &tree.root;
     for place in path {
-        node = last_part(node, place);
+        node = last_part(tree, node, place);
     }
     node
 }
@@ -91,7 +91,7 @@ impl TreeCursor {
     pub(crate) fn node<'t>(&self, tree: &'t JsonTree) -> &'t Node
         ensures { node_view tree.now.texts result.now ≡ document_at (tree_view tree.now) self.now }
     {
-        node_at(&tree.root, self.places.as_slice())
+        node_at(tree, self.places.as_slice())
     }
 
     /// Opens the value at hand. It is refused with `TypeMismatch` where it can't be opened so.
@@ -146,7 +146,7 @@ impl TreeCursor {
         let Some(place) = self.places.pop() else {
             unreachable!()
         };
-        let container = node_at(&tree.root, self.places.as_slice());
+        let container = node_at(tree, self.places.as_slice());
         if place.next >= container.part_count() {
             return None;
         }
@@ -169,7 +169,7 @@ impl TreeCursor {
         let Some(place) = self.places.pop() else {
             unreachable!()
         };
-        let container = node_at(&tree.root, self.places.as_slice());
+        let container = node_at(tree, self.places.as_slice());
         let (next, member) = known_part(tree, container, place.next, schema)?;
         self.places.push_reserved(TreePlace {
             form: place.form,

@@ -1,19 +1,32 @@
-use Rattle.std.proofs.Common.{rules, ◌≡◌, ℕ, List, Ok, [], option_map, IsTrue, ◌+◌, ◌-◌, ◌*◌, ◌<◌, ◌≤◌, length, ◌/◌, ◌%◌, Bool, true, false, nat_eq, nat_lt, ◌∷◌, ◌++◌, slice_index_or, slice_set, bit_and, bit_or, Fits, w8, w32, w64, Bor, MutBor}
-use Rattle.smithy_schema.specs.Nodes.{Schema}
-use Rattle.smithy_schema.specs.References.{schema_of as node}
-use Rattle.smithy_serde.specs.declared.scalar.Group.TheVariants as group
-use Rattle.smithy_serde.specs.ReadCalls.{IsIn, OpensAt, NextMember, NextElement, NextEntry}
-use Rattle.smithy_document.specs.InOrder.{is_read}
-use Rattle.smithy_document.specs.JsonTree.{node_view, tree_view}
-use Rattle.smithy_document.specs.KnownParts.{FindsKnown}
+use Rattle.std.proofs.Common.{◌≡◌, ◌<◌, ◌≤◌, ◌+◌, List, ◌∷◌, ◌++◌, [], length, refl, sym, ap, ◌∙◌, subst}
+use Rattle.smithy_document.specs.declared.json_tree_cursor.TreePlace.{TreePlace}
+use Rattle.smithy_document.specs.CursorView.{ClosesAt, StepsTo}
+use Rattle.smithy_document.specs.JsonTree.{node_view, tree_view, part_name}
 use Rattle.smithy_document.specs.OpenDocuments.{parts_of}
-use Rattle.smithy_document.specs.TreePaths.{part_behind, path_end, document_at, tree_seen, IsOpen, MovesOn}
+use Rattle.smithy_document.specs.TreePaths.{path_end, opened_along}
+use Rattle.smithy_document.proofs.TreeLemmas.{closes, steps, is_there}
 use Rattle.smithy_document.proofs.json_tree_cursor.TreeCursor.advance.Goals as goal
 
--- src/json_tree_cursor.rt:154:13
 pub returns-then-place-part_count : goal.returns-then-place-part_count
-returns-then-place-part_count c = ?
+returns-then-place-part_count c =
+    let root = tree_view c.args.tree.now in
+    let outer : List TreePlace = c.pop.new.self.items in
+    let place : TreePlace = c.in-Some.place in
+    let container : node_view c.args.tree.now.texts c.node_at-container.result.now ≡ path_end root outer = c.node_at-container.ensures ∙ ap (path_end root) c.as_slice.ensures.value in
+    let past : length (parts_of (path_end root outer)) ≤ place.next = subst (λ n. n ≤ place.next) (c.part_count.ensures c.args.tree.now.texts ∙ ap (λ d. length (parts_of d)) container) c.if-place-part_count.true in
+    subst (λ ps. ClosesAt (opened_along root ps) (path_end root outer) (opened_along root outer)) (sym c.in-Some.ensures.items) (closes root outer place past)
 
--- src/json_tree_cursor.rt:145:5
 pub returns : goal.returns
-returns c = ?
+returns c =
+    let root = tree_view c.args.tree.now in
+    let outer : List TreePlace = c.pop.new.self.items in
+    let place : TreePlace = c.in-Some.place in
+    let next : TreePlace = record place { next = place.next + 1 } in
+    let container : node_view c.args.tree.now.texts c.node_at-container.result.now ≡ path_end root outer = c.node_at-container.ensures ∙ ap (path_end root) c.as_slice.ensures.value in
+    let within : place.next < length (parts_of (path_end root outer)) = subst (λ n. place.next < n) (c.part_count.ensures c.args.tree.now.texts ∙ ap (λ d. length (parts_of d)) container) c.if-place-part_count.false in
+    let h = is_there (path_end root outer) place.next within in
+    let name : c.part_name.result.now ≡ h.part.0 = c.part_name.ensures ∙ ap (λ d. part_name d place.next) container ∙ h.named in
+    let whole = steps root outer place next h.part refl h.there in
+    subst (λ n. StepsTo n (opened_along root c.args.self.now.places.items) (path_end root c.push_reserved.new.self.items) (opened_along root c.push_reserved.new.self.items)) (sym name)
+    (subst (λ ps. StepsTo h.part.0 (opened_along root ps) (path_end root c.push_reserved.new.self.items) (opened_along root c.push_reserved.new.self.items)) (sym c.in-Some.ensures.items)
+    (subst (λ ps. StepsTo h.part.0 (opened_along root (outer ++ place ∷ [])) (path_end root ps) (opened_along root ps)) (sym c.push_reserved.ensures.items) whole))

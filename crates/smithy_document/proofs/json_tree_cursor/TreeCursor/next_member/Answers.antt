@@ -1,0 +1,37 @@
+use Rattle.std.proofs.Common.{◌≡◌, true, List, ◌∷◌, ◌++◌, [], None, Some, option_map, refl, sym, ap, ◌∙◌, subst}
+use Rattle.smithy_schema.specs.References.{schema_of}
+use Rattle.smithy_document.specs.declared.json_tree_cursor.TreePlace.{TreePlace}
+use Rattle.smithy_document.specs.CursorView.{ClosesBehind, StepsToMember}
+use Rattle.smithy_document.specs.JsonTree.{node_view, tree_view}
+use Rattle.smithy_document.specs.KnownParts.{FindsKnown}
+use Rattle.smithy_document.specs.OpenDocuments.{parts_of}
+use Rattle.smithy_document.specs.TreePaths.{path_end, opened_along}
+use Rattle.smithy_document.proofs.CursorLemmas.{member_next, members_closed}
+use Rattle.smithy_document.proofs.TreeLemmas.{closes_behind, steps_to_member}
+use Rattle.smithy_document.proofs.json_tree_cursor.TreeCursor.next_member.Goals as goal
+
+pub returns-in_err-next : goal.returns-in_err-next
+returns-in_err-next c =
+    let root = tree_view c.args.tree.now in
+    let node = schema_of c.args.schema in
+    let outer : List TreePlace = c.pop.new.self.items in
+    let place : TreePlace = c.in-Some.place in
+    let container : node_view c.args.tree.now.texts c.node_at-container.result.now ≡ path_end root outer = c.node_at-container.ensures ∙ ap (path_end root) c.as_slice.ensures.value in
+    let none = subst (λ d. FindsKnown node (parts_of d) place.next None) container c.in_err-next.ensures in
+    members_closed true node _ _ _ _ c.requires
+    (subst (λ ps. ClosesBehind node (opened_along root ps) (path_end root outer) (opened_along root outer)) (sym c.in-Some.ensures.items) (closes_behind root outer place node none))
+
+pub returns : goal.returns
+returns c =
+    let root = tree_view c.args.tree.now in
+    let node = schema_of c.args.schema in
+    let m = schema_of c.in_ok-next.member in
+    let outer : List TreePlace = c.pop.new.self.items in
+    let place : TreePlace = c.in-Some.place in
+    let next : TreePlace = record { form = place.form; next = c.in_ok-next.next } in
+    let container : node_view c.args.tree.now.texts c.node_at-container.result.now ≡ path_end root outer = c.node_at-container.ensures ∙ ap (path_end root) c.as_slice.ensures.value in
+    let found = subst (λ d. FindsKnown node (parts_of d) place.next (Some (next.next, m))) container c.in_ok-next.ensures in
+    let whole = steps_to_member root outer place next node m refl found in
+    member_next true node m _ _ _ _ c.requires
+    (subst (λ ps. StepsToMember node m (opened_along root ps) (path_end root c.push_reserved.new.self.items) (opened_along root c.push_reserved.new.self.items)) (sym c.in-Some.ensures.items)
+    (subst (λ ps. StepsToMember node m (opened_along root (outer ++ place ∷ [])) (path_end root ps) (opened_along root ps)) (sym c.push_reserved.ensures.items) whole))

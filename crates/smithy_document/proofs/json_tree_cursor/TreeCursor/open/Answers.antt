@@ -1,0 +1,28 @@
+use Rattle.std.proofs.Common.{◌≡◌, ◌∷◌, true, false, refl, sym, ap, ◌∙◌, subst}
+use Rattle.smithy_serde.specs.DocumentReads.{mismatch}
+use Rattle.smithy_serde.specs.Requests.{word_of_document}
+use Rattle.smithy_serde.specs.Refusals.{IsRefusal}
+use Rattle.smithy_document.specs.JsonTree.{tree_view}
+use Rattle.smithy_document.specs.OpenDocuments.{opens_as}
+use Rattle.smithy_document.specs.TreePaths.{document_at, opened_along, opened_by}
+use Rattle.smithy_document.proofs.CursorLemmas.{opened_here, refused_here, starved_here}
+use Rattle.smithy_document.proofs.TreeLemmas.{along_last}
+use Rattle.smithy_document.proofs.json_tree_cursor.TreeCursor.open.Goals as goal
+
+pub returns-then-not-opens_as : goal.returns-then-not-opens_as
+returns-then-not-opens_as c = λ schema.
+    let root = tree_view c.args.tree.now in
+    let d = document_at root c.args.self.now in
+    let word : word_of_document d ≡ c.word.result.now = ap word_of_document (sym c.node-node.ensures) ∙ c.word.ensures c.args.tree.now.texts in
+    refused_here true c.args.group schema d (opened_by root c.args.self.now) c.mismatch_of.result
+    (ap (opens_as c.args.group) (sym c.node-node.ensures) ∙ sym (c.opens_as.ensures c.args.tree.now.texts) ∙ c.if-not-opens_as.true)
+    (subst (λ k. IsRefusal (mismatch k d) c.mismatch_of.result) c.kind_of.ensures (c.mismatch_of.ensures d word))
+
+pub returns : goal.returns
+returns c = λ schema.
+    let root = tree_view c.args.tree.now in
+    let d = document_at root c.args.self.now in
+    let ps = c.args.self.now.places.items in
+    opened_here true c.args.group schema d (document_at root (record { places = c.push.new.self })) (opened_by root c.args.self.now) (opened_by root (record { places = c.push.new.self }))
+    (ap (opens_as c.args.group) (sym c.node-node.ensures) ∙ sym (c.opens_as.ensures c.args.tree.now.texts) ∙ c.if-not-opens_as.false)
+    (ap (opened_along root) c.in_ok-push.ensures.items ∙ along_last root ps (record { form = c.args.group; next = 0 }))
