@@ -170,7 +170,9 @@ impl TreeCursor {
             unreachable!()
         };
         let container = node_at(tree, self.places.as_slice());
-        let (next, member) = known_part(tree, container, place.next, schema)?;
+        let Some((next, member)) = known_part(tree, container, place.next, schema) else {
+            return None;
+        };
         self.places.push_reserved(TreePlace {
             form: place.form,
             next,

@@ -10,14 +10,14 @@ use Rattle.smithy_document.proofs.CursorLemmas.{member_next, members_closed}
 use Rattle.smithy_document.proofs.TreeLemmas.{closes_behind, steps_to_member}
 use Rattle.smithy_document.proofs.json_tree_cursor.TreeCursor.next_member.Goals as goal
 
-pub returns-in_err-next : goal.returns-in_err-next
-returns-in_err-next c =
+pub returns-in_default : goal.returns-in_default
+returns-in_default c =
     let root = tree_view c.args.tree.now in
     let node = schema_of c.args.schema in
     let outer : List TreePlace = c.pop.new.self.items in
     let place : TreePlace = c.in-Some.place in
     let container : node_view c.args.tree.now.texts c.node_at-container.result.now ≡ path_end root outer = c.node_at-container.ensures ∙ ap (path_end root) c.as_slice.ensures.value in
-    let none = subst (λ d. FindsKnown node (parts_of d) place.next None) container c.in_err-next.ensures in
+    let none = subst (λ d. FindsKnown node (parts_of d) place.next None) container c.in_default.ensures in
     members_closed true node _ _ _ _ c.requires
     (subst (λ ps. ClosesBehind node (opened_along root ps) (path_end root outer) (opened_along root outer)) (sym c.in-Some.ensures.items) (closes_behind root outer place node none))
 
@@ -25,12 +25,12 @@ pub returns : goal.returns
 returns c =
     let root = tree_view c.args.tree.now in
     let node = schema_of c.args.schema in
-    let m = schema_of c.in_ok-next.member in
+    let m = schema_of c.in-Some-known_part.member in
     let outer : List TreePlace = c.pop.new.self.items in
     let place : TreePlace = c.in-Some.place in
-    let next : TreePlace = record { form = place.form; next = c.in_ok-next.next } in
+    let next : TreePlace = record { form = place.form; next = c.in-Some-known_part.next } in
     let container : node_view c.args.tree.now.texts c.node_at-container.result.now ≡ path_end root outer = c.node_at-container.ensures ∙ ap (path_end root) c.as_slice.ensures.value in
-    let found = subst (λ d. FindsKnown node (parts_of d) place.next (Some (next.next, m))) container c.in_ok-next.ensures in
+    let found = subst (λ d. FindsKnown node (parts_of d) place.next (Some (next.next, m))) container c.in-Some-known_part.ensures in
     let whole = steps_to_member root outer place next node m refl found in
     member_next true node m _ _ _ _ c.requires
     (subst (λ ps. StepsToMember node m (opened_along root ps) (path_end root c.push_reserved.new.self.items) (opened_along root c.push_reserved.new.self.items)) (sym c.in-Some.ensures.items)

@@ -1,0 +1,8 @@
+use Rattle.std.proofs.Common.{Ok}
+use Rattle.smithy_schema.specs.References.{schema_of}
+use Rattle.smithy_serde.specs.ReadCalls.{NextMember}
+use Rattle.smithy_document.proofs.JsonHandLemmas.{over}
+use Rattle.smithy_document.proofs.json_deserializer.JsonDeserializerShapeDeserializer.next_member.Goals as goal
+
+pub returns : goal.returns
+returns c = over (λ old new. NextMember (schema_of c.args.schema) old new (Ok c.next_member.result)) c.args.self.now.tree c.in-Some.tree c.args.self.now.cursor c.next_member.new.self c.in-Some.is c.next_member.ensures
