@@ -6,10 +6,13 @@ use Rattle.std.proofs.lemmas.Option.{slice_get-map}
 use Rattle.smithy_types.specs.Documents as doc
 use Rattle.smithy_types.specs.Documents.{Document, items_of, list_of_members}
 use Rattle.smithy_document.specs.declared.json_tree.Node.{Node, the_lemmas}
-use Rattle.smithy_document.specs.declared.json_tree.Node.TheVariants.{Array, Object}
+use Rattle.smithy_document.specs.declared.json_tree.Node.TheVariants.{Text, Array, Object}
 use Rattle.smithy_document.specs.JsonTree.{text_at, node_view, nodes_view, fields_view, part_name}
 use Rattle.smithy_document.specs.Sizes.{container_size}
 use Rattle.smithy_document.specs.OpenDocuments.{Part, nameless, parts_of}
+
+pub view-Text : (texts : List (List ℕ)) (place : ℕ) → node_view texts (Text place) ≡ doc.string (text_at texts place)
+view-Text texts place = search (rules, the_lemmas)
 
 pub view-Array : (texts : List (List ℕ)) (v : Vec Node Global) → node_view texts (Array v) ≡ doc.array (nodes_view texts v.items)
 view-Array texts v = search (rules, the_lemmas)
