@@ -1,5 +1,5 @@
-use Rattle.std.proofs.Common.{◌≡◌, ◌*◌, ◌+◌, drop, map, take}
-use Rattle.smithy_types.specs.Documents.{nesting, items_nesting, members_nesting, items_of}
+use Rattle.std.proofs.Common.{◌≡◌, ◌*◌, ◌+◌, drop, take}
+use Rattle.smithy_types.specs.Documents.{nesting, items_nesting, members_nesting}
 use Rattle.smithy_types.specs.DocumentView.{items_view, members_view}
 use Rattle.smithy_document.specs.JsonTree.{node_view, nodes_view, fields_view}
 use Rattle.smithy_document.proofs.TreeDocuments.{put_fields}

@@ -1,4 +1,4 @@
-use Rattle.std.proofs.Common.{◌≡◌, ◌*◌, ◌+◌, ◌++◌, List, ℕ, map, take}
+use Rattle.std.proofs.Common.{◌≡◌, ◌*◌, ◌+◌, ◌++◌, List, map, take}
 use Rattle.smithy_types.specs.Documents.{nesting, items_nesting, members_nesting, list_of_members}
 use Rattle.smithy_types.specs.DocumentView.{view, items_view, members_view}
 use Rattle.smithy_document.specs.JsonTree.{node_view, Grows, StaysIn}
