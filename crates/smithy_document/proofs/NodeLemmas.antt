@@ -6,10 +6,14 @@ use Rattle.std.proofs.lemmas.Option.{slice_get-map}
 use Rattle.smithy_types.specs.Documents as doc
 use Rattle.smithy_types.specs.Documents.{Document, items_of, list_of_members}
 use Rattle.smithy_document.specs.declared.json_tree.Node.{Node, the_lemmas}
-use Rattle.smithy_document.specs.declared.json_tree.Node.TheVariants.{Array, Object}
+use Rattle.smithy_document.specs.declared.json_tree.Node.TheVariants.{Text, Array, Object}
 use Rattle.smithy_document.specs.JsonTree.{text_at, node_view, nodes_view, fields_view, part_name}
 use Rattle.smithy_document.specs.Sizes.{container_size}
 use Rattle.smithy_document.specs.OpenDocuments.{Part, nameless, parts_of}
+use Rattle.smithy_document.proofs.ValueLemmas.{map_twice}
+
+pub view-Text : (texts : List (List ℕ)) (place : ℕ) → node_view texts (Text place) ≡ doc.string (text_at texts place)
+view-Text texts place = search (rules, the_lemmas)
 
 pub view-Array : (texts : List (List ℕ)) (v : Vec Node Global) → node_view texts (Array v) ≡ doc.array (nodes_view texts v.items)
 view-Array texts v = search (rules, the_lemmas)
@@ -49,10 +53,6 @@ pub sized-Object : (texts : List (List ℕ)) (n : Node) (v : Vec Field Global) �
 sized-Object texts n v is =
     ap (λ l. Some (min l 10000)) (counted _ _ _ (object_parts texts (Object v) v refl) ∙ ap (λ d. length (parts_of d)) (view-Object texts v))
     ∙ ap container_size (sym (ap (node_view texts) is ∙ view-Object texts v))
-
-map_twice : {A B C : Type 0} (f : A → B) (g : B → C) (xs : List A) → map g (map f xs) ≡ map (λ x. g (f x)) xs
-map_twice f g [] = refl
-map_twice f g (x ∷ xs) = ap (λ ys. g (f x) ∷ ys) (map_twice f g xs)
 
 -- the document of the part at a place
 pub part_seen : {X : Type 0} (see : X → Part) (xs : List X) (ps : List Part) (i : ℕ) → ps ≡ map see xs → slice_get (map (λ x. (see x).1) xs) i ≡ option_map (λ p. p.1) (slice_get ps i)

@@ -1,4 +1,4 @@
-use Rattle.std.proofs.Common.{sym, ap, ◌∙◌, [], Option}
+use Rattle.std.proofs.Common.{ap, ◌∙◌, [], Option}
 use Rattle.std.specs.Option.{option_map_or}
 use Rattle.smithy_types.proofs.Lookups.{seen_at}
 use Rattle.smithy_document.specs.JsonTree.{text_at, node_view}

@@ -1,4 +1,4 @@
-use Rattle.std.proofs.Common.{sym, ap, ◌∙◌, option_map}
+use Rattle.std.proofs.Common.{◌∙◌}
 use Rattle.smithy_types.proofs.Lookups.{seen_at}
 use Rattle.smithy_document.specs.JsonTree.{node_view}
 use Rattle.smithy_document.proofs.NodeLemmas.{part_seen, array_parts, object_parts}

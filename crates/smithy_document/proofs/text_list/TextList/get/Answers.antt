@@ -1,4 +1,4 @@
-use Rattle.std.proofs.Common.{◌≡◌, ℕ, List, [], slice_range, string_bytes, Option, sym, ap, ◌∙◌}
+use Rattle.std.proofs.Common.{ℕ, List, [], slice_range, string_bytes, Option, ap}
 use Rattle.std.specs.Option.{unwrap_or}
 use Rattle.smithy_types.proofs.Lookups.{seen_at}
 use Rattle.smithy_document.proofs.TextCuts.{IsCut, cut_at}
