@@ -1,11 +1,13 @@
 -- What a tree's nodes are seen as, one more at the end, in texts that grow.
-use Rattle.std.proofs.Common.{◌≡◌, refl, sym, ap, ap₂, ◌∙◌, subst, ℕ, zero, suc, ◌+◌, ◌<◌, ◌≤◌, max, arith, rules, List, [], ◌∷◌, ◌++◌, map, take, drop, take_all, length, get_or, append_assoc, append-nil, Bool, Option, Some, None, option_map, option_and_then, Bor, Vec, Global, Ordering, Less, Equal, Greater, nat_cmp}
+use Rattle.std.proofs.Common.{◌≡◌, refl, sym, ap, ap₂, ◌∙◌, subst, ℕ, zero, suc, ◌+◌, ◌<◌, ◌≤◌, max, arith, rules, List, [], ◌∷◌, ◌++◌, map, take, drop, take_all, length, get_or, append_assoc, append-nil, Bool, false, is_some, Option, Some, None, option_map, option_and_then, Bor, Vec, Global, Ordering, Less, Equal, Greater, nat_cmp}
 use Rattle.std.specs.Ordering.{match_ordering, ordering_reverse}
 use Rattle.std.specs.Cmp.Lexicographic.{slice_cmp}
 use Rattle.std.specs.BTreeMap.{insert_entry}
 use Rattle.std.specs.List.{AllByRecursion}
 use Rattle.std.specs.List.Sorted.{IsStrictlySortedBy}
 use Rattle.std.specs.Map.{keys_of}
+use Rattle.std.specs.Str.{IsUtf8}
+use Rattle.std.proofs.lemmas.Str.{is_utf8-from_IsUtf8}
 use Rattle.std.proofs.lemmas.Cmp.{nat_list_cmp_total}
 use Rattle.std.proofs.lemmas.List.{drop_more, take_more, map-append}
 use Rattle.std.proofs.Math.ListN.{drop_of_length-le}
@@ -13,6 +15,11 @@ use Rattle.json.proofs.Trees.{view-Array, view-Object}
 use Rattle.json.specs.Tree.{depth, items_depth, members_depth}
 use Rattle.json.specs.Value.{value_view, items_view, members_view}
 use Rattle.json.specs.Json as spec
+use Rattle.json.specs.Json.{Json}
+use Rattle.json.specs.Lex.{tokens}
+use Rattle.json.specs.Reads.{Yields}
+use Rattle.json.specs.Token as spec_token
+use Rattle.json.specs.declared.token.Token.{Token}
 use Rattle.json.specs.declared.value.Value as json
 use Rattle.json.specs.declared.value.Value.{Value}
 use Rattle.serde_json.specs.Data as parsed
@@ -25,6 +32,7 @@ use Rattle.smithy_types.specs.DocumentView.{number_view}
 use Rattle.smithy_types.specs.declared.number.Number.{Number}
 use Rattle.smithy_document.specs.FromData.{number_of_data, of_data, items_of_data, pairs_of_data}
 use Rattle.smithy_document.specs.FromJson.{document_of_json, items_of_json, members_of_json, IsFound}
+use Rattle.smithy_document.specs.JsonHeld.{document_of_text}
 use Rattle.smithy_document.specs.JsonTree.{text_at, node_view, nodes_view, fields_view, members_in_turn, Grows, StaysIn}
 use Rattle.smithy_document.specs.declared.json_tree.Node.{Node, Null, Bool as TheBool, Number as TheNumber, Text as TheText, Array, Object, the_lemmas}
 use Rattle.smithy_document.proofs.JsonFound.{Member, pairs_of_json, pair_found, members_found}
@@ -119,21 +127,19 @@ text_found value text place old new is pushed at =
 
 pub array_found : (value : Value Global) (items : Vec (Value Global) Global) (v : Vec Node Global) (texts : Texts) → value ≡ json.Array items
     → IsFound (items_of_json (items_view items.items)) (λ ts. nodes_view ts v.items) texts → IsFound (document_of_json (value_view value)) (λ ts. node_view ts (Array v)) texts
-array_found value items v texts is found =
-    (
-      doc.array found.0,
-      ap (λ j. document_of_json (value_view j)) is ∙ ap document_of_json (view-Array items) ∙ array_read (of_items (items_view items.items)) ∙ ap (option_map doc.array) found.1,
-      λ more. node_array (texts ++ more) v ∙ ap doc.array (found.2 more),
-    )
+array_found value items v texts is found = (
+  doc.array found.0,
+  ap (λ j. document_of_json (value_view j)) is ∙ ap document_of_json (view-Array items) ∙ array_read (of_items (items_view items.items)) ∙ ap (option_map doc.array) found.1,
+  λ more. node_array (texts ++ more) v ∙ ap doc.array (found.2 more),
+)
 
 pub object_found : (value : Value Global) (members : Vec Member Global) (v : Vec (ℕ × Node) Global) (texts : Texts) → value ≡ json.Object members
     → IsFound (members_of_json (members_view members.items)) (λ ts. fields_view ts v.items) texts → IsFound (document_of_json (value_view value)) (λ ts. node_view ts (Object v)) texts
-object_found value members v texts is found =
-    (
-      doc.object found.0,
-      ap (λ j. document_of_json (value_view j)) is ∙ ap document_of_json (view-Object members) ∙ object_read (of_members (members_view members.items) parsed.no_members) ∙ ap (option_map doc.object) found.1,
-      λ more. node_object (texts ++ more) v ∙ ap doc.object (found.2 more),
-    )
+object_found value members v texts is found = (
+  doc.object found.0,
+  ap (λ j. document_of_json (value_view j)) is ∙ ap document_of_json (view-Object members) ∙ object_read (of_members (members_view members.items) parsed.no_members) ∙ ap (option_map doc.object) found.1,
+  λ more. node_object (texts ++ more) v ∙ ap doc.object (found.2 more),
+)
 
 -- ---- one more node
 
@@ -165,6 +171,10 @@ grows_by t0 t1 t2 name is grows = grows_on t0 t1 t2 (name ∷ [], is) grows
 
 -- ---- entries of a map
 
+-- names in byte order
+abbrev name_cmp : Bor (List ℕ) → Bor (List ℕ) → Ordering
+name_cmp a b = slice_cmp nat_cmp a.now b.now
+
 -- an entry, seen: its name, and its field
 abbrev pub entry_pair : Texts → Bor (List ℕ) × (ℕ × Node) → List ℕ × (List ℕ × Document)
 entry_pair ts e = (e.0.now, field_pair ts e.1)
@@ -191,10 +201,28 @@ pub fields_of_entries : (ts : Texts) (es : List (Bor (List ℕ) × (ℕ × Node)
 fields_of_entries ts [] = refl
 fields_of_entries ts (e ∷ es) = ap (λ qs. field_pair ts e.1 ∷ qs) (fields_of_entries ts es)
 
-seen_at : (ts : Texts) (o : Ordering) (a b c : List (Bor (List ℕ) × (ℕ × Node))) → map (entry_pair ts) (match_ordering o a b c) ≡ match_ordering o (map (entry_pair ts) a) (map (entry_pair ts) b) (map (entry_pair ts) c)
-seen_at ts Less a b c = refl
-seen_at ts Equal a b c = refl
-seen_at ts Greater a b c = refl
+module _ (ts : Texts) where
+  abbrev Fields : Type 0
+  Fields = List (Bor (List ℕ) × (ℕ × Node))
+
+  seen_at : (o : Ordering) (a b c : Fields) → map (entry_pair ts) (match_ordering o a b c) ≡ match_ordering o (map (entry_pair ts) a) (map (entry_pair ts) b) (map (entry_pair ts) c)
+  seen_at Less a b c = refl
+  seen_at Equal a b c = refl
+  seen_at Greater a b c = refl
+
+  entries_seen : (es : Fields) (k : Bor (List ℕ)) (f : ℕ × Node) → map (entry_pair ts) (insert_entry name_cmp es k f) ≡ with_value k.now (field_pair ts f) (map (entry_pair ts) es)
+  entries_seen [] k f = refl
+  entries_seen (e ∷ es) k f = seen_at (name_cmp k e.0) _ _ _ ∙ rw (entries_seen es k f)
+
+pub entry_put : (t0 t2 : Texts) (es all : List (Bor (List ℕ) × (ℕ × Node))) (k : Bor (List ℕ)) (f : ℕ × Node) (ps : Pairs Document) (d : Document) → all ≡ insert_entry name_cmp es k f → Grows t0 t2
+    → StaysIn (λ ts. map (entry_pair ts) es) t0 (doubled ps) → StaysIn (λ ts. field_pair ts f) t2 (k.now, d) → StaysIn (λ ts. map (entry_pair ts) all) t2 (doubled (with_value k.now d ps))
+entry_put t0 t2 es all k f ps d is grows before last more =
+    ap (map (entry_pair (t2 ++ more))) is ∙ entries_seen (t2 ++ more) es k f
+    ∙ ap₂ (with_value k.now) (last more) (stays_on (λ ts. map (entry_pair ts) es) t0 t2 (doubled ps) grows before more) ∙ sym (doubled_with k.now d ps)
+
+pub entries_listed : (ts : Texts) (es : List (Bor (List ℕ) × (ℕ × Node))) (fs : List (ℕ × Node)) (ps : Pairs Document) → fs ≡ map (λ e. e.1) es → map (entry_pair ts) es ≡ doubled ps → fields_view ts fs ≡ members_from ps
+entries_listed ts es fs ps is seen =
+    fields_in_pairs ts fs ∙ ap members_from (ap (map (field_pair ts)) is ∙ fields_of_entries ts es ∙ ap (map (λ q. q.1)) seen ∙ doubled_back ps)
 
 -- ---- names
 
@@ -270,6 +298,16 @@ all_up ms i ps past ordered names =
 
 pub all_read : (ms : List Member) (i : ℕ) (ps : Pairs Document) → length ms ≤ i → pairs_of_json (members_view (take i ms)) ≡ Some ps → Ascends ps → members_of_json (members_view ms) ≡ Some (members_from ps)
 all_read ms i ps past read up = members_found (members_view ms) ps (ap (λ xs. pairs_of_json (members_view xs)) (sym (take_all i ms past)) ∙ read) up
+
+-- ---- the text
+
+pub ended : (old : List spec_token.Token) (t : Option Token) (new : List spec_token.Token) → is_some t ≡ false → Yields old t new → old ≡ []
+ended old None new e h = h.0
+ended old (Some t) new e h = absurd (cc e)
+
+pub tree_read : (bytes : List ℕ) (j : Json) (d : Document) → IsUtf8 bytes → spec.value 127 (tokens bytes) ≡ Some (j, []) → document_of_json j ≡ Some d → document_of_text bytes ≡ Some d
+unfolding document_of_text
+tree_read bytes j d utf8 is found = rw (is_utf8-from_IsUtf8 bytes utf8, is) found
 
 -- ---- depths
 

@@ -11,13 +11,12 @@ use Rattle.serde_json.specs.Data as parsed
 use Rattle.serde_json.specs.Data.{Num, Data}
 use Rattle.smithy_types.specs.Documents as doc
 use Rattle.smithy_types.specs.Documents.{Document, Items, Members, put, put_all}
+use Rattle.smithy_serde.specs.Lawful.{is_canonical}
 use Rattle.smithy_serde.specs.Ranges.{is_before}
 use Rattle.smithy_document.specs.FromData.{number_of_data, of_data, items_of_data, pairs_of_data}
-use Rattle.smithy_document.specs.InOrder.{is_in_order, are_items_in_order, are_members_in_order}
+use Rattle.smithy_document.specs.InOrder.{is_in_order, are_items_in_order, are_members_in_order, is_read}
 use Rattle.smithy_document.specs.JsonHeld.{document_of_text}
-
-both : (b c : Bool) → IsTrue b → IsTrue c → IsTrue (b && c)
-both b c h k = rw (h, k) refl
+use Rattle.smithy_document.proofs.CanonicalData.{both, text_canonical}
 
 number_ordered : (n : Option doc.Number) → IfSome (option_map doc.number n) (λ d. IsTrue (is_in_order d))
 number_ordered None = tt
@@ -105,6 +104,10 @@ read_ordered : (o : Option Data) → IfSome (option_and_then of_data o) (λ d. I
 read_ordered None = tt
 read_ordered (Some d) = data_ordered d
 
-pub text_in_order : (bytes : List ℕ) (d : Document) → document_of_text bytes ≡ Some d → IsTrue (is_in_order d)
+text_in_order : (bytes : List ℕ) (d : Document) → document_of_text bytes ≡ Some d → IsTrue (is_in_order d)
 unfolding document_of_text
 text_in_order bytes d is = subst (λ o. IfSome o (λ d. IsTrue (is_in_order d))) is (read_ordered (if is_utf8 bytes then read bytes else None))
+
+-- what a text is read as is canonical and in order
+pub text_is_read : (bytes : List ℕ) (d : Document) → document_of_text bytes ≡ Some d → IsTrue (is_read d)
+text_is_read bytes d is = both (is_canonical d) (is_in_order d) (text_canonical bytes d is) (text_in_order bytes d is)
