@@ -40,18 +40,18 @@ before_put l k d (doc.member m e ms) less h = before_at (slice_cmp nat_cmp k m) 
 
 put_at : (o : Ordering) (k l : List ℕ) (d e : Document) (ms : Members) → slice_cmp nat_cmp k l ≡ o → IsTrue (is_in_order d) → IsTrue (is_before l ms) → IsTrue (is_in_order e) → IsTrue (are_members_in_order ms)
     → IsTrue (are_members_in_order (put k d ms)) → IsTrue (are_members_in_order (match_ordering o (doc.member k d (doc.member l e ms)) (doc.member l d ms) (doc.member l e (put k d ms))))
-put_at Less k l d e ms is h b i j more = both _ _ (rw is refl) (both _ _ h (both _ _ b (both _ _ i j)))
-put_at Equal k l d e ms is h b i j more = both _ _ b (both _ _ h j)
+put_at Less k l d e ms is h b i j more = both _ _ (both _ _ (rw is refl) h) (both _ _ (both _ _ b i) j)
+put_at Equal k l d e ms is h b i j more = both _ _ (both _ _ b h) j
 put_at Greater k l d e ms is h b i j more =
     let less : slice_cmp nat_cmp l k ≡ Less = nat_list_cmp_total.antisymm l k ∙ ap ordering_reverse is in
-    both _ _ (before_put l k d ms less b) (both _ _ i more)
+    both _ _ (both _ _ (before_put l k d ms less b) i) more
 
 put_ordered : (k : List ℕ) (d : Document) (ms : Members) → IsTrue (is_in_order d) → IsTrue (are_members_in_order ms) → IsTrue (are_members_in_order (put k d ms))
 put_ordered k d doc.no_members h j = both _ _ h refl
 put_ordered k d (doc.member l e ms) h j =
-    let first = and_parts (is_before l ms) (is_in_order e && are_members_in_order ms) j in
-    let parts = and_parts (is_in_order e) (are_members_in_order ms) first.1 in
-    put_at (slice_cmp nat_cmp k l) k l d e ms refl h first.0 parts.0 parts.1 (put_ordered k d ms h parts.1)
+    let parts = and_parts (is_before l ms && is_in_order e) (are_members_in_order ms) j in
+    let first = and_parts (is_before l ms) (is_in_order e) parts.0 in
+    put_at (slice_cmp nat_cmp k l) k l d e ms refl h first.0 first.1 parts.1 (put_ordered k d ms h parts.1)
 
 all_put_ordered : (ps : List (List ℕ × Document)) (ms : Members) → ArePairsOrdered ps → IsTrue (are_members_in_order ms) → IsTrue (are_members_in_order (put_all ps ms))
 unfolding ArePairsOrdered
