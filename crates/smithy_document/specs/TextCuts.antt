@@ -1,13 +1,16 @@
--- Texts that stand in one buffer, one behind the other.
-use Rattle.std.specs.Prelude.{◌≡◌, ◌≤◌, ℕ, List, [], ◌∷◌, length, slice_range}
+-- Texts that stand in one buffer.
+use Rattle.std.specs.Prelude.{⊤, ◌≤◌, ℕ, List, [], ◌∷◌, map, slice_range}
 use Rattle.std.specs.Str.{IsCharBoundary}
 
--- the pieces of a text that end at these places, the first from a place on
-abbrev pub pieces : List ℕ → ℕ → List ℕ → List (List ℕ)
-pieces bytes from [] = []
-pieces bytes from (to ∷ ends) = slice_range bytes from to ∷ pieces bytes to ends
+-- where a text begins and ends
+abbrev pub Cut : Type 0
+Cut = ℕ × ℕ
 
--- a text may be cut at each of them, they don't descend, and the last is its end
-abbrev pub AreCuts : List ℕ → ℕ → List ℕ → Type 0
-AreCuts bytes from [] = from ≡ length bytes
-AreCuts bytes from (to ∷ ends) = (from ≤ to) × IsCharBoundary bytes to × AreCuts bytes to ends
+-- the pieces of a text at these cuts
+abbrev pub pieces : List ℕ → List Cut → List (List ℕ)
+pieces bytes cuts = map (λ c. slice_range bytes c.0 c.1) cuts
+
+-- a text may be cut at both ends of each of them
+abbrev pub AreCuts : List ℕ → List Cut → Type 0
+AreCuts bytes [] = ⊤
+AreCuts bytes (c ∷ cuts) = (c.0 ≤ c.1) × IsCharBoundary bytes c.0 × IsCharBoundary bytes c.1 × AreCuts bytes cuts

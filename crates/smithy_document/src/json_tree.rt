@@ -69,7 +69,8 @@ impl Node {
         ensures { (texts : List (List ℕ)) → result ≡ container_size (node_view texts self.now) }
     {
         match self {
-            Node::Array(_) | Node::Object(_) => Some(capped_container_size(self.part_count())),
+            Node::Array(items) => Some(capped_container_size(items.len())),
+            Node::Object(fields) => Some(capped_container_size(fields.len())),
             _ => None,
         }
     }
@@ -87,12 +88,13 @@ impl JsonTree {
     pub(crate) fn part_name(&self, container: &Node, place: usize) -> &str
         ensures { result.now ≡ part_name_lem (node_view self.now.texts container.now) place }
     {
-        let Node::Object(fields) = container else {
-            return "";
-        };
-        match fields.get(place) {
-            Some(field) => self.texts.get(field.0),
-            None => "",
+        match container {
+            Node::Object(fields) => match fields.get(place) {
+                Some(field) => self.texts.get(field.0),
+                None => "",
+            },
+            Node::Array(_) => "",
+            _ => "",
         }
     }
 }

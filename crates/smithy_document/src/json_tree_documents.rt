@@ -86,13 +86,14 @@ pub(crate) fn node_of_document(
 fn nodes_of_documents(
     alloc: Global,
     texts: &mut TextList,
-    items: &Documents,
+    documents: &Documents,
 ) -> Result<Vec<Node>, OutOfMemory>
     ensures grows { Grows texts.old texts.new }
-    ensures are { IfOk result (λ ns. StaysIn (λ ts. nodes_view ts ns.items) texts.new (items_view items.now)) }
+    ensures are { IfOk result (λ ns. StaysIn (λ ts. nodes_view ts ns.items) texts.new (items_view documents.now)) }
 {
+    let items = documents.as_slice();
     let mut found = Vec::new(alloc);
-    'items: for item in items.as_slice() {
+    'items: for item in items {
         found.push(node_of_document(alloc, texts, item)?)?;
     }
     Ok(found)

@@ -9,7 +9,8 @@ use std::marker::Model;
 #[derive(Drop)]
 pub(crate) struct TextList {
     bytes: String,
-    ends: Vec<usize>,
+    // Where each text begins and ends.
+    cuts: Vec<(usize, usize)>,
 }
 
 impl Model for TextList {
@@ -18,9 +19,9 @@ impl Model for TextList {
 
     ghost Value = { List (List ℕ) };
 
-    ghost view = { λ a. pieces (string_bytes a.bytes) 0 a.ends.items };
+    ghost view = { λ a. pieces (string_bytes a.bytes) a.cuts.items };
 
-    ghost invariant = { λ a. AreCuts (string_bytes a.bytes) 0 a.ends.items };
+    ghost invariant = { λ a. AreCuts (string_bytes a.bytes) a.cuts.items };
 }
 
 impl TextList {
@@ -32,7 +33,7 @@ impl TextList {
     {
         TextList {
             bytes: String::new(alloc),
-            ends: Vec::new(alloc),
+            cuts: Vec::new(alloc),
         }
     }
 
@@ -42,10 +43,11 @@ impl TextList {
         ensures ok { OnOk result (self.new ≡ self.old ++ text.now ∷ []) }
         ensures err { OnErr result (self.new ≡ self.old) }
     {
-        let place = self.ends.len();
-        self.ends.try_reserve(1)?;
+        let place = self.cuts.len();
+        let start = self.bytes.len();
+        self.cuts.try_reserve(1)?;
         self.bytes.push_str(text)?;
-        self.ends.push_reserved(self.bytes.len());
+        self.cuts.push_reserved((start, self.bytes.len()));
         Ok(place)
     }
 
@@ -53,20 +55,9 @@ impl TextList {
     pub(crate) fn get(&self, place: usize) -> &str
         ensures { result.now ≡ text_at self.now place }
     {
-        let Some(end) = self.ends.get(place) else {
-            return "";
-        };
-        &self.bytes.as_str()[self.start(place)..*end]
-    }
-
-    // Where the text at a place begins.
-    fn start(&self, place: usize) -> usize {
-        if place == 0 {
-            return 0;
-        }
-        match self.ends.get(place - 1) {
-            Some(end) => *end,
-            None => 0,
+        match self.cuts.get(place) {
+            Some(cut) => &self.bytes.as_str()[cut.0..cut.1],
+            None => "",
         }
     }
 }
