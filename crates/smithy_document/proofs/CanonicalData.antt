@@ -14,7 +14,7 @@ use Rattle.smithy_serde.specs.Lawful.{is_number_canonical, is_canonical, are_ite
 use Rattle.smithy_document.specs.FromData.{number_of_data, of_data, items_of_data, pairs_of_data}
 use Rattle.smithy_document.specs.JsonHeld.{document_of_text}
 
-both : (b c : Bool) → IsTrue b → IsTrue c → IsTrue (b && c)
+pub both : (b c : Bool) → IsTrue b → IsTrue c → IsTrue (b && c)
 both b c h k = rw (h, k) refl
 
 whole_canonical : (z : ℤ) → IsTrue (is_number_canonical (number_of z))

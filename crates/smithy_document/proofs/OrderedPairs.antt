@@ -13,7 +13,7 @@ use Rattle.smithy_document.proofs.PathLemmas.{same_self}
 
 -- ---- names in order
 
-same_name : (k l : List ℕ) → slice_cmp nat_cmp k l ≡ Equal → k ≡ l
+pub same_name : (k l : List ℕ) → slice_cmp nat_cmp k l ≡ Equal → k ≡ l
 same_name k l e = same_from_test k l (sym (ap is_eq e) ∙ is_eq-slice_cmp k l)
 
 above : (k l : List ℕ) → slice_cmp nat_cmp k l ≡ Greater → slice_cmp nat_cmp l k ≡ Less

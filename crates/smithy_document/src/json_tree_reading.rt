@@ -1,10 +1,10 @@
 // JSON texts as trees.
-ghost use Rattle.std.specs.Prelude.{◌≡◌, Some, IfOk, IfErr, IfSome, IsTrue, map, option_map};
-ghost use Rattle.json.specs.Find.{as_number};
+ghost use Rattle.std.specs.Prelude.{◌≡◌, ◌<◌, ◌==◌, true, false, length, slice_index, Some, IfOk, IfErr, IfSome, IsTrue, map, option_map, option_and_then};
 ghost use Rattle.json.specs.Value.{value_view, items_view, members_view};
-ghost use Rattle.serde_json.specs.Read.{number_of as number_of_text};
+ghost use Rattle.serde_json.specs.Read.{number_of as number_of_text, number_from};
 ghost use Rattle.smithy_types.specs.DocumentView.{number_view};
 ghost use Rattle.smithy_types.specs.Maps.{IsOrdered};
+ghost use Rattle.smithy_document.specs.FromData.{number_of_data};
 ghost use Rattle.smithy_document.specs.FromJson.{document_of_json, items_of_json, members_of_json, IsFound};
 ghost use Rattle.smithy_document.specs.InOrder.{is_tree_read};
 ghost use Rattle.smithy_document.specs.JsonHeld.{document_of_text};
@@ -15,17 +15,50 @@ use crate::json_reading::read_document;
 use crate::json_tree::{JsonTree, Node};
 use crate::json_tree_documents::tree_of;
 use crate::text_list::TextList;
+use fast_float::Numeral;
 use json::{Error as JsonError, Reader, Scratch, Value};
 use smithy_serde::SerdeError;
 use smithy_types::Number;
 use std::alloc::Global;
 use std::collections::BTreeMap;
 
+fn has_minus(bytes: &[u8]) -> bool
+    ensures value { result ≡ (slice_index bytes.now 0 == 45) }
+    ensures len { IsTrue result → 0 < length bytes.now }
+{
+    !bytes.is_empty() && bytes[0] == b'-'
+}
+
 // The number that a text writes, where it is an integer of 64 bits.
-fn number_of(value: &Value<'_>) -> Option<Number> {
-    match value.as_u64() {
-        Some(number) => Some(Number::PosInt(number)),
-        None => Some(Number::from_i64(value.as_i64()?)),
+fn number_of(text: &str) -> Option<Number>
+    ensures { IfSome result
+        (λ n. option_and_then number_of_data (number_of_text text.now) ≡ Some (number_view n)) }
+{
+    let bytes = text.as_bytes();
+    if has_minus(bytes) {
+        number_below_zero(&Numeral::scan(&bytes[1..]))
+    } else {
+        number_from_zero(&Numeral::scan(bytes))
+    }
+}
+
+fn number_from_zero(numeral: &Numeral<'_>) -> Option<Number>
+    ensures { IfSome result
+        (λ n. option_and_then number_of_data (number_from false numeral.now) ≡ Some (number_view n)) }
+{
+    Some(Number::PosInt(numeral.to_u64()?))
+}
+
+// The text `-0` is no integer, since a float tells it from `0`.
+fn number_below_zero(numeral: &Numeral<'_>) -> Option<Number>
+    ensures { IfSome result
+        (λ n. option_and_then number_of_data (number_from true numeral.now) ≡ Some (number_view n)) }
+{
+    let number = numeral.to_i64(true)?;
+    if number < 0 {
+        Some(Number::NegInt(number))
+    } else {
+        None
     }
 }
 
@@ -38,7 +71,7 @@ fn node_of(alloc: Global, texts: &mut TextList, value: &Value<'_>) -> Result<Nod
     match value {
         Value::Null => Ok(Node::Null),
         Value::Bool(truth) => Ok(Node::Bool(*truth)),
-        Value::Number(_) => match number_of(value) {
+        Value::Number(text) => match number_of(*text) {
             Some(number) => Ok(Node::Number(number)),
             None => Err(JsonFault::NoDocument),
         },
@@ -127,12 +160,12 @@ fn fields_in_order(
 // The values of a map, in order.
 fn listed(
     alloc: Global,
-    map: BTreeMap<&str, (usize, Node)>,
+    entries: BTreeMap<&str, (usize, Node)>,
 ) -> Result<Vec<(usize, Node)>, JsonFault>
-    ensures { IfOk result (λ fs. fs.items ≡ map (λ e. e.1) map.entries) }
+    ensures { IfOk result (λ fs. fs.items ≡ map (λ e. e.1) entries.entry.entries) }
 {
     let mut fields = Vec::new(alloc);
-    'fields: for (_, field) in map {
+    'fields: for (_, field) in entries {
         fields.push(field)?;
     }
     Ok(fields)

@@ -10,14 +10,14 @@ use Rattle.smithy_document.proofs.CursorLemmas.{member_next, members_closed}
 use Rattle.smithy_document.proofs.TreeLemmas.{closes_behind, steps_to_member}
 use Rattle.smithy_document.proofs.json_tree_cursor.TreeCursor.next_member.Goals as goal
 
-pub returns-in_default : goal.returns-in_default
-returns-in_default c =
+pub returns-in_default-known_part : goal.returns-in_default-known_part
+returns-in_default-known_part c =
     let root = tree_view c.args.tree.now in
     let node = schema_of c.args.schema in
     let outer : List TreePlace = c.pop.new.self.items in
     let place : TreePlace = c.in-Some.place in
     let container : node_view c.args.tree.now.texts c.node_at-container.result.now ≡ path_end root outer = c.node_at-container.ensures ∙ ap (path_end root) c.as_slice.ensures.value in
-    let none = subst (λ d. FindsKnown node (parts_of d) place.next None) container c.in_default.ensures in
+    let none = subst (λ d. FindsKnown node (parts_of d) place.next None) container c.in_default-known_part.ensures in
     members_closed true node _ _ _ _ c.requires
     (subst (λ ps. ClosesBehind node (opened_along root ps) (path_end root outer) (opened_along root outer)) (sym c.in-Some.ensures.items) (closes_behind root outer place node none))
 
