@@ -61,7 +61,10 @@ names_at nodes seen place n kept same at = kept.names place n (rw (← same) (sy
 -- they stay where the table keeps what stands at the members' places
 HasNames-same : (old new : Table) (d : StoredDetails) → ((position member : ℕ) → slice_get (details_stored d).members position ≡ Some member → node_at new member ≡ node_at old member) → HasNames old d → HasNames new d
 HasNames-same old new (Outline format) same has = has
-HasNames-same old new (Full d) same has = HasPositions-same old new (places_of d.value.members.items) d.value.positions same has
+HasNames-same old new (Full d) same has = record {
+  positions = HasPositions-same old new (places_of d.value.members.items) d.value.positions same has.positions;
+  followers = has.followers;
+}
 
 pub IsKept-declared : (nodes : List (Option StoredNode)) → IsKept nodes → IsKept (nodes ++ None ∷ [])
 IsKept-declared nodes kept =

@@ -1,6 +1,8 @@
 -- What a table keeps beside the nodes that it is seen as.
 use Rattle.std.specs.Prelude.{◌≡◌, ℕ, List, slice_get, Option, Some}
 use Rattle.std.specs.Option.{option_flatten}
+use Rattle.smithy_schema.specs.declared.parts.SchemaIndex.{SchemaIndex}
+use Rattle.smithy_schema.specs.declared.stored.FullDetails.{FullDetails}
 use Rattle.smithy_schema.specs.declared.stored.StoredDetails.{StoredDetails}
 use Rattle.smithy_schema.specs.declared.stored.StoredDetails.TheVariants.{Outline, Full}
 use Rattle.smithy_schema.specs.declared.stored.StoredNode.{StoredNode}
@@ -8,16 +10,26 @@ use Rattle.smithy_schema.specs.Nodes.{Table}
 use Rattle.smithy_schema.specs.Places.{places_of}
 use Rattle.smithy_schema.specs.Stored.{table_stored}
 use Rattle.smithy_schema.specs.Defining.{IsSound}
-use Rattle.smithy_schema.specs.MemberNames.{HasPositions}
+use Rattle.smithy_schema.specs.MemberNames.{AreOfNames, HasPositions}
 
 -- the node that is kept at a place; a hole counts as none
 abbrev pub kept_at : List (Option StoredNode) → ℕ → Option StoredNode
 kept_at nodes place = option_flatten (slice_get nodes place)
 
--- the first position of each name among the members is kept; an outline has none
+-- the first position of each name among the members is kept, and as followers none but these
+pub record KeepsNames (table : Table) (d : FullDetails) : Type 0 where
+  pub positions : HasPositions table (places_of d.members.items) d.positions
+  pub followers : AreOfNames d.positions d.followers.items
+
+-- the place is that of a member at one of the followers
+abbrev pub IsFollower : FullDetails → SchemaIndex → Type 0
+IsFollower d place =
+    (before : ℕ) × (position : ℕ) × (slice_get d.followers.items before ≡ Some position) × (slice_get d.members.items position ≡ Some place)
+
+-- the names of the members are kept; an outline has none
 abbrev pub HasNames : Table → StoredDetails → Type 0
 HasNames table (Outline format) = Unit {0}
-HasNames table (Full d) = HasPositions table (places_of d.value.members.items) d.value.positions
+HasNames table (Full d) = KeepsNames table d.value
 
 -- The table is sound, and each node has the first position of each name among its members.
 pub record IsKept (nodes : List (Option StoredNode)) : Type 0 where

@@ -1,10 +1,10 @@
 -- Where the names of a node's members stand, as the code keeps it.
-use Rattle.std.specs.Prelude.{◌≡◌, ℕ, Bool, true, false, List, position, String, Option, Some, None}
+use Rattle.std.specs.Prelude.{◌≡◌, ℕ, Bool, true, false, List, position, String, Option, Some, None, All}
 use Rattle.std.specs.Option.{option_map_or, option_or}
 use Rattle.std.specs.Global.{Global}
 use Rattle.std.specs.BTreeMap.{BTreeMap, get_by_text}
 use Rattle.smithy_types.specs.Texts.{same_text}
-use Rattle.smithy_schema.specs.Nodes.{Node, Table, at_place, has_name}
+use Rattle.smithy_schema.specs.Nodes.{Node, Table, Schema, at_place, has_name, member_named}
 
 -- the place holds a node with this name
 abbrev pub is_named_at : Table → List ℕ → ℕ → Bool
@@ -13,6 +13,18 @@ is_named_at table name place = option_map_or (has_name name) (at_place table pla
 -- the map has the first position of each name among the members at these places, and no other name
 pub record HasPositions (table : Table) (places : List ℕ) (positions : BTreeMap (String Global) ℕ) : Type 0 where
   pub at : (name : List ℕ) → get_by_text positions name ≡ position (is_named_at table name) places
+
+-- the position is some name's
+abbrev pub IsOfName : BTreeMap (String Global) ℕ → ℕ → Type 0
+IsOfName positions p = (name : List ℕ) × (get_by_text positions name ≡ Some p)
+
+-- so is each of these, in whatever order they stand
+abbrev pub AreOfNames : BTreeMap (String Global) ℕ → List ℕ → Type 0
+AreOfNames positions followers = All (IsOfName positions) followers
+
+-- the member is the schema's first one with whatever name it has
+abbrev pub IsFirstOfName : Schema → Schema → Type 0
+IsFirstOfName schema member = (name : List ℕ) → has_name name member ≡ true → member_named schema name ≡ Some member
 
 -- a place that holds no node has no name
 abbrev pub name_held : Option Node → Option (List ℕ)

@@ -3,6 +3,7 @@ use Rattle.std.specs.Prelude.{ℕ, [], unwrap_or, Option, Some, None}
 use Rattle.smithy_ids.specs.declared.shape_type.ShapeType.TheVariants as kind
 use Rattle.smithy_schema.specs.declared.schema_ref.SchemaRef.{SchemaRef}
 use Rattle.smithy_schema.specs.declared.schema_ref.Spot.{Spot}
+use Rattle.smithy_schema.specs.declared.schema_ref.TableRef.{TableRef}
 use Rattle.smithy_schema.specs.declared.schema_ref.Spot.TheVariants as spot
 use Rattle.smithy_schema.specs.Nodes.{Table, Node, Schema, node_at}
 use Rattle.smithy_schema.specs.PreludeNodes.{prelude_node}
@@ -11,8 +12,11 @@ use Rattle.smithy_schema.specs.PreludeNodes.{prelude_node}
 abbrev pub node_in : Table → ℕ → Node
 node_in table place = unwrap_or (node_at table place) (prelude_node kind.Structure)
 
+abbrev pub schema_at : TableRef → Schema
+schema_at r = record { table = r.table.now; node = node_in r.table.now r.index.0 }
+
 abbrev pub schema_in : Spot → Schema
-schema_in (spot.Table r) = record { table = r.table.now; node = node_in r.table.now r.index.0 }
+schema_in (spot.Table r) = schema_at r
 schema_in (spot.Prelude shape_type) = record { table = []; node = prelude_node shape_type }
 
 abbrev pub schema_of : SchemaRef → Schema

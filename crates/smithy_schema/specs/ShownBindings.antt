@@ -12,3 +12,7 @@ binding_shown answered.QueryMap = nodes.to_query_map
 binding_shown answered.Label = nodes.to_label
 binding_shown answered.Payload = nodes.to_payload
 binding_shown answered.Body = nodes.to_body
+
+-- where a member with these traits stands
+abbrev pub binding_by : nodes.Traits → nodes.Binding
+binding_by t = nodes.binding_at t.http_header t.http_prefix_headers t.http_query t.http_query_params t.http_label t.http_payload

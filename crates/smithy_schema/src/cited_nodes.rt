@@ -1,6 +1,6 @@
 // The nodes that a node cites, and what kind it is. A getter takes no memory.
 ghost use Rattle.std.specs.Prelude.{◌≡◌, ◌↔◌, IsTrue, option_map};
-ghost use Rattle.smithy_schema.specs.Nodes.{cited, element_of, key_of, value_of, element_or_value_of, holds_node as holds, cites_nodes, member_at, member_named};
+ghost use Rattle.smithy_schema.specs.Nodes.{cited, element_of, key_of, value_of, element_or_value_of, holds_node as holds, cites_nodes, has_name, member_at, member_named};
 ghost use Rattle.smithy_schema.specs.Places.{place_of};
 ghost use Rattle.smithy_schema.specs.References.{schema_of};
 
@@ -120,6 +120,30 @@ impl<'t> SchemaRef<'t> {
     {
         let position = self.position_of(name)?;
         self.member_schema_by_index(position)
+    }
+
+    // Whether the name is the member's.
+    fn is_named(&self, name: &str) -> bool
+        ensures { result ≡ has_name name.now (schema_of self.now) }
+    {
+        match self.member_name() {
+            Some(own) => name == own,
+            None => false,
+        }
+    }
+
+    /// The first member with this name. It is looked for first behind the member at the position `before` in byte order of
+    /// the names (at the first name where that is none), in a time that doesn't grow with the number of members, and else in
+    /// that of a look-up in a map. Takes no memory.
+    pub fn member_schema_behind(&self, before: Option<usize>, name: &str) -> Option<SchemaRef<'t>>
+        ensures { option_map schema_of result ≡ member_named (schema_of self.now) name.now }
+    {
+        if let Some(member) = self.follower(before) {
+            if member.is_named(name) {
+                return Some(member);
+            }
+        }
+        self.member_schema(name)
     }
 
     /// Whether the kind is that of a member.

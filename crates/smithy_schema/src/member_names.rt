@@ -1,9 +1,9 @@
-// The names of a node's members, each with its first position.
-ghost use Rattle.std.specs.Prelude.{◌≡◌, Some, IfOk, OnOk, option_map};
+// The names of a node's members, each with its first position, and the order of these.
+ghost use Rattle.std.specs.Prelude.{◌≡◌, slice_set, Some, IfOk, OnOk, option_map};
 ghost use Rattle.smithy_schema.specs.Nodes.{node_at};
 ghost use Rattle.smithy_schema.specs.Places.{places_of};
 ghost use Rattle.smithy_schema.specs.Stored.{table_stored};
-ghost use Rattle.smithy_schema.specs.MemberNames.{HasOneMore, HasPositions, name_held};
+ghost use Rattle.smithy_schema.specs.MemberNames.{AreOfNames, HasOneMore, HasPositions, name_held};
 
 use crate::defining::stored_at;
 use crate::parts::SchemaIndex;
@@ -49,7 +49,8 @@ fn add_member(
     name: Option<&str>,
     position: usize,
 ) -> Result<(), OutOfMemory>
-    ensures { OnOk result (HasOneMore positions.old (option_map (λ t. t.now) name.entry) position positions.new) }
+    ensures { OnOk result
+        (HasOneMore positions.old (option_map (λ t. t.now) name.entry) position positions.new) }
 {
     match name {
         Some(name) => add_name(alloc, positions, name, position),
@@ -70,4 +71,34 @@ pub(crate) fn first_positions(
         add_member(alloc, &mut positions, name_at(nodes, member.0), position)?;
     }
     Ok(positions)
+}
+
+// Puts what follows a position, if it is one.
+fn put_follower(followers: &mut Vec<usize>, before: usize, position: usize)
+    ensures { followers.new.items ≡ slice_set followers.old.items before position }
+{
+    if before < followers.len() {
+        followers[before] = position;
+    }
+}
+
+/// For each member's position that of the name behind its own in byte order, and the first name's behind them all. A
+/// position that no name stands for, and the last name's, have the first name's too. Nothing where there is no name.
+pub(crate) fn followers(
+    alloc: Global,
+    positions: &Positions,
+    members: &[SchemaIndex],
+) -> Result<Vec<usize>, OutOfMemory>
+    ensures { IfOk result (λ f. AreOfNames positions.now f.items) }
+{
+    let Some(first) = positions.values().next() else {
+        return Ok(Vec::new(alloc));
+    };
+    let mut followers = vec![in alloc; *first; members.len() + 1]?;
+    let mut last = members.len();
+    for position in positions.values() {
+        put_follower(&mut followers, last, *position);
+        last = *position;
+    }
+    Ok(followers)
 }

@@ -51,7 +51,8 @@ fn head_of(alloc: Global, schema: SchemaRef<'_>) -> Result<Arc<Head>, OutOfMemor
 fn outlined_node(alloc: Global, schema: SchemaRef<'_>) -> Result<StoredNode, OutOfMemory>
     ensures node { IfOk result (λ n. node_stored n ≡ outline_of (schema_of schema.entry).node) }
     ensures whole { IfOk result (λ n. is_whole (node_stored n) ≡ true) }
-    ensures details { IfOk result (λ n. n.details ≡ details.Outline (schema_of schema.entry).node.traits.timestamp_format) }
+    ensures details { IfOk result (λ n.
+        n.details ≡ details.Outline (schema_of schema.entry).node.traits.timestamp_format) }
 {
     Ok(StoredNode {
         head: head_of(alloc, schema)?,
@@ -74,7 +75,8 @@ impl Schemas {
     /// else: it cites no node. It shares the names of a table's node, and copies those of the prelude's. After a refusal the table is unchanged.
     pub fn insert_outline(&mut self, schema: SchemaRef<'_>) -> Result<SchemaIndex, OutOfMemory>
         ensures place { IfOk result (λ i. i.0 ≡ length self.old) }
-        ensures ok { OnOk result (self.new ≡ self.old ++ Some (outline_of (schema_of schema.entry).node) ∷ []) }
+        ensures ok { OnOk result
+            (self.new ≡ self.old ++ Some (outline_of (schema_of schema.entry).node) ∷ []) }
         ensures err { OnErr result (self.new ≡ self.old) }
     {
         let place = self.nodes.len();

@@ -1,9 +1,9 @@
 // Where a member of a request stands (Smithy, HTTP protocol bindings).
 ghost use Rattle.std.specs.Prelude.{◌≡◌};
-ghost use Rattle.smithy_schema.specs.Nodes.{binding_of, binding_at};
+ghost use Rattle.smithy_schema.specs.Nodes.{binding_of};
 ghost use Rattle.smithy_schema.specs.References.{schema_of};
 ghost use Rattle.smithy_schema.specs.Stored.{traits_stored};
-ghost use Rattle.smithy_schema.specs.ShownBindings.{binding_shown};
+ghost use Rattle.smithy_schema.specs.ShownBindings.{binding_by, binding_shown};
 
 use crate::schema_ref::SchemaRef;
 use crate::stored::StoredTraits;
@@ -22,7 +22,7 @@ pub enum Binding<'t> {
 
 // Where a member with these traits stands.
 fn bound_by<'t>(traits: &'t StoredTraits) -> Binding<'t>
-    ensures { binding_shown result ≡ binding_at (traits_stored traits.now).http_header (traits_stored traits.now).http_prefix_headers (traits_stored traits.now).http_query (traits_stored traits.now).http_query_params (traits_stored traits.now).http_label (traits_stored traits.now).http_payload }
+    ensures { binding_shown result ≡ binding_by (traits_stored traits.now) }
 {
     if let Some(name) = &traits.http_header {
         return Binding::Header(name.as_str());

@@ -46,14 +46,14 @@ impl<'a> Model for Schema<'a> {
 
 impl<'a> Schema<'a> {
     ghost use Rattle.std.specs.Prelude.{◌≡◌, [], true, Some, None, option_map};
-    ghost use Rattle.smithy_ids.specs.ShapeIdParts.{parts_of};
-    ghost use Rattle.smithy_schema.specs.Nodes.{Node, Namespace, bare_node};
+    ghost use Rattle.smithy_schema.specs.Described.{bare_by};
+    ghost use Rattle.smithy_schema.specs.Nodes.{Node, Namespace};
     ghost use Rattle.smithy_schema.specs.DescribedTraits.{traits_described, with_plain};
     ghost use Rattle.smithy_schema.specs.Places.{places_of};
 
     /// A node of this kind that cites nothing.
     pub const fn new(id: ShapeId<'a>, shape_type: ShapeType) -> Self
-        ensures { result ≡ bare_node (parts_of id.entry).full_name shape_type }
+        ensures { result ≡ bare_by id.entry shape_type }
     {
         Schema {
             id,
@@ -75,7 +75,7 @@ impl<'a> Schema<'a> {
         shape_type: ShapeType,
         members: &'a [SchemaIndex],
     ) -> Self
-        ensures { result ≡ record (bare_node (parts_of id.entry).full_name shape_type) { members = places_of members.now } }
+        ensures { result ≡ record (bare_by id.entry shape_type) { members = places_of members.now } }
     {
         let mut schema = Schema::new(id, shape_type);
         schema.members = members;
@@ -84,7 +84,7 @@ impl<'a> Schema<'a> {
 
     /// A list of these elements.
     pub const fn new_list(id: ShapeId<'a>, member: SchemaIndex) -> Self
-        ensures { result ≡ record (bare_node (parts_of id.entry).full_name ShapeType.List) { element = Some member.0 } }
+        ensures { result ≡ record (bare_by id.entry ShapeType.List) { element = Some member.0 } }
     {
         let mut schema = Schema::new(id, ShapeType::List);
         schema.places = Places {
@@ -96,7 +96,8 @@ impl<'a> Schema<'a> {
 
     /// A map from these keys to these values.
     pub const fn new_map(id: ShapeId<'a>, key: SchemaIndex, value: SchemaIndex) -> Self
-        ensures { result ≡ record (bare_node (parts_of id.entry).full_name ShapeType.Map) { key = Some key.0; value = Some value.0 } }
+        ensures { result
+            ≡ record (bare_by id.entry ShapeType.Map) { key = Some key.0; value = Some value.0 } }
     {
         let mut schema = Schema::new(id, ShapeType::Map);
         schema.places = Places {
@@ -114,7 +115,11 @@ impl<'a> Schema<'a> {
         member_name: &'a str,
         member_index: usize,
     ) -> Self
-        ensures { result ≡ record (bare_node (parts_of id.entry).full_name shape_type) { member_name = Some member_name.now; member_index = Some member_index } }
+        ensures { result
+            ≡ record (bare_by id.entry shape_type) {
+              member_name = Some member_name.now;
+              member_index = Some member_index;
+            } }
     {
         let mut schema = Schema::new(id, shape_type);
         schema.membership = Membership::Indexed(member_name, member_index);
@@ -123,7 +128,7 @@ impl<'a> Schema<'a> {
 
     /// A member with a name and no index.
     pub const fn new_unindexed(id: ShapeId<'a>, shape_type: ShapeType, member_name: &'a str) -> Self
-        ensures { result ≡ record (bare_node (parts_of id.entry).full_name shape_type) { member_name = Some member_name.now } }
+        ensures { result ≡ record (bare_by id.entry shape_type) { member_name = Some member_name.now } }
     {
         let mut schema = Schema::new(id, shape_type);
         schema.membership = Membership::Named(member_name);
@@ -140,7 +145,8 @@ impl<'a> Schema<'a> {
 
     /// The same with keys and values in the place of members, element, key and value.
     pub fn with_map_members(mut self, key: SchemaIndex, value: SchemaIndex) -> Self
-        ensures { result ≡ record self.entry { members = []; element = None; key = Some key.0; value = Some value.0 } }
+        ensures { result
+            ≡ record self.entry { members = []; element = None; key = Some key.0; value = Some value.0 } }
     {
         self.members = &[];
         self.places = Places {
@@ -154,7 +160,8 @@ impl<'a> Schema<'a> {
 
     /// The same with elements in the place of members, element, key and value.
     pub fn with_list_member(mut self, member: SchemaIndex) -> Self
-        ensures { result ≡ record self.entry { members = []; element = Some member.0; key = None; value = None } }
+        ensures { result
+            ≡ record self.entry { members = []; element = Some member.0; key = None; value = None } }
     {
         self.members = &[];
         self.places = Places {
@@ -195,7 +202,8 @@ impl<'a> Schema<'a> {
 
     /// The same with a format of timestamps (Smithy, timestampFormat trait).
     pub fn with_timestamp_format(mut self, format: TimestampFormat) -> Self
-        ensures { result ≡ record self.entry { traits = record self.entry.traits { timestamp_format = Some format } } }
+        ensures { result
+            ≡ record self.entry { traits = record self.entry.traits { timestamp_format = Some format } } }
     {
         self.traits = Traits {
             timestamp_format: Some(format),
@@ -214,7 +222,8 @@ impl<'a> Schema<'a> {
 
     /// The same with method, URI template and status (Smithy, HTTP protocol bindings, http trait).
     pub fn with_http(mut self, http: HttpTrait<'a>) -> Self
-        ensures { result ≡ record self.entry { traits = record self.entry.traits { http = Some http.entry } } }
+        ensures { result
+            ≡ record self.entry { traits = record self.entry.traits { http = Some http.entry } } }
     {
         self.traits = Traits {
             http: Some(http),
@@ -225,7 +234,15 @@ impl<'a> Schema<'a> {
 
     /// The same with a namespace in XML (Smithy, XML bindings, xmlNamespace trait).
     pub fn with_xml_namespace(mut self, uri: &'a str, prefix: Option<&'a str>) -> Self
-        ensures { result ≡ record self.entry { traits = record self.entry.traits { xml_namespace = Some (record { uri = uri.now; prefix = option_map (λ p. p.now) prefix.entry }) } } }
+        ensures { result
+            ≡ record self.entry {
+              traits = record self.entry.traits {
+                xml_namespace = Some (record {
+                  uri = uri.now;
+                  prefix = option_map (λ p. p.now) prefix.entry;
+                });
+              };
+            } }
     {
         self.traits = Traits {
             xml_namespace: Some(XmlNamespaceTrait::new(uri, prefix)),
@@ -244,7 +261,8 @@ impl<'a> Schema<'a> {
 
     /// The same with the trait `jsonName`.
     pub fn with_json_name(mut self, value: &'a str) -> Self
-        ensures { result ≡ record self.entry { traits = record self.entry.traits { json_name = Some value.now } } }
+        ensures { result
+            ≡ record self.entry { traits = record self.entry.traits { json_name = Some value.now } } }
     {
         self.traits = Traits {
             json_name: Some(value),
@@ -255,7 +273,8 @@ impl<'a> Schema<'a> {
 
     /// The same with the trait `xmlName`.
     pub fn with_xml_name(mut self, value: &'a str) -> Self
-        ensures { result ≡ record self.entry { traits = record self.entry.traits { xml_name = Some value.now } } }
+        ensures { result
+            ≡ record self.entry { traits = record self.entry.traits { xml_name = Some value.now } } }
     {
         self.traits = Traits {
             xml_name: Some(value),
@@ -266,7 +285,8 @@ impl<'a> Schema<'a> {
 
     /// The same with the trait `httpHeader`.
     pub fn with_http_header(mut self, value: &'a str) -> Self
-        ensures { result ≡ record self.entry { traits = record self.entry.traits { http_header = Some value.now } } }
+        ensures { result
+            ≡ record self.entry { traits = record self.entry.traits { http_header = Some value.now } } }
     {
         self.traits = Traits {
             http_header: Some(value),
@@ -277,7 +297,10 @@ impl<'a> Schema<'a> {
 
     /// The same with the trait `httpPrefixHeaders`.
     pub fn with_http_prefix_headers(mut self, value: &'a str) -> Self
-        ensures { result ≡ record self.entry { traits = record self.entry.traits { http_prefix_headers = Some value.now } } }
+        ensures { result
+            ≡ record self.entry {
+              traits = record self.entry.traits { http_prefix_headers = Some value.now };
+            } }
     {
         self.traits = Traits {
             http_prefix_headers: Some(value),
@@ -288,7 +311,8 @@ impl<'a> Schema<'a> {
 
     /// The same with the trait `httpQuery`.
     pub fn with_http_query(mut self, value: &'a str) -> Self
-        ensures { result ≡ record self.entry { traits = record self.entry.traits { http_query = Some value.now } } }
+        ensures { result
+            ≡ record self.entry { traits = record self.entry.traits { http_query = Some value.now } } }
     {
         self.traits = Traits {
             http_query: Some(value),
@@ -299,7 +323,8 @@ impl<'a> Schema<'a> {
 
     /// The same with the trait `mediaType`.
     pub fn with_media_type(mut self, value: &'a str) -> Self
-        ensures { result ≡ record self.entry { traits = record self.entry.traits { media_type = Some value.now } } }
+        ensures { result
+            ≡ record self.entry { traits = record self.entry.traits { media_type = Some value.now } } }
     {
         self.traits = Traits {
             media_type: Some(value),
@@ -334,7 +359,8 @@ impl<'a> Schema<'a> {
 
     /// The same with the mark of an output that XML writes without an element of its own.
     pub fn with_xml_unwrapped_output(mut self) -> Self
-        ensures { result ≡ record self.entry { traits = record self.entry.traits { xml_unwrapped_output = true } } }
+        ensures { result
+            ≡ record self.entry { traits = record self.entry.traits { xml_unwrapped_output = true } } }
     {
         self.traits.xml_unwrapped_output = true;
         self
@@ -358,7 +384,8 @@ impl<'a> Schema<'a> {
 
     /// The same with the trait `httpQueryParams`.
     pub fn with_http_query_params(mut self) -> Self
-        ensures { result ≡ record self.entry { traits = record self.entry.traits { http_query_params = true } } }
+        ensures { result
+            ≡ record self.entry { traits = record self.entry.traits { http_query_params = true } } }
     {
         self.traits.http_query_params = true;
         self
@@ -366,7 +393,8 @@ impl<'a> Schema<'a> {
 
     /// The same with the trait `httpResponseCode`.
     pub fn with_http_response_code(mut self) -> Self
-        ensures { result ≡ record self.entry { traits = record self.entry.traits { http_response_code = true } } }
+        ensures { result
+            ≡ record self.entry { traits = record self.entry.traits { http_response_code = true } } }
     {
         self.traits.http_response_code = true;
         self

@@ -37,7 +37,9 @@ pub struct SchemaRef<'t> {
 
 impl<'t> TableRef<'t> {
     ghost use Rattle.smithy_schema.specs.Stored.{node_stored};
-    ghost use Rattle.smithy_schema.specs.References.{node_in};
+    ghost use Rattle.std.specs.Prelude.{IfSome};
+    ghost use Rattle.smithy_schema.specs.References.{node_in, schema_at, schema_of};
+    ghost use Rattle.smithy_schema.specs.MemberNames.{IsFirstOfName};
     ghost use Rattle.smithy_schema.specs.Defining.{HasMembersInPlace, IsSound};
     ghost use Rattle.smithy_schema.specs.WellMade.{is_whole};
     ghost use Rattle.smithy_schema.specs.Kept.{HasNames};
@@ -60,7 +62,7 @@ impl<'t> TableRef<'t> {
 
     // The first position of a member with this name.
     fn position_of(self, name: &str) -> Option<usize>
-        ensures { result ≡ position_of_name (record { table = self.entry.table.now; node = node_in self.entry.table.now self.entry.index.0 }) name.now }
+        ensures { result ≡ position_of_name (schema_at self.entry) name.now }
     {
         match &self.stored().details {
             StoredDetails::Outline(_) => None,
@@ -68,9 +70,22 @@ impl<'t> TableRef<'t> {
         }
     }
 
+    // The member whose name follows that of the one at this position in byte order, else the first name's: a hint.
+    fn follower(self, before: Option<usize>) -> Option<SchemaRef<'t>>
+        ensures { IfSome result (λ m. IsFirstOfName (schema_at self.entry) (schema_of m)) }
+    {
+        match &self.stored().details {
+            StoredDetails::Outline(_) => None,
+            StoredDetails::Full(details) => {
+                let place = details.follower(before)?;
+                SchemaRef::at(self.table, place)
+            }
+        }
+    }
+
     fn members(self) -> &'t [SchemaIndex]
         ensures places { places_of result.now ≡ (node_in self.entry.table.now self.entry.index.0).members }
-        ensures in_place { HasMembersInPlace (record { table = self.entry.table.now; node = node_in self.entry.table.now self.entry.index.0 }) }
+        ensures in_place { HasMembersInPlace (schema_at self.entry) }
         ensures sound { IsSound self.entry.table.now }
     {
         match &self.stored().details {
@@ -80,7 +95,7 @@ impl<'t> TableRef<'t> {
     }
 
     fn shape_id(self) -> ShapeId<'t>
-        ensures { Some (parts_of result) ≡ parts_in (node_in self.entry.table.now self.entry.index.0).full_name }
+        ensures { Some (parts_of result) ≡ parts_in (schema_at self.entry).node.full_name }
     {
         match ShapeId::parse(self.stored().head().full_name.as_str()) {
             Some(id) => id,
@@ -95,6 +110,7 @@ impl<'t> SchemaRef<'t> {
     ghost use Rattle.smithy_ids.specs.ShapeIds.{has_hash, parts_in};
     ghost use Rattle.smithy_ids.specs.ShapeIdParts.{parts_of};
     ghost use Rattle.smithy_schema.specs.Nodes.{at_place, position_of_name};
+    ghost use Rattle.smithy_schema.specs.MemberNames.{IsFirstOfName};
     ghost use Rattle.smithy_schema.specs.Places.{place_of, places_of};
     ghost use Rattle.smithy_schema.specs.PreludeNodes.{prelude_node, IsBare};
     ghost use Rattle.smithy_schema.specs.Defining.{HasMembersInPlace, IsSound};
@@ -118,7 +134,8 @@ impl<'t> SchemaRef<'t> {
 
     // The node as the table keeps it, None for the prelude's.
     pub(crate) fn stored(&self) -> Option<&'t StoredNode>
-        ensures node { MatchOption result (IsBare (schema_of self.now).node) (λ n. (schema_of self.now).node ≡ node_stored n.now) }
+        ensures node { MatchOption result (IsBare (schema_of self.now).node)
+            (λ n. (schema_of self.now).node ≡ node_stored n.now) }
         ensures whole { IfSome result (λ n. is_whole (node_stored n.now) ≡ true) }
     {
         match self.spot {
@@ -129,7 +146,10 @@ impl<'t> SchemaRef<'t> {
 
     // What the table keeps of the node in full, None where the node has a time format at most.
     pub(crate) fn details(&self) -> Option<&'t FullDetails>
-        ensures { MatchOption result (details_of (schema_of self.now).node ≡ outlined (schema_of self.now).node.traits.timestamp_format) (λ d. details_of (schema_of self.now).node ≡ details_full d.now) }
+        ensures { MatchOption result
+            (details_of (schema_of self.now).node
+            ≡ outlined (schema_of self.now).node.traits.timestamp_format)
+            (λ d. details_of (schema_of self.now).node ≡ details_full d.now) }
     {
         match &self.stored()?.details {
             StoredDetails::Outline(_) => None,
@@ -161,7 +181,8 @@ impl<'t> SchemaRef<'t> {
     /// The place in its table, None for the prelude's node.
     pub fn index(&self) -> Option<SchemaIndex>
         ensures place { place_of result ≡ index_of self.now }
-        ensures node { IfSome result (λ i. at_place (schema_of self.now).table i.0 ≡ Some (schema_of self.now)) }
+        ensures node { IfSome result
+            (λ i. at_place (schema_of self.now).table i.0 ≡ Some (schema_of self.now)) }
     {
         match self.spot {
             Spot::Table(place) => Some(place.index),
@@ -256,6 +277,16 @@ impl<'t> SchemaRef<'t> {
     {
         match self.spot {
             Spot::Table(place) => place.position_of(name),
+            Spot::Prelude(_) => None,
+        }
+    }
+
+    // The member that a name is looked for at first: the one behind this position in byte order of the names.
+    pub(crate) fn follower(&self, before: Option<usize>) -> Option<SchemaRef<'t>>
+        ensures { IfSome result (λ m. IsFirstOfName (schema_of self.now) (schema_of m)) }
+    {
+        match self.spot {
+            Spot::Table(place) => place.follower(before),
             Spot::Prelude(_) => None,
         }
     }

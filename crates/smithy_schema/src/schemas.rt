@@ -90,7 +90,8 @@ impl Schemas {
     /// declared, and for each member in order `NotMember` where it has no member index, `Order` where its index isn't its
     /// position; then want of memory. After a refusal the table is unchanged.
     pub fn define(&mut self, index: SchemaIndex, schema: Schema<'_>) -> Result<(), SchemaError>
-        ensures fault { MatchOption (define_fault self.old index.0 schema.entry) (IsOkUnless result SchemaError.OutOfMemory) (λ fault. result ≡ Err fault) }
+        ensures fault { MatchOption (define_fault self.old index.0 schema.entry)
+            (IsOkUnless result SchemaError.OutOfMemory) (λ fault. result ≡ Err fault) }
         ensures ok { OnOk result (self.new ≡ slice_set self.old index.0 (Some schema.entry)) }
         ensures err { OnErr result (self.new ≡ self.old) }
     {
@@ -107,7 +108,8 @@ impl Schemas {
     /// linear in the description up to the logarithm of the map from the members' names to their positions. After a refusal
     /// the table is unchanged.
     pub fn insert(&mut self, schema: Schema<'_>) -> Result<SchemaIndex, SchemaError>
-        ensures fault { MatchOption (define_fault (declared_more self.old) (length self.old) schema.entry) (IsOkUnless result SchemaError.OutOfMemory) (λ fault. result ≡ Err fault) }
+        ensures fault { MatchOption (define_fault (declared_more self.old) (length self.old) schema.entry)
+            (IsOkUnless result SchemaError.OutOfMemory) (λ fault. result ≡ Err fault) }
         ensures place { IfOk result (λ i. i.0 ≡ length self.old) }
         ensures ok { OnOk result (self.new ≡ self.old ++ Some schema.entry ∷ []) }
         ensures err { OnErr result (self.new ≡ self.old) }

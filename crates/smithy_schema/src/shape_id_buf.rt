@@ -34,7 +34,12 @@ impl ShapeIdBuf {
         requires no_hash { has_hash namespace.now ≡ false }
         requires no_dollar { has_dollar shape_name.now ≡ false }
         ensures name { IfOk result (λ id. id ≡ joined_name namespace.now shape_name.now None) }
-        ensures parts { IfOk result (λ id. parts_in id ≡ Some (record { full_name = id; namespace = namespace.now; shape_name = shape_name.now; member_name = None })) }
+        ensures parts { IfOk result (λ id. parts_in id ≡ Some (record {
+          full_name = id;
+          namespace = namespace.now;
+          shape_name = shape_name.now;
+          member_name = None;
+        })) }
     {
         let name = joined(alloc, namespace, shape_name, None)?;
         Ok(ShapeIdBuf { name })
@@ -49,8 +54,14 @@ impl ShapeIdBuf {
     ) -> Result<ShapeIdBuf, OutOfMemory>
         requires no_hash { has_hash namespace.now ≡ false }
         requires no_dollar { has_dollar shape_name.now ≡ false }
-        ensures name { IfOk result (λ id. id ≡ joined_name namespace.now shape_name.now (Some member_name.now)) }
-        ensures parts { IfOk result (λ id. parts_in id ≡ Some (record { full_name = id; namespace = namespace.now; shape_name = shape_name.now; member_name = Some member_name.now })) }
+        ensures name { IfOk result
+            (λ id. id ≡ joined_name namespace.now shape_name.now (Some member_name.now)) }
+        ensures parts { IfOk result (λ id. parts_in id ≡ Some (record {
+          full_name = id;
+          namespace = namespace.now;
+          shape_name = shape_name.now;
+          member_name = Some member_name.now;
+        })) }
     {
         let name = joined(alloc, namespace, shape_name, Some(member_name))?;
         Ok(ShapeIdBuf { name })
@@ -89,7 +100,8 @@ fn joined(
     shape_name: &str,
     member_name: Option<&str>,
 ) -> Result<Text, OutOfMemory>
-    ensures { IfOk result (λ name. name ≡ joined_name namespace.now shape_name.now (option_map (λ t. t.now) member_name.entry)) }
+    ensures { IfOk result (λ name.
+        name ≡ joined_name namespace.now shape_name.now (option_map (λ t. t.now) member_name.entry)) }
 {
     let mut name = Text::from_str(alloc, namespace)?;
     name.push_str("#")?;

@@ -1,16 +1,15 @@
 // A node as a table keeps it: with texts of its own.
-ghost use Rattle.std.specs.Prelude.{◌≡◌, true, IfOk, IsTrue, option_map};
+ghost use Rattle.std.specs.Prelude.{◌≡◌, true, IfOk, IfSome, IsTrue, option_map};
 ghost use Rattle.std.specs.Str.{is_utf8};
 ghost use Rattle.smithy_schema.specs.Details.{details_of};
 ghost use Rattle.smithy_schema.specs.Stored.{http_stored, namespace_stored, name_stored, index_stored, node_stored, table_stored, traits_stored, details_full};
-ghost use Rattle.smithy_schema.specs.MemberNames.{HasPositions};
-ghost use Rattle.smithy_schema.specs.Kept.{HasNames};
+ghost use Rattle.smithy_schema.specs.Kept.{HasNames, IsFollower, KeepsNames};
 ghost use Rattle.smithy_schema.specs.Described.{name_in, index_in};
 ghost use Rattle.smithy_schema.specs.DescribedTraits.{traits_described};
 ghost use Rattle.smithy_schema.specs.MarksOf.{marks_of};
 ghost use Rattle.smithy_schema.specs.WellMade.{has_utf8, has_utf8_traits, is_whole};
 
-use crate::member_names::{Positions, first_positions};
+use crate::member_names::{Positions, first_positions, followers};
 use crate::parts::{Marks, Places, SchemaIndex};
 use crate::schema::{Membership, Schema};
 use crate::trait_map::TraitMap;
@@ -63,6 +62,7 @@ pub(crate) struct FullDetails {
     pub(crate) places: Places,
     pub(crate) members: Vec<SchemaIndex>,
     pub(crate) positions: Positions,
+    pub(crate) followers: Vec<usize>,
     pub(crate) traits: StoredTraits,
     pub(crate) no_body_members: bool,
     pub(crate) hint: PayloadHint,
@@ -95,6 +95,17 @@ impl StoredNode {
         ensures { result.now ≡ self.now.head.value }
     {
         &self.head
+    }
+}
+
+impl FullDetails {
+    // The place of the member whose name follows, in byte order, that of the one at a position; else of the first name's.
+    pub(crate) fn follower(&self, before: Option<usize>) -> Option<SchemaIndex>
+        ensures { IfSome result (IsFollower self.now) }
+    {
+        let before = before.unwrap_or(self.members.len());
+        let position = self.followers.get(before)?;
+        self.members.get(*position).copied()
     }
 }
 
@@ -188,7 +199,8 @@ fn copied_traits(
     traits: &Traits<'_>,
     others: Option<TraitMap>,
 ) -> Result<StoredTraits, OutOfMemory>
-    ensures traits { IfOk result (λ t. traits_stored t ≡ record (traits_described traits.now) { others = others }) }
+    ensures traits { IfOk result (λ t.
+        traits_stored t ≡ record (traits_described traits.now) { others = others }) }
     ensures utf8 { IfOk result (λ t. IsTrue (has_utf8_traits (traits_stored t))) }
 {
     Ok(StoredTraits {
@@ -212,7 +224,7 @@ fn copied_details(
     schema: Schema<'_>,
 ) -> Result<FullDetails, OutOfMemory>
     ensures details { IfOk result (λ d. details_full d ≡ details_of schema.entry) }
-    ensures names { IfOk result (λ d. HasPositions (table_stored nodes.now) schema.entry.members d.positions) }
+    ensures names { IfOk result (λ d. KeepsNames (table_stored nodes.now) d) }
     ensures utf8 { IfOk result (λ d. IsTrue (has_utf8_traits (traits_stored d.traits))) }
 {
     let others = schema.others;
@@ -222,6 +234,7 @@ fn copied_details(
         original_name: copied(alloc, schema.original_name)?,
         places: schema.places,
         members: Vec::from_slice(alloc, schema.members)?,
+        followers: followers(alloc, &positions, schema.members)?,
         positions,
         traits,
         no_body_members: schema.no_body_members,

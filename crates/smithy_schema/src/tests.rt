@@ -149,6 +149,11 @@ fn a_structure_has_its_members(rt: HostRuntime) {
     laws::schema_is_well_made(schema);
 }
 
+// The position of the member that is found by its name, behind another one or not.
+fn found_behind(schema: SchemaRef<'_>, before: Option<usize>, name: &str) -> Option<usize> {
+    schema.member_schema_behind(before, name)?.member_index()
+}
+
 #[test]
 fn a_name_stands_for_its_first_member(rt: HostRuntime) {
     let mut table = Schemas::new(rt.alloc());
@@ -173,6 +178,15 @@ fn a_name_stands_for_its_first_member(rt: HostRuntime) {
     assert_eq!(rt; schema.position_of("b"), Some(0));
     assert_eq!(rt; schema.position_of("c"), None);
     assert_eq!(rt; schema.members().get(1), Some(&members[1]));
+    for (before, name, position) in [
+        (None, "a", Some(1)),
+        (Some(1), "b", Some(0)),
+        (None, "b", Some(0)),
+        (Some(7), "a", Some(1)),
+        (Some(0), "c", None),
+    ] {
+        assert_eq!(rt; found_behind(schema, before, name), position);
+    }
 }
 
 #[test]

@@ -21,7 +21,10 @@ use smithy_ids::{
 impl<'t> SchemaRef<'t> {
     // The traits as the table keeps them, None where the node has a time format at most.
     pub(crate) fn traits_kept(&self) -> Option<&'t StoredTraits>
-        ensures { MatchOption result ((schema_of self.now).node.traits ≡ (outlined (schema_of self.now).node.traits.timestamp_format).traits) (λ t. (schema_of self.now).node.traits ≡ traits_stored t.now) }
+        ensures { MatchOption result
+            ((schema_of self.now).node.traits
+            ≡ (outlined (schema_of self.now).node.traits.timestamp_format).traits)
+            (λ t. (schema_of self.now).node.traits ≡ traits_stored t.now) }
     {
         match self.details() {
             Some(details) => Some(&details.traits),

@@ -60,7 +60,8 @@ impl TraitMap {
 
     /// The trait of this name, if it is there. Takes no memory.
     pub fn get(&self, id: ShapeId<'_>) -> Option<&Trait>
-        ensures { option_map (λ t. entry_of t.now) result ≡ entry_named (parts_of id.entry).full_name self.now }
+        ensures { option_map (λ t. entry_of t.now) result
+            ≡ entry_named (parts_of id.entry).full_name self.now }
     {
         self.get_fqn(id.as_str())
     }
