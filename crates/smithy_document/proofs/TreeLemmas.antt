@@ -108,11 +108,10 @@ none_handed d p some h = sym (stepped d p some ∙ ap (λ o. unwrap_or o d) h)
 behind : (d : Document) (p : TreePlace) (part : Part) → 0 < p.next → slice_get (parts_of d) (p.next - 1) ≡ Some part → part_behind d p ≡ part.1
 behind d p part some h = sym (handed d p part.1 some (ap (option_map (λ x. x.1)) h))
 
-pub steps : (root : Document) (ps : List TreePlace) (p q : TreePlace) (part : Part) → q ≡ record p { next = p.next + 1 } → slice_get (parts_of (path_end root ps)) p.next ≡ Some part
+pub steps : (root : Document) (ps : List TreePlace) (p q : TreePlace) (part : Part) → q.form ≡ p.form → q.next ≡ p.next + 1 → slice_get (parts_of (path_end root ps)) p.next ≡ Some part
     → StepsTo part.0 (opened_along root (ps ++ p ∷ [])) (path_end root (ps ++ q ∷ [])) (opened_along root (ps ++ q ∷ []))
-steps root ps p q part is h =
+steps root ps p q part form next h =
     let d = path_end root ps in
-    let next : q.next ≡ p.next + 1 = ap (λ (x : TreePlace). x.next) is in
     let before : q.next - 1 ≡ p.next = omega arith in
     let comes : path_end root (ps ++ q ∷ []) ≡ part.1 = path_last root ps q ∙ behind d q part (omega arith) (ap (slice_get (parts_of d)) before ∙ h) in
     record {
@@ -120,7 +119,7 @@ steps root ps p q part is h =
       below = opened_along root ps;
       more = drop (p.next + 1) (parts_of d);
       was = along_last root ps p;
-      now_is = along_last root ps q ∙ ap (λ x. opened_at d x ∷ opened_along root ps) is;
+      now_is = along_last root ps q ∙ ap (λ f. record { form = f; container = d; rest = drop q.next (parts_of d) } ∷ opened_along root ps) form ∙ ap (λ n. record { form = p.form; container = d; rest = drop n (parts_of d) } ∷ opened_along root ps) next;
       part = drop_first (parts_of d) p.next part h ∙ ap (λ x. (part.0, x) ∷ drop (p.next + 1) (parts_of d)) (sym comes);
       within = subst (λ x. nesting x < nesting d) (sym comes) (part_within d p.next part h);
     }

@@ -1,14 +1,17 @@
 -- What is seen of a reader of JSON.
-use Rattle.std.specs.Prelude.{[], Option, Some, None, true}
+use Rattle.std.specs.Prelude.{ℕ, [], Option, Some, None, Result, Ok, Err}
 use Rattle.smithy_serde.specs.Held as held
 use Rattle.smithy_serde.specs.Listings.{contents_at, told_at}
 use Rattle.smithy_serde.specs.ReadCalls.{AtHand}
+use Rattle.smithy_serde.specs.Refusals.{IsRefusal}
+use Rattle.smithy_serde.specs.declared.error.SerdeError.{SerdeError}
 use Rattle.smithy_document.specs.declared.json_deserializer.JsonDeserializer.{JsonDeserializer}
 use Rattle.smithy_document.specs.declared.json_tree.JsonTree.{JsonTree}
 use Rattle.smithy_document.specs.declared.json_tree_cursor.TreeCursor.{TreeCursor}
 use Rattle.smithy_document.specs.JsonHeld.{not_json}
 use Rattle.smithy_document.specs.JsonTree.{tree_view}
-use Rattle.smithy_document.specs.TreePaths.{tree_seen}
+use Rattle.smithy_document.specs.Sizes.{container_size}
+use Rattle.smithy_document.specs.TreePaths.{document_at, tree_seen}
 
 -- a reader of what is no JSON
 abbrev pub refusing : AtHand
@@ -22,3 +25,21 @@ hand_of (Some t) c = tree_seen (tree_view t) c
 
 abbrev pub json_hand : JsonDeserializer → AtHand
 json_hand r = hand_of r.tree r.cursor
+
+-- how many items the value at hand tells
+abbrev pub json_size : JsonDeserializer → Option ℕ
+json_size r = size_of r.tree
+  where
+    size_of : Option JsonTree → Option ℕ
+    size_of None = None
+    size_of (Some t) = container_size (document_at (tree_view t) r.cursor)
+
+-- the value at hand is passed over, and what is no JSON is refused
+abbrev pub PassesOver : {U : Type 0} → JsonDeserializer → Result U SerdeError → Type 0
+PassesOver {U} r result = Passed r.tree result
+  where
+    Passed : Option JsonTree → Result U SerdeError → Type 0
+    Passed (Some t) (Ok u) = Unit {0}
+    Passed (Some t) (Err e) = ⊥
+    Passed None (Ok u) = ⊥
+    Passed None (Err e) = IsRefusal not_json e

@@ -61,7 +61,7 @@ impl<'a, S: DocumentSettings> DocumentShapeDeserializer<'a, S> {
 }
 
 impl<S: DocumentSettings> ShapeDeserializer for DocumentShapeDeserializer<'_, S> {
-    ghost use Rattle.std.specs.Prelude.{◌≡◌};
+    ghost use Rattle.std.specs.Prelude.{◌≡◌, Ok};
     ghost use Rattle.smithy_document.specs.DocumentHand.{document_hand};
     ghost use Rattle.smithy_document.specs.Sizes.{container_size as container_size_lem, document_at_hand};
 
@@ -107,6 +107,13 @@ impl<S: DocumentSettings> ShapeDeserializer for DocumentShapeDeserializer<'_, S>
 
     fn is_null(&self) -> bool {
         is_null(self.cursor.document(self.root))
+    }
+
+    /// Passes over the value at hand. Takes no memory.
+    fn skip_value(&mut self, _alloc: Global) -> Result<(), SerdeError>
+        ensures { result ≡ Ok tt }
+    {
+        Ok(())
     }
 
     /// How many items an array or an object at hand has, and 10,000 where it has more; none of any other document.

@@ -54,7 +54,7 @@ fn read_node(
 }
 
 impl ShapeDeserializer for JsonDeserializer {
-    ghost use Rattle.smithy_document.specs.JsonHand.{json_hand};
+    ghost use Rattle.smithy_document.specs.JsonHand.{json_hand, json_size, PassesOver};
 
     ghost at_hand = { json_hand };
 
@@ -118,7 +118,21 @@ impl ShapeDeserializer for JsonDeserializer {
         }
     }
 
-    fn container_size(&self) -> Option<usize> {
+    /// Passes over the value at hand; over what is no JSON it is refused as each read is. Takes no memory where it is Ok.
+    fn skip_value(&mut self, alloc: Global) -> Result<(), SerdeError>
+        ensures { PassesOver self.old result }
+    {
+        match &self.tree {
+            Some(_) => Ok(()),
+            None => Err(not_json(alloc)),
+        }
+    }
+
+    /// How many items an array or an object at hand has, and 10,000 where it has more; none of any other value, and none
+    /// over what is no JSON.
+    fn container_size(&self) -> Option<usize>
+        ensures { result ≡ json_size self.now }
+    {
         let tree = self.tree.as_ref()?;
         self.cursor.node(tree).container_size()
     }

@@ -17,11 +17,12 @@ use smithy_serde::{Group, SerdeError};
 use smithy_types::Text;
 use std::alloc::Global;
 
-/// An open container, and how many of its parts were handed out.
+/// An open container, how many of its parts were handed out, and the position of the member that the last one is.
 #[derive(Clone, Copy, Drop)]
 pub(crate) struct TreePlace {
     pub(crate) form: Group,
     pub(crate) next: usize,
+    pub(crate) member: Option<usize>,
 }
 
 /// The open containers around the value at hand, the innermost last, as a path from the root that each call is given.
@@ -55,11 +56,13 @@ fn node_at<'t>(tree: &'t JsonTree, path: &[TreePlace]) -> &'t Node
     node
 }
 
-// The first part, from a place on, whose name is a member's: the place behind it, and the member.
+// The first part, from a place on, whose name is a member's: the place behind it, and the member. It is looked for first
+// behind the member at the position `before` in byte order of the names.
 fn known_part<'s>(
     tree: &JsonTree,
     container: &Node,
     from: usize,
+    before: Option<usize>,
     schema: SchemaRef<'s>,
 ) -> Option<(usize, SchemaRef<'s>)>
     ensures { FindsKnown (node schema.entry) (parts_of (node_view tree.now.texts container.now)) from
@@ -70,7 +73,7 @@ fn known_part<'s>(
     'parts: while place < count {
         let name = tree.part_name(container, place);
         place += 1;
-        if let Some(member) = schema.member_schema(name) {
+        if let Some(member) = schema.member_schema_behind(before, name) {
             return Some((place, member));
         }
     }
@@ -110,6 +113,7 @@ impl TreeCursor {
         self.places.push(TreePlace {
             form: group,
             next: 0,
+            member: None,
         })?;
         Ok(())
     }
@@ -153,6 +157,7 @@ impl TreeCursor {
         self.places.push_reserved(TreePlace {
             form: place.form,
             next: place.next + 1,
+            member: None,
         });
         Some(tree.part_name(container, place.next))
     }
@@ -170,12 +175,14 @@ impl TreeCursor {
             unreachable!()
         };
         let container = node_at(tree, self.places.as_slice());
-        let Some((next, member)) = known_part(tree, container, place.next, schema) else {
+        let Some((next, member)) = known_part(tree, container, place.next, place.member, schema)
+        else {
             return None;
         };
         self.places.push_reserved(TreePlace {
             form: place.form,
             next,
+            member: member.member_index(),
         });
         Some(member)
     }

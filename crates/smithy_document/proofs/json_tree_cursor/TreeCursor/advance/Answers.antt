@@ -1,4 +1,4 @@
-use Rattle.std.proofs.Common.{◌≡◌, ◌<◌, ◌≤◌, ◌+◌, List, ◌∷◌, ◌++◌, [], length, refl, sym, ap, ◌∙◌, subst}
+use Rattle.std.proofs.Common.{◌≡◌, ◌<◌, ◌≤◌, ◌+◌, List, ◌∷◌, ◌++◌, [], None, length, refl, sym, ap, ◌∙◌, subst}
 use Rattle.smithy_document.specs.declared.json_tree_cursor.TreePlace.{TreePlace}
 use Rattle.smithy_document.specs.CursorView.{ClosesAt, StepsTo}
 use Rattle.smithy_document.specs.JsonTree.{node_view, tree_view, part_name}
@@ -21,12 +21,12 @@ returns c =
     let root = tree_view c.args.tree.now in
     let outer : List TreePlace = c.pop.new.self.items in
     let place : TreePlace = c.in-Some.place in
-    let next : TreePlace = record place { next = place.next + 1 } in
+    let next : TreePlace = record { form = place.form; next = place.next + 1; member = None } in
     let container : node_view c.args.tree.now.texts c.node_at-container.result.now ≡ path_end root outer = c.node_at-container.ensures ∙ ap (path_end root) c.as_slice.ensures.value in
     let within : place.next < length (parts_of (path_end root outer)) = subst (λ n. place.next < n) (c.part_count.ensures c.args.tree.now.texts ∙ ap (λ d. length (parts_of d)) container) c.if-place-part_count.false in
     let h = is_there (path_end root outer) place.next within in
     let name : c.part_name.result.now ≡ h.part.0 = c.part_name.ensures ∙ ap (λ d. part_name d place.next) container ∙ h.named in
-    let whole = steps root outer place next h.part refl h.there in
+    let whole = steps root outer place next h.part refl refl h.there in
     subst (λ n. StepsTo n (opened_along root c.args.self.now.places.items) (path_end root c.push_reserved.new.self.items) (opened_along root c.push_reserved.new.self.items)) (sym name)
     (subst (λ ps. StepsTo h.part.0 (opened_along root ps) (path_end root c.push_reserved.new.self.items) (opened_along root c.push_reserved.new.self.items)) (sym c.in-Some.ensures.items)
     (subst (λ ps. StepsTo h.part.0 (opened_along root (outer ++ place ∷ [])) (path_end root ps) (opened_along root ps)) (sym c.push_reserved.ensures.items) whole))

@@ -28,7 +28,7 @@ returns c =
     let m = schema_of c.in-Some-known_part.member in
     let outer : List TreePlace = c.pop.new.self.items in
     let place : TreePlace = c.in-Some.place in
-    let next : TreePlace = record { form = place.form; next = c.in-Some-known_part.next } in
+    let next : TreePlace = record { form = place.form; next = c.in-Some-known_part.next; member = c.member_index.result } in
     let container : node_view c.args.tree.now.texts c.node_at-container.result.now ≡ path_end root outer = c.node_at-container.ensures ∙ ap (path_end root) c.as_slice.ensures.value in
     let found = subst (λ d. FindsKnown node (parts_of d) place.next (Some (next.next, m))) container c.in-Some-known_part.ensures in
     let whole = steps_to_member root outer place next node m refl found in

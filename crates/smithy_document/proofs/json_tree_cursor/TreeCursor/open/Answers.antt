@@ -1,4 +1,4 @@
-use Rattle.std.proofs.Common.{◌≡◌, ◌∷◌, true, false, refl, sym, ap, ◌∙◌, subst}
+use Rattle.std.proofs.Common.{◌≡◌, ◌∷◌, None, true, false, refl, sym, ap, ◌∙◌, subst}
 use Rattle.smithy_serde.specs.DocumentReads.{mismatch}
 use Rattle.smithy_serde.specs.Requests.{word_of_document}
 use Rattle.smithy_serde.specs.Refusals.{IsRefusal}
@@ -25,4 +25,4 @@ returns c = λ schema.
     let ps = c.args.self.now.places.items in
     opened_here true c.args.group schema d (document_at root (record { places = c.push.new.self })) (opened_by root c.args.self.now) (opened_by root (record { places = c.push.new.self }))
     (ap (opens_as c.args.group) (sym c.node-node.ensures) ∙ sym (c.opens_as.ensures c.args.tree.now.texts) ∙ c.if-not-opens_as.false)
-    (ap (opened_along root) c.in_ok-push.ensures.items ∙ along_last root ps (record { form = c.args.group; next = 0 }))
+    (ap (opened_along root) c.in_ok-push.ensures.items ∙ along_last root ps (record { form = c.args.group; next = 0; member = None }))
