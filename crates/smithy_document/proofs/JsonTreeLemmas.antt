@@ -1,5 +1,5 @@
 -- What a tree's nodes are seen as, one more at the end, in texts that grow.
-use Rattle.std.proofs.Common.{◌≡◌, refl, sym, ap, ap₂, ◌∙◌, subst, ℕ, zero, suc, ◌+◌, ◌<◌, ◌≤◌, max, arith, rules, List, [], ◌∷◌, ◌++◌, map, take, drop, take_all, length, get_or, append_assoc, append-nil, Bool, false, is_some, Option, Some, None, option_map, option_and_then, Bor, Vec, Global, Ordering, Less, Equal, Greater, nat_cmp}
+use Rattle.std.proofs.Common.{◌≡◌, refl, sym, ap, ap₂, ◌∙◌, subst, ℕ, zero, suc, ◌+◌, ◌<◌, ◌≤◌, arith, rules, List, [], ◌∷◌, ◌++◌, map, take, drop, take_all, length, get_or, append_assoc, append-nil, Bool, false, is_some, Option, Some, None, option_map, option_and_then, Bor, Vec, Global, Ordering, Less, Equal, Greater, nat_cmp}
 use Rattle.std.specs.Ordering.{match_ordering, ordering_reverse}
 use Rattle.std.specs.Cmp.Lexicographic.{slice_cmp}
 use Rattle.std.specs.BTreeMap.{insert_entry}
@@ -26,17 +26,19 @@ use Rattle.serde_json.specs.Data as parsed
 use Rattle.serde_json.specs.Data.{Num}
 use Rattle.serde_json.specs.Read.{number_of, of_items, of_members}
 use Rattle.smithy_types.specs.Documents as doc
-use Rattle.smithy_types.specs.Documents.{Document, items_snoc, items_of}
+use Rattle.smithy_types.specs.Documents.{Document, items_snoc}
 use Rattle.smithy_types.specs.Maps.{with_value, IsOrdered}
 use Rattle.smithy_types.specs.DocumentView.{number_view}
 use Rattle.smithy_types.specs.declared.number.Number.{Number}
 use Rattle.smithy_document.specs.FromData.{number_of_data, of_data, items_of_data, pairs_of_data}
 use Rattle.smithy_document.specs.FromJson.{document_of_json, items_of_json, members_of_json, IsFound}
 use Rattle.smithy_document.specs.JsonHeld.{document_of_text}
-use Rattle.smithy_document.specs.JsonTree.{text_at, node_view, nodes_view, fields_view, members_in_turn, Grows, StaysIn}
+use Rattle.smithy_document.specs.JsonTree.{text_at, node_view, nodes_view, fields_view, Grows, StaysIn}
 use Rattle.smithy_document.specs.declared.json_tree.Node.{Node, Null, Bool as TheBool, Number as TheNumber, Text as TheText, Array, Object, the_lemmas}
 use Rattle.smithy_document.proofs.JsonFound.{Member, pairs_of_json, pair_found, members_found}
+use Rattle.smithy_document.proofs.NodeLemmas.{view-Text as node_text, view-Array as node_array, view-Object as node_object}
 use Rattle.smithy_document.proofs.OrderedPairs.{Pairs, Behind, Ascends, same_name}
+use Rattle.smithy_document.proofs.TreeDocuments.{grows_on, stays, text_pushed, one_stays, field_view, fields_from}
 use Rattle.smithy_document.proofs.ValueLemmas.{members_from}
 
 abbrev pub Texts : Type 0
@@ -44,22 +46,9 @@ Texts = List (List ℕ)
 
 -- ---- texts that grow
 
-pub grows_none : (old : Texts) → Grows old old
-grows_none old = ([], sym (append-nil old))
-
-pub grows_on : (old next last : Texts) → Grows old next → Grows next last → Grows old last
-grows_on old next last g h = (g.0 ++ h.0, h.1 ∙ ap (λ ts. ts ++ h.0) g.1 ∙ append_assoc old g.0 h.0)
-
-pub stays_on : {X : Type 0} (f : Texts → X) (old new : Texts) (x : X) → Grows old new → StaysIn f old x → StaysIn f new x
-stays_on f old new x g stays more = ap (λ ts. f (ts ++ more)) g.1 ∙ ap f (append_assoc old g.0 more) ∙ stays (g.0 ++ more)
-
 -- a text that was added stays at its place
-text_pushed : (old : Texts) (name : List ℕ) (more : Texts) → text_at ((old ++ name ∷ []) ++ more) (length old) ≡ name
-text_pushed [] name more = refl
-text_pushed (t ∷ old) name more = text_pushed old name more
-
 pub text_stays : (old new : Texts) (name : List ℕ) (place : ℕ) → new ≡ old ++ name ∷ [] → place ≡ length old → StaysIn (λ ts. text_at ts place) new name
-text_stays old new name place is at more = ap₂ (λ ts p. text_at (ts ++ more) p) is at ∙ text_pushed old name more
+text_stays old new name place is at more = ap₂ (λ ts p. text_at (ts ++ more) p) is at ∙ text_pushed old more name
 
 -- ---- nodes
 
@@ -71,15 +60,6 @@ node_bool ts b = search (rules, the_lemmas)
 
 node_number : (ts : Texts) (n : Number) → node_view ts (TheNumber n) ≡ doc.number (number_view n)
 node_number ts n = search (rules, the_lemmas)
-
-node_text : (ts : Texts) (place : ℕ) → node_view ts (TheText place) ≡ doc.string (text_at ts place)
-node_text ts place = search (rules, the_lemmas)
-
-node_array : (ts : Texts) (v : Vec Node Global) → node_view ts (Array v) ≡ doc.array (nodes_view ts v.items)
-node_array ts v = search (rules, the_lemmas)
-
-node_object : (ts : Texts) (v : Vec (ℕ × Node) Global) → node_view ts (Object v) ≡ doc.object (fields_view ts v.items)
-node_object ts v = search (rules, the_lemmas)
 
 value_null : value_view {A = Global} json.Null ≡ spec.null
 value_null = search (rules, json.the_lemmas)
@@ -147,24 +127,10 @@ pub nodes_snoc : (ts : Texts) (ns : List Node) (n : Node) → nodes_view ts (ns 
 nodes_snoc ts [] n = refl
 nodes_snoc ts (m ∷ ns) n = ap (doc.item (node_view ts m)) (nodes_snoc ts ns n)
 
--- a field, seen
-abbrev pub field_pair : Texts → ℕ × Node → List ℕ × Document
-field_pair ts f = (text_at ts f.0, node_view ts f.1)
-
-pub fields_in_pairs : (ts : Texts) (fs : List (ℕ × Node)) → fields_view ts fs ≡ members_from (map (field_pair ts) fs)
-fields_in_pairs ts [] = refl
-fields_in_pairs ts (f ∷ fs) = ap (doc.member (text_at ts f.0) (node_view ts f.1)) (fields_in_pairs ts fs)
-
--- a name and a node that were read one after the other
-pub field_stays : (t0 t1 t2 : Texts) (name : List ℕ) (place : ℕ) (node : Node) (d : Document) → t1 ≡ t0 ++ name ∷ [] → place ≡ length t0 → Grows t1 t2 → StaysIn (λ ts. node_view ts node) t2 d
-    → StaysIn (λ ts. field_pair ts (place, node)) t2 (name, d)
-field_stays t0 t1 t2 name place node d is at grows stays more = ap₂ (λ (n : List ℕ) (x : Document). (n, x)) (stays_on (λ ts. text_at ts place) t1 t2 name grows (text_stays t0 t1 name place is at) more) (stays more)
-
-pub field_last : (t0 t2 : Texts) (fs all : List (ℕ × Node)) (f : ℕ × Node) (ps : Pairs Document) (p : List ℕ × Document) → all ≡ fs ++ f ∷ [] → Grows t0 t2 → StaysIn (λ ts. map (field_pair ts) fs) t0 ps
-    → StaysIn (λ ts. field_pair ts f) t2 p → StaysIn (λ ts. map (field_pair ts) all) t2 (ps ++ p ∷ [])
+pub field_last : (t0 t2 : Texts) (fs all : List (ℕ × Node)) (f : ℕ × Node) (ps : Pairs Document) (p : List ℕ × Document) → all ≡ fs ++ f ∷ [] → Grows t0 t2 → StaysIn (λ ts. map (field_view ts) fs) t0 ps
+    → StaysIn (λ ts. field_view ts f) t2 p → StaysIn (λ ts. map (field_view ts) all) t2 (ps ++ p ∷ [])
 field_last t0 t2 fs all f ps p is grows before last more =
-    ap (map (field_pair (t2 ++ more))) is ∙ map-append (field_pair (t2 ++ more)) fs (f ∷ [])
-    ∙ ap₂ (λ qs q. qs ++ q ∷ []) (stays_on (λ ts. map (field_pair ts) fs) t0 t2 ps grows before more) (last more)
+    ap (map (field_view (t2 ++ more))) is ∙ one_stays field_view t0 t2 fs f ps p before grows last more
 
 pub grows_by : (t0 t1 t2 : Texts) (name : List ℕ) → t1 ≡ t0 ++ name ∷ [] → Grows t1 t2 → Grows t0 t2
 grows_by t0 t1 t2 name is grows = grows_on t0 t1 t2 (name ∷ [], is) grows
@@ -177,7 +143,7 @@ name_cmp a b = slice_cmp nat_cmp a.now b.now
 
 -- an entry, seen: its name, and its field
 abbrev pub entry_pair : Texts → Bor (List ℕ) × (ℕ × Node) → List ℕ × (List ℕ × Document)
-entry_pair ts e = (e.0.now, field_pair ts e.1)
+entry_pair ts e = (e.0.now, field_view ts e.1)
 
 -- each pair under its name
 abbrev pub doubled : Pairs Document → Pairs (List ℕ × Document)
@@ -197,9 +163,9 @@ pub doubled_back : (ps : Pairs Document) → map (λ q. q.1) (doubled ps) ≡ ps
 doubled_back [] = refl
 doubled_back (p ∷ ps) = ap (λ qs. p ∷ qs) (doubled_back ps)
 
-pub fields_of_entries : (ts : Texts) (es : List (Bor (List ℕ) × (ℕ × Node))) → map (field_pair ts) (map (λ e. e.1) es) ≡ map (λ q. q.1) (map (entry_pair ts) es)
+pub fields_of_entries : (ts : Texts) (es : List (Bor (List ℕ) × (ℕ × Node))) → map (field_view ts) (map (λ e. e.1) es) ≡ map (λ q. q.1) (map (entry_pair ts) es)
 fields_of_entries ts [] = refl
-fields_of_entries ts (e ∷ es) = ap (λ qs. field_pair ts e.1 ∷ qs) (fields_of_entries ts es)
+fields_of_entries ts (e ∷ es) = ap (λ qs. field_view ts e.1 ∷ qs) (fields_of_entries ts es)
 
 module _ (ts : Texts) where
   abbrev Fields : Type 0
@@ -210,19 +176,19 @@ module _ (ts : Texts) where
   seen_at Equal a b c = refl
   seen_at Greater a b c = refl
 
-  entries_seen : (es : Fields) (k : Bor (List ℕ)) (f : ℕ × Node) → map (entry_pair ts) (insert_entry name_cmp es k f) ≡ with_value k.now (field_pair ts f) (map (entry_pair ts) es)
+  entries_seen : (es : Fields) (k : Bor (List ℕ)) (f : ℕ × Node) → map (entry_pair ts) (insert_entry name_cmp es k f) ≡ with_value k.now (field_view ts f) (map (entry_pair ts) es)
   entries_seen [] k f = refl
   entries_seen (e ∷ es) k f = seen_at (name_cmp k e.0) _ _ _ ∙ rw (entries_seen es k f)
 
 pub entry_put : (t0 t2 : Texts) (es all : List (Bor (List ℕ) × (ℕ × Node))) (k : Bor (List ℕ)) (f : ℕ × Node) (ps : Pairs Document) (d : Document) → all ≡ insert_entry name_cmp es k f → Grows t0 t2
-    → StaysIn (λ ts. map (entry_pair ts) es) t0 (doubled ps) → StaysIn (λ ts. field_pair ts f) t2 (k.now, d) → StaysIn (λ ts. map (entry_pair ts) all) t2 (doubled (with_value k.now d ps))
+    → StaysIn (λ ts. map (entry_pair ts) es) t0 (doubled ps) → StaysIn (λ ts. field_view ts f) t2 (k.now, d) → StaysIn (λ ts. map (entry_pair ts) all) t2 (doubled (with_value k.now d ps))
 entry_put t0 t2 es all k f ps d is grows before last more =
     ap (map (entry_pair (t2 ++ more))) is ∙ entries_seen (t2 ++ more) es k f
-    ∙ ap₂ (with_value k.now) (last more) (stays_on (λ ts. map (entry_pair ts) es) t0 t2 (doubled ps) grows before more) ∙ sym (doubled_with k.now d ps)
+    ∙ ap₂ (with_value k.now) (last more) (stays (λ ts. map (entry_pair ts) es) t0 t2 (doubled ps) before grows more) ∙ sym (doubled_with k.now d ps)
 
 pub entries_listed : (ts : Texts) (es : List (Bor (List ℕ) × (ℕ × Node))) (fs : List (ℕ × Node)) (ps : Pairs Document) → fs ≡ map (λ e. e.1) es → map (entry_pair ts) es ≡ doubled ps → fields_view ts fs ≡ members_from ps
 entries_listed ts es fs ps is seen =
-    fields_in_pairs ts fs ∙ ap members_from (ap (map (field_pair ts)) is ∙ fields_of_entries ts es ∙ ap (map (λ q. q.1)) seen ∙ doubled_back ps)
+    fields_from ts fs ∙ ap members_from (ap (map (field_view ts)) is ∙ fields_of_entries ts es ∙ ap (map (λ q. q.1)) seen ∙ doubled_back ps)
 
 -- ---- names
 

@@ -1,13 +1,14 @@
-use Rattle.std.proofs.Common.{◌≡◌, ◌<◌, ◌≤◌, ◌*◌, ℕ, ◌++◌, ◌∷◌, [], Some, map, take, sym, ap, ap₂, ◌∙◌, arith}
+use Rattle.std.proofs.Common.{◌<◌, ◌*◌, ◌++◌, ◌∷◌, [], Some, take, ap, ap₂, ◌∙◌, arith}
 use Rattle.std.proofs.lemmas.Result.{IfOk-weaker}
 use Rattle.json.specs.Tree.{depth}
-use Rattle.json.specs.Value.{value_view, items_view, members_view}
+use Rattle.json.specs.Value.{value_view, items_view}
 use Rattle.smithy_types.specs.Documents.{items_snoc}
 use Rattle.smithy_types.specs.Maps.{with_value}
-use Rattle.smithy_document.specs.FromJson.{document_of_json, items_of_json}
-use Rattle.smithy_document.specs.JsonTree.{node_view, nodes_view}
+use Rattle.smithy_document.specs.FromJson.{items_of_json}
+use Rattle.smithy_document.specs.JsonTree.{nodes_view}
 use Rattle.smithy_document.proofs.JsonFound.{item_found}
-use Rattle.smithy_document.proofs.JsonTreeLemmas.{member_depth, item_depth, field_stays, field_last, grows_by, grows_on, stays_on, member_read, goes_last, names_stand, all_up, all_read, fields_in_pairs, null_found, bool_found, number_found, text_found, array_found, object_found, take_next, nodes_snoc, entry_put, entries_listed}
+use Rattle.smithy_document.proofs.JsonTreeLemmas.{member_depth, item_depth, field_last, grows_by, member_read, goes_last, names_stand, all_up, all_read, null_found, bool_found, number_found, text_found, array_found, object_found, take_next, nodes_snoc, entry_put, entries_listed}
+use Rattle.smithy_document.proofs.TreeDocuments.{grows_on, stays, field_stays, fields_from}
 use Rattle.smithy_document.proofs.OrderedPairs.{all_ascend}
 use Rattle.smithy_document.proofs.ValueLemmas.{members_from}
 use Rattle.smithy_document.proofs.json_tree_reading.+node.Goals as goal
@@ -47,7 +48,7 @@ fields_in_turn-returns-clause-are t c =
     let past = rw c.deref-member-items.ensures.value at c.members-test.false in (
       members_from ps,
       all_read ms c.members.member-index ps past l.2 (all_up ms c.members.member-index ps past c.requires l.3),
-      λ more. fields_in_pairs (c.members.texts ++ more) c.members.found.items ∙ ap members_from (l.4 more),
+      λ more. fields_from (c.members.texts ++ more) c.members.found.items ∙ ap members_from (l.4 more),
     )
 
 pub node_of-returns-in-Null-clause-is : goal.node_of-returns-in-Null-clause-is
@@ -93,7 +94,7 @@ nodes_of-items-preserved t c =
         items_snoc l.1.0 found.0,
         ap (λ vs. items_of_json (items_view vs)) next ∙ item_found (take i xs) x l.1.0 found.0 l.1.1 found.1,
         λ more. ap (nodes_view (t2 ++ more)) c.in_ok-push.ensures.items ∙ nodes_snoc (t2 ++ more) ns n
-            ∙ ap₂ items_snoc (stays_on (λ ts. nodes_view ts ns) c.items.texts t2 l.1.0 c.in_ok-node_of.ensures.grows l.1.2 more) (found.2 more),
+            ∙ ap₂ items_snoc (stays (λ ts. nodes_view ts ns) c.items.texts t2 l.1.0 l.1.2 c.in_ok-node_of.ensures.grows more) (found.2 more),
       ),
     )
 

@@ -1,12 +1,13 @@
-use Rattle.std.proofs.Common.{◌≡◌, ◌*◌, ◌+◌, ℕ, List, Some, map, take}
+use Rattle.std.proofs.Common.{◌≡◌, ◌*◌, ◌+◌, Some, map, take}
 use Rattle.json.specs.Tree.{depth, items_depth, members_depth}
 use Rattle.json.specs.Value.{value_view, items_view, members_view}
 use Rattle.smithy_types.specs.Documents.{Document}
 use Rattle.smithy_document.specs.FromJson.{items_of_json, IsFound}
-use Rattle.smithy_document.specs.JsonTree.{nodes_view, node_view, text_at, Grows, StaysIn}
-use Rattle.smithy_document.proofs.JsonFound.{Member, pairs_of_json}
-use Rattle.smithy_document.proofs.JsonTreeLemmas.{field_pair, entry_pair, doubled, NamesStand}
+use Rattle.smithy_document.specs.JsonTree.{nodes_view, Grows, StaysIn}
+use Rattle.smithy_document.proofs.JsonFound.{pairs_of_json}
+use Rattle.smithy_document.proofs.JsonTreeLemmas.{entry_pair, doubled, NamesStand}
 use Rattle.smithy_document.proofs.OrderedPairs.{Pairs, Ascends}
+use Rattle.smithy_document.proofs.TreeDocuments.{field_view}
 use Rattle.smithy_document.proofs.json_tree_reading.+node.Given as goal
 
 -- arrays and objects count twice, so that a list counts between itself and its items
@@ -32,7 +33,7 @@ invariant-fields_in_turn-members l =
     Grows l.fn.texts l.texts
     × (ps : Pairs Document) × (pairs_of_json (members_view (take l.member-index l.members.items)) ≡ Some ps)
     × NamesStand l.members.items l.member-index ps
-    × StaysIn (λ ts. map (field_pair ts) l.found.items) l.texts ps
+    × StaysIn (λ ts. map (field_view ts) l.found.items) l.texts ps
 
 -- the members in order, as pairs
 abbrev pub invariant-fields_in_order-members : goal.invariant-fields_in_order-members

@@ -1,5 +1,4 @@
-use Rattle.std.proofs.Common.{◌≡◌, [], Some, sym, ap, ◌∙◌, subst, append-nil}
-use Rattle.std.specs.Str.{IsUtf8}
+use Rattle.std.proofs.Common.{◌≡◌, [], Some, sym, ap, ◌∙◌, append-nil}
 use Rattle.json.specs.Json.{value}
 use Rattle.json.specs.Lex.{tokens}
 use Rattle.json.specs.Value.{value_view}
