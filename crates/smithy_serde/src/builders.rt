@@ -67,9 +67,15 @@ impl StructBuilder<'_> {
 }
 
 impl<'t> ValueReader<'t> {
-    /// Reads by the node at a place. Condition: it is defined.
+    ghost use Rattle.std.specs.Prelude.{◌≡◌};
+    ghost use Rattle.smithy_schema.specs.Nodes.{at_place};
+    ghost use Rattle.smithy_serde.specs.ValueReading.{reader_table, reader_node};
+
+    /// Reads by the node at a place. Condition: it is defined. Takes no memory.
     pub fn new(table: &'t Schemas, schema: SchemaIndex) -> ValueReader<'t>
         requires { HasNode table.now schema.0 }
+        ensures table { reader_table result ≡ table.now }
+        ensures node { reader_node result ≡ at_place table.now schema.0 }
     {
         ValueReader { table, schema }
     }
