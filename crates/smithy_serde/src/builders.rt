@@ -56,7 +56,8 @@ impl StructBuilder<'_> {
     // The place of a member of the builder's table; none where it is another's.
     pub(crate) fn own_member(&self, member: SchemaRef<'_>) -> Option<SchemaIndex>
         ensures defined { IfSome result (λ i. HasNode self.now.table.now i.0) }
-        ensures place { IfSome result (λ i. at_place (schema_of member.entry).table i.0 ≡ Some (schema_of member.entry)) }
+        ensures place { IfSome result (λ i. at_place (schema_of member.entry).table i.0
+            ≡ Some (schema_of member.entry)) }
         ensures another { IfNone result (IsPlaced self.now.table.now (schema_of member.entry) → ⊥) }
     {
         let place = member.index()?;
