@@ -30,7 +30,7 @@ use Rattle.smithy_serde.specs.declared.builders.MapBuilder.{MapBuilder}
 use Rattle.smithy_serde.specs.declared.builders.StructBuilder.{StructBuilder}
 use Rattle.smithy_serde.specs.declared.builders.ValueReader.{ValueReader}
 use Rattle.smithy_serde.specs.declared.read_plan.Plan.TheVariants as plan
-use Rattle.smithy_serde.specs.ValueBuilding.{add_write, add_entry, BuildsList, BuildsMap, BuildsStructure, TakesElement, TakesEntry, TakesMember, IsPlan, ReadsValue}
+use Rattle.smithy_serde.specs.ValueBuilding.{add_write, add_entry, BuildsList, BuildsMap, BuildsStructure, TakesElement, TakesEntry, TakesMember, IsPlan, ReadsSo, ReadsStructure, ReadsValue, list_nodes, map_nodes}
 use Rattle.smithy_serde.specs.Collecting.{Built, all_added}
 use Rattle.smithy_serde.specs.Handing.{IsAbove, HandsOut, AllHanded, settled_in, at_elements, at_entries, at_members}
 use Rattle.smithy_serde.specs.Held as held
@@ -39,7 +39,7 @@ use Rattle.smithy_serde.specs.HeldReads.{elements, entries, fields, known}
 use Rattle.smithy_serde.specs.Listings.{Slot, at_member, at_element, at_key, Listing, contents}
 use Rattle.smithy_serde.specs.ReadCalls.{AtHand, Reads, Gives, read_at, scalar_of_read}
 use Rattle.smithy_serde.specs.ReadsBy.{ReadsBy}
-use Rattle.smithy_serde.specs.ValueRead.{all_read, write_by, entry_by, IsPlaced, joined, value_by_kind, value_read, list_by, map_by, value_of_structure}
+use Rattle.smithy_serde.specs.ValueRead.{all_read, write_by, entry_by, IsPlaced, joined, value_by_kind, value_read, list_by, map_by, value_of_list, value_of_map, value_of_structure}
 use Rattle.smithy_serde.specs.ValueReading.{structure_of, gives_structure}
 use Rattle.smithy_serde.proofs.ReadCollect.{handed_built, handed_built_of}
 use Rattle.smithy_serde.proofs.ReadLevels.{value_once, Each}
@@ -122,15 +122,15 @@ given_err f add total (Ok bs) new e (inr m) = cc
 given_err f add total (Err x) new e (inl same) = inl cc
 given_err f add total (Err x) new e (inr m) = inr cc
 
-pub read_ok : {A B : Type 0} (f : A → Value) (add : Writes → B → Writes) (total : List B → Value) (n : Schema) (held : Option Held) (new : Writes) (v : A)
-    → IfSome held (λ h. IsRead add total (value_read n h) new (Ok tt)) → ((bs : List B) → new ≡ all_added add no_writes bs → f v ≡ total bs) → Gives f (option_map (value_read n) held) (Ok v)
-read_ok f add total n None new v r is = tt
-read_ok f add total n (Some h) new v r is = rw r.is (given_ok f add total r.all new v r.built is)
+pub read_ok : {A B : Type 0} (f : A → Value) (add : Writes → B → Writes) (total : List B → Value) (read : Held → Result Value SerdeError) (held : Option Held) (new : Writes) (v : A)
+    → IfSome held (λ h. IsRead add total (read h) new (Ok tt)) → ((bs : List B) → new ≡ all_added add no_writes bs → f v ≡ total bs) → Gives f (option_map read held) (Ok v)
+read_ok f add total read None new v r is = tt
+read_ok f add total read (Some h) new v r is = rw r.is (given_ok f add total r.all new v r.built is)
 
-pub read_err : {A B : Type 0} (f : A → Value) (add : Writes → B → Writes) (total : List B → Value) (n : Schema) (held : Option Held) (new : Writes) (e : SerdeError)
-    → IfSome held (λ h. IsRead add total (value_read n h) new (Err e)) → Gives f (option_map (value_read n) held) (Err e)
-read_err f add total n None new e r = tt
-read_err f add total n (Some h) new e r = rw r.is (given_err f add total r.all new e r.built)
+pub read_err : {A B : Type 0} (f : A → Value) (add : Writes → B → Writes) (total : List B → Value) (read : Held → Result Value SerdeError) (held : Option Held) (new : Writes) (e : SerdeError)
+    → IfSome held (λ h. IsRead add total (read h) new (Err e)) → Gives f (option_map read held) (Err e)
+read_err f add total read None new e r = tt
+read_err f add total read (Some h) new e r = rw r.is (given_err f add total r.all new e r.built)
 
 -- what was handed out, where the value at hand is told
 handed_of : {S : Type 0} (takes : S → Slot → Held → S → Answer → Type 0) (g : _) (n : Schema) (h : Held) (listing : Option Listing) (s t : S) (answer : Answer) → listing ≡ Some (contents g n h)
@@ -147,30 +147,30 @@ map_total es = value.map (writes_of (joined es))
 abbrev pub structure_total : List Write → Value
 structure_total ws = value.structure (writes_of (in_order ws))
 
-pub list_read : (held : Option Held) (n : Schema) (k : ShapeType) (null reads : Bool) (e : SchemaIndex) (s t : ListBuilder) (old new : AtHand) (answer : Answer) → old.held ≡ held → AtNode n held k null reads → reads ≡ false
-    → IsPlan k n (plan.List e) → s.table.now ≡ n.table → s.element.0 ≡ e.0 → writes_in s.table.now s.writes ≡ no_writes → BuildsList n s t old new answer
-    → IfSome held (λ h. IsRead add_write list_total (value_read n h) (writes_in t.table.now t.writes) answer)
-list_read None n k null reads e s t old new answer is a other p table place none all = tt
-list_read (Some h) n k null reads e s t old new answer is a other p table place none all = record {
-  all = then_try (elements n h) (all_read (λ x. then_give (value_read p.0 x) (write_by p.0)));
-  is = planned n h k null reads a other ∙ p.2 h;
-  built = subst (λ ws. Built add_write (then_try (elements n h) (all_read (λ x. then_give (value_read p.0 x) (write_by p.0)))) ws (writes_in t.table.now t.writes) answer) none
-      (handed_built (at_elements TakesElement) (λ (b : ListBuilder). (b.table.now ≡ n.table) × (b.element.0 ≡ e.0)) (λ (b : ListBuilder). writes_in b.table.now b.writes) add_write (λ x. (at_element, x)) (λ x. then_give (value_read p.0 x) (write_by p.0))
-      (λ b x c y same took. ((ap (λ p. p.0) took.same ∙ same.0, ap (λ p. p.1) took.same ∙ same.1), took.adds p.0 (rw (same.0, same.1) p.1)))
-      group.List (elements n h) s t answer (table, place) (handed_of (at_elements TakesElement) group.List n h (old.listing group.List n) s t answer (old.told group.List n h is) all.handed));
+list_read : (held : Option Held) (n m : Schema) (place : ℕ) (s t : ListBuilder) (old new : AtHand) (answer : Answer) → old.held ≡ held → at_place s.table.now place ≡ Some m
+    → s.element.0 ≡ place → writes_in s.table.now s.writes ≡ no_writes → BuildsList n s t old new answer
+    → IfSome held (λ h. IsRead add_write list_total (value_of_list value_read n m h) (writes_in t.table.now t.writes) answer)
+list_read None n m place s t old new answer is there at none all = tt
+list_read (Some h) n m place s t old new answer is there at none all = record {
+  all = then_try (elements n h) (all_read (λ x. then_give (value_read m x) (write_by m)));
+  is = refl;
+  built = subst (λ ws. Built add_write (then_try (elements n h) (all_read (λ x. then_give (value_read m x) (write_by m)))) ws (writes_in t.table.now t.writes) answer) none
+      (handed_built (at_elements TakesElement) (λ (b : ListBuilder). list_nodes b ≡ (s.table.now, place)) (λ (b : ListBuilder). writes_in b.table.now b.writes) add_write (λ x. (at_element, x)) (λ x. then_give (value_read m x) (write_by m))
+      (λ b x c y same took. (took.same ∙ same, took.adds m (subst (λ (q : Table × ℕ). at_place q.0 q.1 ≡ Some m) (sym same) there)))
+      group.List (elements n h) s t answer (ap (λ i. (s.table.now, i)) at) (handed_of (at_elements TakesElement) group.List n h (old.listing group.List n) s t answer (old.told group.List n h is) all.handed));
 }
 
-pub map_read : (held : Option Held) (n : Schema) (k : ShapeType) (null reads : Bool) (key e : SchemaIndex) (s t : MapBuilder) (old new : AtHand) (answer : Answer) → old.held ≡ held → AtNode n held k null reads → reads ≡ false
-    → IsPlan k n (plan.Map key e) → s.table.now ≡ n.table → s.key.0 ≡ key.0 → s.value.0 ≡ e.0 → writes_in s.table.now s.writes ≡ no_writes → BuildsMap n s t old new answer
-    → IfSome held (λ h. IsRead add_entry map_total (value_read n h) (writes_in t.table.now t.writes) answer)
-map_read None n k null reads key e s t old new answer is a other p table place place_2 none all = tt
-map_read (Some h) n k null reads key e s t old new answer is a other p table place place_2 none all = record {
-  all = then_try (entries n h) (all_read (λ x. then_give (value_read p.1 x.1) (entry_by p.0 p.1 x.0)));
-  is = planned n h k null reads a other ∙ p.4 h;
-  built = subst (λ ws. Built add_entry (then_try (entries n h) (all_read (λ x. then_give (value_read p.1 x.1) (entry_by p.0 p.1 x.0)))) ws (writes_in t.table.now t.writes) answer) none
-      (handed_built (at_entries TakesEntry) (λ (b : MapBuilder). (b.table.now ≡ n.table) × (b.key.0 ≡ key.0) × (b.value.0 ≡ e.0)) (λ (b : MapBuilder). writes_in b.table.now b.writes) add_entry (λ (x : List ℕ × Held). (at_key x.0, x.1)) (λ x. then_give (value_read p.1 x.1) (entry_by p.0 p.1 x.0))
-      (λ b x c y same took. ((ap (λ p. p.0) took.same ∙ same.0, ap (λ p. p.1) took.same ∙ same.1, ap (λ p. p.2) took.same ∙ same.2), took.adds p.0 p.1 (rw (same.0, same.1) p.2) (rw (same.0, same.2) p.3)))
-      group.Map (entries n h) s t answer (table, place, place_2) (handed_of (at_entries TakesEntry) group.Map n h (old.listing group.Map n) s t answer (old.told group.Map n h is) all.handed));
+map_read : (held : Option Held) (n k m : Schema) (key place : ℕ) (s t : MapBuilder) (old new : AtHand) (answer : Answer) → old.held ≡ held → at_place s.table.now key ≡ Some k → at_place s.table.now place ≡ Some m
+    → s.key.0 ≡ key → s.value.0 ≡ place → writes_in s.table.now s.writes ≡ no_writes → BuildsMap n s t old new answer
+    → IfSome held (λ h. IsRead add_entry map_total (value_of_map value_read n k m h) (writes_in t.table.now t.writes) answer)
+map_read None n k m key place s t old new answer is there there_2 at at_2 none all = tt
+map_read (Some h) n k m key place s t old new answer is there there_2 at at_2 none all = record {
+  all = then_try (entries n h) (all_read (λ x. then_give (value_read m x.1) (entry_by k m x.0)));
+  is = refl;
+  built = subst (λ ws. Built add_entry (then_try (entries n h) (all_read (λ x. then_give (value_read m x.1) (entry_by k m x.0)))) ws (writes_in t.table.now t.writes) answer) none
+      (handed_built (at_entries TakesEntry) (λ (b : MapBuilder). map_nodes b ≡ (s.table.now, key, place)) (λ (b : MapBuilder). writes_in b.table.now b.writes) add_entry (λ (x : List ℕ × Held). (at_key x.0, x.1)) (λ x. then_give (value_read m x.1) (entry_by k m x.0))
+      (λ b x c y same took. (took.same ∙ same, took.adds k m (subst (λ (q : Table × ℕ × ℕ). at_place q.0 q.1 ≡ Some k) (sym same) there) (subst (λ (q : Table × ℕ × ℕ). at_place q.0 q.2 ≡ Some m) (sym same) there_2)))
+      group.Map (entries n h) s t answer (ap (λ i. (s.table.now, i, s.value.0)) at ∙ ap (λ i. (s.table.now, key, i)) at_2) (handed_of (at_entries TakesEntry) group.Map n h (old.listing group.Map n) s t answer (old.told group.Map n h is) all.handed));
 }
 
 -- the shape of a node stands in its table
@@ -231,13 +231,12 @@ members_built n h s t answer table handed =
     (λ b x c y placed same took. (took.same ∙ same, took.adds (subst (λ u. IsPlaced u x.0) (sym same) placed)))
     group.Structure (fields n h) s t answer (fields_placed n h) table handed
 
-pub structure_read : (held : Option Held) (n : Schema) (k : ShapeType) (null reads : Bool) (s t : StructBuilder) (old new : AtHand) (answer : Answer) → old.held ≡ held → AtNode n held k null reads → reads ≡ false
-    → IsPlan k n plan.Structure → s.table.now ≡ n.table → writes_in s.table.now s.writes ≡ no_writes → BuildsStructure (shape n) s t old new answer
-    → IfSome held (λ h. IsRead add_write structure_total (value_read n h) (writes_in t.table.now t.writes) answer)
-structure_read None n k null reads s t old new answer is a other p table none all = tt
-structure_read (Some h) n k null reads s t old new answer is a other p table none all = record {
+structure_read : (held : Option Held) (n : Schema) (s t : StructBuilder) (old new : AtHand) (answer : Answer) → old.held ≡ held → s.table.now ≡ n.table → writes_in s.table.now s.writes ≡ no_writes
+    → BuildsStructure (shape n) s t old new answer → IfSome held (λ h. IsRead add_write structure_total (value_of_structure value_read (shape n) h) (writes_in t.table.now t.writes) answer)
+structure_read None n s t old new answer is table none all = tt
+structure_read (Some h) n s t old new answer is table none all = record {
   all = then_try (fields (shape n) h) (all_read (λ x. then_give (value_read x.0 x.1) (write_by x.0)));
-  is = planned n h k null reads a other ∙ p h;
+  is = refl;
   built = subst (λ ws. Built add_write (then_try (fields (shape n) h) (all_read (λ x. then_give (value_read x.0 x.1) (write_by x.0)))) ws (writes_in t.table.now t.writes) answer) none
       (members_built (shape n) h s t answer (table ∙ sym (shape_table n)) (handed_of (at_members TakesMember) group.Structure (shape n) h (old.listing group.Structure (shape n)) s t answer (old.told group.Structure (shape n) h is) all.handed));
 }
@@ -328,65 +327,69 @@ value_scalar_err t place n k null reads s e old new there a other p reads_it = r
   leaves = ([], reads_it.opened);
 }
 
-pub value_list : (t : Table) (place : ℕ) (n : Schema) (k : ShapeType) (null reads : Bool) (e : SchemaIndex) (b c : ListBuilder) (old new : AtHand) → Some n ≡ at_place t place → AtNode n old.held k null reads → reads ≡ false → IsPlan k n (plan.List e)
-    → BuildsList n b c old new (Ok tt) → b.table.now ≡ t → b.element.0 ≡ e.0 → writes_in b.table.now b.writes ≡ no_writes → AreDefined t c.writes → ReadsValue t place old new (Ok (stored.List c.writes))
-value_list t place n k null reads e b c old new there a other p all table place_is none defined = record {
-  gives = at_the_place (λ m. Gives (value_in t) (option_map (value_read m) old.held) (Ok (stored.List c.writes))) t place n there
-      (read_ok (value_in t) add_write list_total n old.held (writes_in c.table.now c.writes) (stored.List c.writes)
-      (list_read old.held n k null reads e b c old new (Ok tt) refl a other p (table ∙ sym (at_place_table t place n (sym there))) place_is none all)
-      (is_list _ (writes_in t c.writes) _ (list_is t c.writes) (ap (λ u. writes_in u c.writes) (sym (ap (λ p. p.0) all.kept ∙ table)))));
-  defined = list_defined t c.writes defined;
+-- what is read by a plan is read by the node
+planned_gives : (f : ShapeValue → Value) (n : Schema) (held : Option Held) (k : ShapeType) (null reads : Bool) (read : Held → Result Value SerdeError) (result : Result ShapeValue SerdeError) → AtNode n held k null reads → reads ≡ false
+    → ((h : Held) → value_by_kind value_read k n h ≡ read h) → Gives f (option_map read held) result → Gives f (option_map (value_read n) held) result
+planned_gives f n None k null reads read result a other is g = g
+planned_gives f n (Some h) k null reads read result a other is g = subst (λ r. Gives f (Some r) result) (sym (planned n h k null reads a other ∙ is h)) g
+
+pub value_planned : (t : Table) (place : ℕ) (n : Schema) (k : ShapeType) (null reads : Bool) (read : Held → Result Value SerdeError) (old new : AtHand) (result : Result ShapeValue SerdeError) → Some n ≡ at_place t place → AtNode n old.held k null reads → reads ≡ false
+    → ((h : Held) → value_by_kind value_read k n h ≡ read h) → ReadsSo t read old new result → ReadsValue t place old new result
+value_planned t place n k null reads read old new result there a other is so = record {
+  gives = at_the_place (λ m. Gives (value_in t) (option_map (value_read m) old.held) result) t place n there (planned_gives (value_in t) n old.held k null reads read result a other is so.gives);
+  defined = so.defined;
+  leaves = so.leaves;
+}
+
+pub list_value : (n m : Schema) (b c : ListBuilder) (old new : AtHand) → BuildsList n b c old new (Ok tt) → at_place b.table.now b.element.0 ≡ Some m → writes_in b.table.now b.writes ≡ no_writes → AreDefined b.table.now c.writes
+    → ReadsSo b.table.now (value_of_list value_read n m) old new (Ok (stored.List c.writes))
+list_value n m b c old new all there none defined = record {
+  gives = read_ok (value_in b.table.now) add_write list_total (value_of_list value_read n m) old.held (writes_in c.table.now c.writes) (stored.List c.writes)
+      (list_read old.held n m b.element.0 b c old new (Ok tt) refl there refl none all)
+      (is_list _ (writes_in b.table.now c.writes) _ (list_is b.table.now c.writes) (ap (λ u. writes_in u c.writes) (sym (ap (λ p. p.0) all.kept))));
+  defined = list_defined b.table.now c.writes defined;
   leaves = all.leaves.opened;
 }
 
-pub value_list_err : (t : Table) (place : ℕ) (n : Schema) (k : ShapeType) (null reads : Bool) (i : SchemaIndex) (b c : ListBuilder) (e : SerdeError) (old new : AtHand) → Some n ≡ at_place t place → AtNode n old.held k null reads → reads ≡ false → IsPlan k n (plan.List i)
-    → BuildsList n b c old new (Err e) → b.table.now ≡ t → b.element.0 ≡ i.0 → writes_in b.table.now b.writes ≡ no_writes → ReadsValue t place old new (Err e)
-value_list_err t place n k null reads i b c e old new there a other p all table place_is none = record {
-  gives = at_the_place (λ m. Gives (value_in t) (option_map (value_read m) old.held) (Err e)) t place n there
-      (read_err (value_in t) add_write list_total n old.held (writes_in c.table.now c.writes) e
-      (list_read old.held n k null reads i b c old new (Err e) refl a other p (table ∙ sym (at_place_table t place n (sym there))) place_is none all));
+pub list_value_err : (n m : Schema) (b c : ListBuilder) (e : SerdeError) (old new : AtHand) → BuildsList n b c old new (Err e) → at_place b.table.now b.element.0 ≡ Some m → writes_in b.table.now b.writes ≡ no_writes
+    → ReadsSo b.table.now (value_of_list value_read n m) old new (Err e)
+list_value_err n m b c e old new all there none = record {
+  gives = read_err (value_in b.table.now) add_write list_total (value_of_list value_read n m) old.held (writes_in c.table.now c.writes) e (list_read old.held n m b.element.0 b c old new (Err e) refl there refl none all);
   defined = tt;
   leaves = all.leaves;
 }
 
-pub value_map : (t : Table) (place : ℕ) (n : Schema) (k : ShapeType) (null reads : Bool) (key i : SchemaIndex) (b c : MapBuilder) (old new : AtHand) → Some n ≡ at_place t place → AtNode n old.held k null reads → reads ≡ false → IsPlan k n (plan.Map key i)
-    → BuildsMap n b c old new (Ok tt) → b.table.now ≡ t → b.key.0 ≡ key.0 → b.value.0 ≡ i.0 → writes_in b.table.now b.writes ≡ no_writes → AreDefined t c.writes → ReadsValue t place old new (Ok (stored.Map c.writes))
-value_map t place n k null reads key i b c old new there a other p all table key_is value_is none defined = record {
-  gives = at_the_place (λ m. Gives (value_in t) (option_map (value_read m) old.held) (Ok (stored.Map c.writes))) t place n there
-      (read_ok (value_in t) add_entry map_total n old.held (writes_in c.table.now c.writes) (stored.Map c.writes)
-      (map_read old.held n k null reads key i b c old new (Ok tt) refl a other p (table ∙ sym (at_place_table t place n (sym there))) key_is value_is none all)
-      (is_map _ (writes_in t c.writes) _ (map_is t c.writes) (ap (λ u. writes_in u c.writes) (sym (ap (λ p. p.0) all.kept ∙ table)))));
-  defined = map_defined t c.writes defined;
+pub map_value : (n k m : Schema) (b c : MapBuilder) (old new : AtHand) → BuildsMap n b c old new (Ok tt) → at_place b.table.now b.key.0 ≡ Some k → at_place b.table.now b.value.0 ≡ Some m → writes_in b.table.now b.writes ≡ no_writes → AreDefined b.table.now c.writes
+    → ReadsSo b.table.now (value_of_map value_read n k m) old new (Ok (stored.Map c.writes))
+map_value n k m b c old new all there there_2 none defined = record {
+  gives = read_ok (value_in b.table.now) add_entry map_total (value_of_map value_read n k m) old.held (writes_in c.table.now c.writes) (stored.Map c.writes)
+      (map_read old.held n k m b.key.0 b.value.0 b c old new (Ok tt) refl there there_2 refl refl none all)
+      (is_map _ (writes_in b.table.now c.writes) _ (map_is b.table.now c.writes) (ap (λ u. writes_in u c.writes) (sym (ap (λ p. p.0) all.kept))));
+  defined = map_defined b.table.now c.writes defined;
   leaves = all.leaves.opened;
 }
 
-pub value_map_err : (t : Table) (place : ℕ) (n : Schema) (k : ShapeType) (null reads : Bool) (key i : SchemaIndex) (b c : MapBuilder) (e : SerdeError) (old new : AtHand) → Some n ≡ at_place t place → AtNode n old.held k null reads → reads ≡ false → IsPlan k n (plan.Map key i)
-    → BuildsMap n b c old new (Err e) → b.table.now ≡ t → b.key.0 ≡ key.0 → b.value.0 ≡ i.0 → writes_in b.table.now b.writes ≡ no_writes → ReadsValue t place old new (Err e)
-value_map_err t place n k null reads key i b c e old new there a other p all table key_is value_is none = record {
-  gives = at_the_place (λ m. Gives (value_in t) (option_map (value_read m) old.held) (Err e)) t place n there
-      (read_err (value_in t) add_entry map_total n old.held (writes_in c.table.now c.writes) e
-      (map_read old.held n k null reads key i b c old new (Err e) refl a other p (table ∙ sym (at_place_table t place n (sym there))) key_is value_is none all));
+pub map_value_err : (n k m : Schema) (b c : MapBuilder) (e : SerdeError) (old new : AtHand) → BuildsMap n b c old new (Err e) → at_place b.table.now b.key.0 ≡ Some k → at_place b.table.now b.value.0 ≡ Some m → writes_in b.table.now b.writes ≡ no_writes
+    → ReadsSo b.table.now (value_of_map value_read n k m) old new (Err e)
+map_value_err n k m b c e old new all there there_2 none = record {
+  gives = read_err (value_in b.table.now) add_entry map_total (value_of_map value_read n k m) old.held (writes_in c.table.now c.writes) e (map_read old.held n k m b.key.0 b.value.0 b c old new (Err e) refl there there_2 refl refl none all);
   defined = tt;
   leaves = all.leaves;
 }
 
-pub value_structure : (t : Table) (place : ℕ) (n : Schema) (k : ShapeType) (null reads : Bool) (b c : StructBuilder) (sorted : WriteList) (old new : AtHand) → Some n ≡ at_place t place → AtNode n old.held k null reads → reads ≡ false → IsPlan k n plan.Structure
-    → BuildsStructure (shape n) b c old new (Ok tt) → b.table.now ≡ t → writes_in b.table.now b.writes ≡ no_writes → writes_in t sorted ≡ in_index_order (writes_in t c.writes) → AreDefined t sorted → ReadsValue t place old new (Ok (stored.Struct sorted))
-value_structure t place n k null reads b c sorted old new there a other p all table none order defined = record {
-  gives = at_the_place (λ m. Gives (value_in t) (option_map (value_read m) old.held) (Ok (stored.Struct sorted))) t place n there
-      (read_ok (value_in t) add_write structure_total n old.held (writes_in c.table.now c.writes) (stored.Struct sorted)
-      (structure_read old.held n k null reads b c old new (Ok tt) refl a other p (table ∙ sym (at_place_table t place n (sym there))) none all)
-      (is_structure _ (writes_in t c.writes) (writes_in t sorted) _ (structure_is t sorted) order (ap (λ u. writes_in u c.writes) (sym (all.kept ∙ table)))));
-  defined = structure_defined t sorted defined;
+pub structure_value : (n : Schema) (b c : StructBuilder) (sorted : WriteList) (old new : AtHand) → BuildsStructure (shape n) b c old new (Ok tt) → b.table.now ≡ n.table → writes_in b.table.now b.writes ≡ no_writes
+    → writes_in b.table.now sorted ≡ in_index_order (writes_in b.table.now c.writes) → AreDefined b.table.now sorted → ReadsStructure b.table.now n old new (Ok (stored.Struct sorted))
+structure_value n b c sorted old new all table none order defined = record {
+  gives = read_ok (value_in b.table.now) add_write structure_total (value_of_structure value_read (shape n)) old.held (writes_in c.table.now c.writes) (stored.Struct sorted)
+      (structure_read old.held n b c old new (Ok tt) refl table none all)
+      (is_structure _ (writes_in b.table.now c.writes) (writes_in b.table.now sorted) _ (structure_is b.table.now sorted) order (ap (λ u. writes_in u c.writes) (sym all.kept)));
+  defined = structure_defined b.table.now sorted defined;
   leaves = all.leaves.opened;
 }
 
-pub value_structure_err : (t : Table) (place : ℕ) (n : Schema) (k : ShapeType) (null reads : Bool) (b c : StructBuilder) (e : SerdeError) (old new : AtHand) → Some n ≡ at_place t place → AtNode n old.held k null reads → reads ≡ false → IsPlan k n plan.Structure
-    → BuildsStructure (shape n) b c old new (Err e) → b.table.now ≡ t → writes_in b.table.now b.writes ≡ no_writes → ReadsValue t place old new (Err e)
-value_structure_err t place n k null reads b c e old new there a other p all table none = record {
-  gives = at_the_place (λ m. Gives (value_in t) (option_map (value_read m) old.held) (Err e)) t place n there
-      (read_err (value_in t) add_write structure_total n old.held (writes_in c.table.now c.writes) e
-      (structure_read old.held n k null reads b c old new (Err e) refl a other p (table ∙ sym (at_place_table t place n (sym there))) none all));
+pub structure_value_err : (n : Schema) (b c : StructBuilder) (e : SerdeError) (old new : AtHand) → BuildsStructure (shape n) b c old new (Err e) → b.table.now ≡ n.table → writes_in b.table.now b.writes ≡ no_writes → ReadsStructure b.table.now n old new (Err e)
+structure_value_err n b c e old new all table none = record {
+  gives = read_err (value_in b.table.now) add_write structure_total (value_of_structure value_read (shape n)) old.held (writes_in c.table.now c.writes) e (structure_read old.held n b c old new (Err e) refl table none all);
   defined = tt;
   leaves = all.leaves;
 }
@@ -404,22 +407,13 @@ map_planned n key m i j e e_2 there there_2 = (
   λ h. ap (λ o. map_by value_read n o (value_of n) h) (sym e) ∙ ap (λ o. map_by value_read n (Some key) o h) (sym e_2),
 )
 
+pub placed_here : (t : Table) (place : ℕ) (n m : Schema) (i : ℕ) → Some n ≡ at_place t place → at_place n.table i ≡ Some m → at_place t i ≡ Some m
+placed_here t place n m i there is = subst (λ u. at_place u i ≡ Some m) (at_place_table t place n (sym there)) is
+
 pub has_node_at : (t : Table) (place : ℕ) (n m : Schema) (i : ℕ) → Some n ≡ at_place t place → at_place n.table i ≡ Some m → HasNode t i
-has_node_at t place n m i there is =
-    let here : at_place t i ≡ Some m = subst (λ u. at_place u i ≡ Some m) (at_place_table t place n (sym there)) is in
-    subst (λ (o : Option Schema). IsSome o) (sym here) refl
+has_node_at t place n m i there is = subst (λ (o : Option Schema). IsSome o) (sym (placed_here t place n m i there is)) refl
 
 -- a structure read at the top, where the null is refused
-structure_opened : (held : Option Held) (n : Schema) (s t : StructBuilder) (old new : AtHand) (answer : Answer) → old.held ≡ held → s.table.now ≡ n.table → writes_in s.table.now s.writes ≡ no_writes
-    → BuildsStructure (shape n) s t old new answer → IfSome held (λ h. IsRead add_write structure_total (value_of_structure value_read (shape n) h) (writes_in t.table.now t.writes) answer)
-structure_opened None n s t old new answer is table none all = tt
-structure_opened (Some h) n s t old new answer is table none all = record {
-  all = then_try (fields (shape n) h) (all_read (λ x. then_give (value_read x.0 x.1) (write_by x.0)));
-  is = refl;
-  built = subst (λ ws. Built add_write (then_try (fields (shape n) h) (all_read (λ x. then_give (value_read x.0 x.1) (write_by x.0)))) ws (writes_in t.table.now t.writes) answer) none
-      (members_built (shape n) h s t answer (table ∙ sym (shape_table n)) (handed_of (at_members TakesMember) group.Structure (shape n) h (old.listing group.Structure (shape n)) s t answer (old.told group.Structure (shape n) h is) all.handed));
-}
-
 opened_ok : (held : Option Held) (n : Schema) (now sorted new : Writes) (v : StructValue) → IfSome held (λ h. IsRead add_write structure_total (value_of_structure value_read (shape n) h) new (Ok tt))
     → members_of v ≡ sorted → sorted ≡ in_index_order now → now ≡ new → IfSome held (λ h. Gives structure_of (Some (value_of_structure value_read (shape n) h)) (Ok v))
 opened_ok None n now sorted new v r is order same = tt
@@ -439,7 +433,7 @@ by_node (Some h) r n answer there g = at_the_place (λ m. Gives structure_of (So
 pub reader_err : (r : ValueReader) (n : Schema) (s t : StructBuilder) (e : SerdeError) (old new : AtHand) → Some n ≡ at_place r.table.now r.schema.0 → BuildsStructure (shape n) s t old new (Err e)
     → s.table.now ≡ r.table.now → writes_in s.table.now s.writes ≡ no_writes → ReadsBy (gives_structure r) old new (Err e)
 reader_err r n s t e old new there all table none = record {
-  gives = by_node old.held r n (Err e) there (opened_err old.held n (writes_in t.table.now t.writes) e (structure_opened old.held n s t old new (Err e) refl (table ∙ sym (at_place_table r.table.now r.schema.0 n (sym there))) none all));
+  gives = by_node old.held r n (Err e) there (opened_err old.held n (writes_in t.table.now t.writes) e (structure_read old.held n s t old new (Err e) refl (table ∙ sym (at_place_table r.table.now r.schema.0 n (sym there))) none all));
   leaves = all.leaves;
 }
 
@@ -448,7 +442,7 @@ pub reader_ok : (r : ValueReader) (n : Schema) (s t : StructBuilder) (sorted : W
     → members_of v ≡ writes_in r.table.now sorted → ReadsBy (gives_structure r) old new (Ok v)
 reader_ok r n s t sorted v old new there all table none order is = record {
   gives = by_node old.held r n (Ok v) there (opened_ok old.held n (writes_in r.table.now t.writes) (writes_in r.table.now sorted) (writes_in t.table.now t.writes) v
-      (structure_opened old.held n s t old new (Ok tt) refl (table ∙ sym (at_place_table r.table.now r.schema.0 n (sym there))) none all)
+      (structure_read old.held n s t old new (Ok tt) refl (table ∙ sym (at_place_table r.table.now r.schema.0 n (sym there))) none all)
       is order (ap (λ u. writes_in u t.writes) (sym (all.kept ∙ table))));
   leaves = all.leaves.opened;
 }

@@ -81,6 +81,24 @@ IsPlan k node (plan.Map key e) =
     × ((h : Held) → value_by_kind value_read k node h ≡ value_of_map value_read node m n h)
 IsPlan k node plan.Structure = (h : Held) → value_by_kind value_read k node h ≡ value_of_structure value_read (shape node) h
 
+-- the value at hand is read so, over a table
+pub record ReadsSo (table : Table) (read : Held → Result Value SerdeError) (old new : AtHand) (result : Result ShapeValue SerdeError) : Type 0 where
+  pub gives : Gives (value_in table) (option_map read old.held) result
+  pub defined : IfOk result (λ v. IsDefined table v)
+  pub leaves : Leaves old new result
+
+-- as a list by its element's node, as a map by its key's and its value's, as a structure
+abbrev pub ReadsList : Table → Schema → ℕ → AtHand → AtHand → Result ShapeValue SerdeError → Type 0
+ReadsList table node element old new result =
+    (m : Schema) → at_place table element ≡ Some m → ReadsSo table (value_of_list value_read node m) old new result
+
+abbrev pub ReadsMap : Table → Schema → ℕ → ℕ → AtHand → AtHand → Result ShapeValue SerdeError → Type 0
+ReadsMap table node key entry old new result =
+    (k m : Schema) → at_place table key ≡ Some k → at_place table entry ≡ Some m → ReadsSo table (value_of_map value_read node k m) old new result
+
+abbrev pub ReadsStructure : Table → Schema → AtHand → AtHand → Result ShapeValue SerdeError → Type 0
+ReadsStructure table node old new result = ReadsSo table (value_of_structure value_read (shape node)) old new result
+
 -- the value at hand is read by the node at a place
 pub record ReadsValue (table : Table) (place : ℕ) (old new : AtHand) (result : Result ShapeValue SerdeError) : Type 0 where
   pub gives : (n : Schema) → at_place table place ≡ Some n → Gives (value_in table) (option_map (value_read n) old.held) result

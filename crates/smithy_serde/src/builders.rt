@@ -56,7 +56,8 @@ impl StructBuilder<'_> {
     // The place of a member of the builder's table; none where it is another's.
     pub(crate) fn own_member(&self, member: SchemaRef<'_>) -> Option<SchemaIndex>
         ensures defined { IfSome result (λ i. HasNode self.now.table.now i.0) }
-        ensures place { IfSome result (λ i. at_place (schema_of member.entry).table i.0 ≡ Some (schema_of member.entry)) }
+        ensures place { IfSome result (λ i. at_place (schema_of member.entry).table i.0
+            ≡ Some (schema_of member.entry)) }
         ensures another { IfNone result (IsPlaced self.now.table.now (schema_of member.entry) → ⊥) }
     {
         let place = member.index()?;
@@ -67,9 +68,15 @@ impl StructBuilder<'_> {
 }
 
 impl<'t> ValueReader<'t> {
-    /// Reads by the node at a place. Condition: it is defined.
+    ghost use Rattle.std.specs.Prelude.{◌≡◌};
+    ghost use Rattle.smithy_schema.specs.Nodes.{at_place};
+    ghost use Rattle.smithy_serde.specs.ValueReading.{reader_table, reader_node};
+
+    /// Reads by the node at a place. Condition: it is defined. Takes no memory.
     pub fn new(table: &'t Schemas, schema: SchemaIndex) -> ValueReader<'t>
         requires { HasNode table.now schema.0 }
+        ensures table { reader_table result ≡ table.now }
+        ensures node { reader_node result ≡ at_place table.now schema.0 }
     {
         ValueReader { table, schema }
     }

@@ -62,6 +62,7 @@ pub trait ClientProtocolInner {
         endpoint: &Self::Endpoint,
         prefix: Option<&Self::Prefix>,
     ) -> Result<(), SerdeError>
-        ensures by { points self.now request.old endpoint.now (option_map (λ p. p.now) prefix.entry) request.new result }
+        ensures by { points self.now request.old endpoint.now
+            (option_map (λ p. p.now) prefix.entry) request.new result }
         ensures unchanged { OnErr result (request.new ≡ request.old) };
 }

@@ -77,8 +77,8 @@ pub fn read_struct<D: ShapeDeserializer, M: MemberConsumer>(
     schema: SchemaRef<'_>,
     consumer: &mut M,
 ) -> Result<(), SerdeError>
-    ensures { HandsAll (at_members M.takes) M.keeps group.Structure (schema_of schema.entry) consumer.old consumer.new
-        (D.at_hand reader.old) (D.at_hand reader.new) result }
+    ensures { HandsAll (at_members M.takes) M.keeps group.Structure (schema_of schema.entry)
+        consumer.old consumer.new (D.at_hand reader.old) (D.at_hand reader.new) result }
 {
     reader.open_struct(alloc, schema)?;
     while let Some(member) = reader.next_member(alloc, schema)? {
@@ -97,8 +97,8 @@ pub fn read_list<D: ShapeDeserializer, E: ElementConsumer>(
     schema: SchemaRef<'_>,
     consumer: &mut E,
 ) -> Result<(), SerdeError>
-    ensures { HandsAll (at_elements E.takes) E.keeps group.List (schema_of schema.entry) consumer.old consumer.new
-        (D.at_hand reader.old) (D.at_hand reader.new) result }
+    ensures { HandsAll (at_elements E.takes) E.keeps group.List (schema_of schema.entry)
+        consumer.old consumer.new (D.at_hand reader.old) (D.at_hand reader.new) result }
 {
     reader.open_list(alloc, schema)?;
     while reader.next_element(alloc)? {
@@ -115,8 +115,8 @@ pub fn read_map<D: ShapeDeserializer, E: EntryConsumer>(
     schema: SchemaRef<'_>,
     consumer: &mut E,
 ) -> Result<(), SerdeError>
-    ensures { HandsAll (at_entries E.takes) E.keeps group.Map (schema_of schema.entry) consumer.old consumer.new
-        (D.at_hand reader.old) (D.at_hand reader.new) result }
+    ensures { HandsAll (at_entries E.takes) E.keeps group.Map (schema_of schema.entry)
+        consumer.old consumer.new (D.at_hand reader.old) (D.at_hand reader.new) result }
 {
     reader.open_map(alloc, schema)?;
     while let Some(key) = reader.next_entry(alloc)? {

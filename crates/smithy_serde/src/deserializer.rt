@@ -32,7 +32,8 @@ pub trait ShapeDeserializer {
         schema: SchemaRef<'_>,
         kind: ScalarKind,
     ) -> Result<ReadScalar, SerdeError>
-        ensures { Reads scalar_of_read kind (node schema.entry) (at_hand self.old) (at_hand self.new) result };
+        ensures { Reads scalar_of_read kind (node schema.entry)
+            (at_hand self.old) (at_hand self.new) result };
 
     /// Opens what is at hand. It is refused where that can't be opened so, and then no item was handed out.
     fn open(&mut self, alloc: Global, schema: SchemaRef<'_>, group: Group) -> Result<(), SerdeError>
@@ -132,7 +133,8 @@ pub trait ShapeDeserializer {
 
     /// Reads a number of 16 bits.
     fn read_short(&mut self, alloc: Global, schema: SchemaRef<'_>) -> Result<i16, SerdeError>
-        ensures { Reads (whole short) k.Short (node schema.entry) (at_hand self.old) (at_hand self.new) result }
+        ensures { Reads (whole short) k.Short (node schema.entry)
+            (at_hand self.old) (at_hand self.new) result }
     {
         match self.read(alloc, schema, ScalarKind::Short)? {
             ReadScalar::Short(value) => Ok(value),
@@ -142,7 +144,8 @@ pub trait ShapeDeserializer {
 
     /// Reads a number of 32 bits.
     fn read_integer(&mut self, alloc: Global, schema: SchemaRef<'_>) -> Result<i32, SerdeError>
-        ensures { Reads (whole integer) k.Integer (node schema.entry) (at_hand self.old) (at_hand self.new) result }
+        ensures { Reads (whole integer) k.Integer (node schema.entry)
+            (at_hand self.old) (at_hand self.new) result }
     {
         match self.read(alloc, schema, ScalarKind::Integer)? {
             ReadScalar::Integer(value) => Ok(value),
@@ -166,7 +169,8 @@ pub trait ShapeDeserializer {
         alloc: Global,
         schema: SchemaRef<'_>,
     ) -> Result<BigInteger, SerdeError>
-        ensures { Reads big_integer k.BigInteger (node schema.entry) (at_hand self.old) (at_hand self.new) result }
+        ensures { Reads big_integer k.BigInteger (node schema.entry)
+            (at_hand self.old) (at_hand self.new) result }
     {
         match self.read(alloc, schema, ScalarKind::BigInteger)? {
             ReadScalar::BigInteger(value) => Ok(value),
@@ -180,7 +184,8 @@ pub trait ShapeDeserializer {
         alloc: Global,
         schema: SchemaRef<'_>,
     ) -> Result<BigDecimal, SerdeError>
-        ensures { Reads big_decimal k.BigDecimal (node schema.entry) (at_hand self.old) (at_hand self.new) result }
+        ensures { Reads big_decimal k.BigDecimal (node schema.entry)
+            (at_hand self.old) (at_hand self.new) result }
     {
         match self.read(alloc, schema, ScalarKind::BigDecimal)? {
             ReadScalar::BigDecimal(value) => Ok(value),
@@ -214,7 +219,8 @@ pub trait ShapeDeserializer {
         alloc: Global,
         schema: SchemaRef<'_>,
     ) -> Result<DateTime, SerdeError>
-        ensures { Reads timestamp k.Timestamp (node schema.entry) (at_hand self.old) (at_hand self.new) result }
+        ensures { Reads timestamp k.Timestamp (node schema.entry)
+            (at_hand self.old) (at_hand self.new) result }
     {
         match self.read(alloc, schema, ScalarKind::Timestamp)? {
             ReadScalar::Timestamp(value) => Ok(value),
@@ -242,7 +248,8 @@ pub trait ShapeDeserializer {
         alloc: Global,
         schema: SchemaRef<'_>,
     ) -> Result<Integers, SerdeError>
-        ensures { ReadsEach (whole integer) k.Integer (node schema.entry) (at_hand self.old) (at_hand self.new) result }
+        ensures { ReadsEach (whole integer) k.Integer (node schema.entry)
+            (at_hand self.old) (at_hand self.new) result }
     {
         self.open_list(alloc, schema)?;
         let element = SchemaRef::prelude(ShapeType::Integer);
@@ -256,7 +263,8 @@ pub trait ShapeDeserializer {
 
     /// Reads a list of numbers of 64 bits, each by the prelude's long node. It stops at the first refusal, and answers it.
     fn read_long_list(&mut self, alloc: Global, schema: SchemaRef<'_>) -> Result<Longs, SerdeError>
-        ensures { ReadsEach (whole long) k.Long (node schema.entry) (at_hand self.old) (at_hand self.new) result }
+        ensures { ReadsEach (whole long) k.Long (node schema.entry)
+            (at_hand self.old) (at_hand self.new) result }
     {
         self.open_list(alloc, schema)?;
         let element = SchemaRef::prelude(ShapeType::Long);

@@ -29,6 +29,7 @@ fn own_place(node: SchemaRef<'_>) -> SchemaIndex
     }
 }
 
+#[inline(never)]
 fn list_plan(schema: SchemaRef<'_>) -> Plan
     ensures { IsPlan kind.List (schema_of schema.entry) result }
 {
@@ -38,6 +39,7 @@ fn list_plan(schema: SchemaRef<'_>) -> Plan
     }
 }
 
+#[inline(never)]
 fn map_plan(schema: SchemaRef<'_>) -> Plan
     ensures { IsPlan kind.Map (schema_of schema.entry) result }
 {
@@ -51,6 +53,7 @@ fn map_plan(schema: SchemaRef<'_>) -> Plan
 }
 
 // A list without an element's node, and a map without both, is read as a document, and so is what a program has no values of.
+#[inline(always)]
 pub(crate) fn plan_of(shape_type: ShapeType, schema: SchemaRef<'_>) -> Plan
     ensures { IsPlan shape_type (schema_of schema.entry) result }
 {

@@ -7,7 +7,7 @@ ghost use Rattle.smithy_schema.specs.Nodes.{Table};
 ghost use Rattle.smithy_schema.specs.References.{schema_of};
 ghost use Rattle.smithy_serde.specs.Values.{scalar as made};
 ghost use Rattle.smithy_serde.specs.StoredValues.{HasNode, IsDefined, value_in, writes_in};
-ghost use Rattle.smithy_serde.specs.ValueBuilding.{list_nodes, map_nodes, struct_table, TakesElement, TakesEntry, TakesMember, ReadsValue};
+ghost use Rattle.smithy_serde.specs.ValueBuilding.{list_nodes, map_nodes, struct_table, TakesElement, TakesEntry, TakesMember, ReadsList, ReadsMap, ReadsStructure, ReadsValue};
 ghost use Rattle.smithy_serde.specs.ValueBuilding.{BuildsList, BuildsMap, BuildsStructure};
 ghost use Rattle.smithy_serde.specs.Handing.{Same, same_kept};
 ghost use Rattle.smithy_serde.specs.ReadCalls.{scalar_of_read, is_of_kind};
@@ -92,7 +92,8 @@ impl MapBuilder<'_> {
     #[tactic(auto, unfolding(crate::specs::StoredValues::value_in, crate::specs::StoredValues::IsDefined))]
     fn push(&mut self, key: Text, value: ShapeValue) -> Result<(), OutOfMemory>
         requires { IsDefined self.old.table.now value }
-        ensures ok { OnOk result (writes_in self.new.table.now self.new.writes ≡ with_entry self.old key value) }
+        ensures ok { OnOk result (writes_in self.new.table.now self.new.writes
+            ≡ with_entry self.old key value) }
         ensures same { Same map_nodes self.old self.new }
     {
         self.writes.push(self.key, ShapeValue::String(key))?;
@@ -180,8 +181,88 @@ pub(crate) fn read_members<D: ShapeDeserializer>(
     Ok(())
 }
 
+// The list at hand, each element by the node at a place.
+#[cycle(read_value)]
+#[inline(never)]
+#[tactic(auto, unfolding(crate::specs::StoredValues::value_in, crate::specs::StoredValues::IsDefined))]
+fn list_value<D: ShapeDeserializer>(
+    alloc: Global,
+    reader: &mut D,
+    table: &Schemas,
+    schema: SchemaRef<'_>,
+    element: SchemaIndex,
+) -> Result<ShapeValue, SerdeError>
+    requires { HasNode table.now element.0 }
+    ensures { ReadsList table.now (schema_of schema.entry) element.0
+        (D.at_hand reader.old) (D.at_hand reader.new) result }
+{
+    let mut builder = ListBuilder {
+        alloc,
+        table,
+        element,
+        writes: WriteList::new(alloc),
+    };
+    read_elements(alloc, reader, schema, &mut builder)?;
+    let ListBuilder { writes, .. } = builder;
+    Ok(ShapeValue::List(writes))
+}
+
+// The map at hand, each key and each value by the nodes at two places.
+#[cycle(read_value)]
+#[inline(never)]
+#[tactic(auto, unfolding(crate::specs::StoredValues::value_in, crate::specs::StoredValues::IsDefined))]
+fn map_value<D: ShapeDeserializer>(
+    alloc: Global,
+    reader: &mut D,
+    table: &Schemas,
+    schema: SchemaRef<'_>,
+    key: SchemaIndex,
+    value: SchemaIndex,
+) -> Result<ShapeValue, SerdeError>
+    requires key { HasNode table.now key.0 }
+    requires value { HasNode table.now value.0 }
+    ensures { ReadsMap table.now (schema_of schema.entry) key.0 value.0
+        (D.at_hand reader.old) (D.at_hand reader.new) result }
+{
+    let mut builder = MapBuilder {
+        alloc,
+        table,
+        key,
+        value,
+        writes: WriteList::new(alloc),
+    };
+    read_entries(alloc, reader, schema, &mut builder)?;
+    let MapBuilder { writes, .. } = builder;
+    Ok(ShapeValue::Map(writes))
+}
+
+// The structure at hand, its writes in index order.
+#[cycle(read_value)]
+#[inline(never)]
+#[tactic(auto, unfolding(crate::specs::StoredValues::value_in, crate::specs::StoredValues::IsDefined))]
+fn structure_value<D: ShapeDeserializer>(
+    alloc: Global,
+    reader: &mut D,
+    table: &Schemas,
+    schema: SchemaRef<'_>,
+) -> Result<ShapeValue, SerdeError>
+    requires { (schema_of schema).table ≡ table.now }
+    ensures { ReadsStructure table.now (schema_of schema.entry)
+        (D.at_hand reader.old) (D.at_hand reader.new) result }
+{
+    let mut builder = StructBuilder {
+        alloc,
+        table,
+        writes: WriteList::new(alloc),
+    };
+    read_members(alloc, reader, shape_of(schema), &mut builder)?;
+    let StructBuilder { writes, .. } = builder;
+    Ok(ShapeValue::Struct(writes.in_index_order(table)?))
+}
+
 /// Reads the value at hand by a node.
 #[cycle(read_value)]
+#[inline(always)]
 #[tactic(auto, unfolding(crate::specs::StoredValues::value_in, crate::specs::StoredValues::IsDefined))]
 pub fn read_value<D: ShapeDeserializer>(
     alloc: Global,
@@ -201,38 +282,8 @@ pub fn read_value<D: ShapeDeserializer>(
     }
     match plan_of(kind, schema) {
         Plan::Scalar(kind) => Ok(stored(reader.read(alloc, schema, kind)?)),
-        Plan::List(element) => {
-            let mut builder = ListBuilder {
-                alloc,
-                table,
-                element,
-                writes: WriteList::new(alloc),
-            };
-            read_elements(alloc, reader, schema, &mut builder)?;
-            let ListBuilder { writes, .. } = builder;
-            Ok(ShapeValue::List(writes))
-        }
-        Plan::Map(key, value) => {
-            let mut builder = MapBuilder {
-                alloc,
-                table,
-                key,
-                value,
-                writes: WriteList::new(alloc),
-            };
-            read_entries(alloc, reader, schema, &mut builder)?;
-            let MapBuilder { writes, .. } = builder;
-            Ok(ShapeValue::Map(writes))
-        }
-        Plan::Structure => {
-            let mut builder = StructBuilder {
-                alloc,
-                table,
-                writes: WriteList::new(alloc),
-            };
-            read_members(alloc, reader, shape_of(schema), &mut builder)?;
-            let StructBuilder { writes, .. } = builder;
-            Ok(ShapeValue::Struct(writes.in_index_order(table)?))
-        }
+        Plan::List(element) => list_value(alloc, reader, table, schema, element),
+        Plan::Map(key, value) => map_value(alloc, reader, table, schema, key, value),
+        Plan::Structure => structure_value(alloc, reader, table, schema),
     }
 }

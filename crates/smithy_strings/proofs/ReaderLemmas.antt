@@ -1,5 +1,5 @@
 -- The string codec's reader, call by call.
-use Rattle.std.proofs.Common.{◌≡◌, ◌≢◌, refl, sym, ap, ◌∙◌, subst, ℕ, ◌+◌, ◌-◌, ◌<◌, inl, inr, Bool, true, false, List, [], ◌∷◌, ◌++◌, map, length, drop, get_or, Option, Some, None, option_map, is_some, IfSome, Result, Ok, Err, ℤ, arith}
+use Rattle.std.proofs.Common.{◌≡◌, ◌≢◌, refl, sym, ap, ◌∙◌, subst, ℕ, ◌+◌, ◌<◌, inl, inr, Bool, true, false, List, [], ◌∷◌, ◌++◌, map, length, drop, get_or, Option, Some, None, option_map, is_some, IfSome, Result, Ok, Err, ℤ, arith}
 use Rattle.std.specs.Option.{ok_or, option_or}
 use Rattle.std.proofs.lemmas.List.{length-map, length-append, drop_more}
 use Rattle.std.proofs.lemmas.Option.{slice_get-get_or}

@@ -131,6 +131,10 @@ abbrev pub used_by : ScalarKind → Held → Held
 used_by of.Document h = h
 used_by k h = used_up h
 
+-- nothing is used up
+abbrev pub kept : Held → Held
+kept h = h
+
 -- an element that is passed over is used up too, and an input isn't
 abbrev pub passed_over : Held → Held
 passed_over (held.item text) = held.item None

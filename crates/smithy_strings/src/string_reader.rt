@@ -1,11 +1,11 @@
 // The string codec's reader.
-ghost use Rattle.std.specs.Prelude.{◌≡◌, Some, false, IfOk, IfErr, MatchOption, option_copied, length};
+ghost use Rattle.std.specs.Prelude.{◌≡◌, Some, false, IsOk, IfOk, IfErr, OnErr, MatchOption, option_copied, length};
 ghost use Rattle.smithy_schema.specs.References.{schema_of as node};
 ghost use Rattle.smithy_serde.specs.Held as held;
-ghost use Rattle.smithy_serde.specs.ReadCalls.{scalar_of_read, Reads, Skips, Begins};
+ghost use Rattle.smithy_serde.specs.ReadCalls.{scalar_of_read, Reads, Skips, OpensAt, Begins};
 ghost use Rattle.smithy_serde.specs.declared.error.SerdeError.TheVariants.{OutOfMemory as NoMemory};
 ghost use Rattle.smithy_strings.specs.ReadingRefusals.{not_utf8 as not_utf8_refusal};
-ghost use Rattle.smithy_strings.specs.StringReading.{string_at_hand, Leaves, CanOpen, RefusesOpening, listed_texts, text_left, texts_in, texts_left, used_up, used_by, passed_over};
+ghost use Rattle.smithy_strings.specs.StringReading.{string_at_hand, Leaves, CanOpen, RefusesOpening, listed_texts, text_left, texts_in, texts_left, used_up, used_by, passed_over, kept};
 
 use crate::input_text::InputText;
 use crate::reading_refusals::{no_container, no_list, not_utf8};
@@ -148,7 +148,8 @@ impl ShapeDeserializer for HttpStringDeserializer {
         schema: SchemaRef<'_>,
         kind: ScalarKind,
     ) -> Result<ReadScalar, SerdeError>
-        ensures reads { Reads scalar_of_read kind (node schema.entry) (string_at_hand self.old) (string_at_hand self.new) result }
+        ensures reads { Reads scalar_of_read kind (node schema.entry)
+            (string_at_hand self.old) (string_at_hand self.new) result }
         ensures left { Leaves (used_by kind) self.old self.new }
     {
         if self.input.is_none() {
@@ -159,12 +160,17 @@ impl ShapeDeserializer for HttpStringDeserializer {
         read
     }
 
+    /// A refused opening uses nothing up.
     fn open(
         &mut self,
         alloc: Global,
         _schema: SchemaRef<'_>,
         group: Group,
-    ) -> Result<(), SerdeError> {
+    ) -> Result<(), SerdeError>
+        ensures opens { OpensAt group (node _schema.entry)
+            (string_at_hand self.old) (string_at_hand self.new) result }
+        ensures left { OnErr result (Leaves kept self.old self.new) }
+    {
         if let Some(refusal) = self.opening_refusal(alloc, group) {
             return Err(refusal);
         }
@@ -219,10 +225,20 @@ impl ShapeDeserializer for HttpStringDeserializer {
         }
     }
 
-    /// In a list an element is used up; outside it nothing happens.
+    /// It takes any value, and nothing is used up.
+    fn read_null(&mut self) -> Result<(), SerdeError>
+        ensures skips { Skips (string_at_hand self.old) (string_at_hand self.new) result }
+        ensures left { Leaves kept self.old self.new }
+        ensures ok { IsOk result }
+    {
+        Ok(())
+    }
+
+    /// In a list an element is used up; outside it nothing happens. It refuses nothing.
     fn skip_value(&mut self, _alloc: Global) -> Result<(), SerdeError>
         ensures skips { Skips (string_at_hand self.old) (string_at_hand self.new) result }
         ensures left { Leaves passed_over self.old self.new }
+        ensures ok { IsOk result }
     {
         if let Some(list) = &mut self.list {
             list.at_hand = None;

@@ -1,10 +1,10 @@
-use Rattle.std.proofs.Common.{rules, refl, subst, ap}
+use Rattle.std.proofs.Common.{rules, refl, sym, subst, ap}
 use Rattle.smithy_schema.specs.References.{schema_of}
 use Rattle.smithy_serde.specs.Handing.{same_kept, at_elements, at_entries, at_members}
 use Rattle.smithy_serde.specs.StoredValues.{AreDefined}
 use Rattle.smithy_serde.specs.ValueBuilding.{list_nodes, map_nodes, struct_table, TakesElement, TakesEntry, TakesMember}
 use Rattle.smithy_serde.proofs.BuilderItems.{element_taken, element_refused, entry_taken, entry_refused, member_taken, member_refused}
-use Rattle.smithy_serde.proofs.ReadValue.{AtNode, value_null, value_scalar, value_scalar_err, value_list, value_list_err, value_map, value_map_err, value_structure, value_structure_err, has_node_at}
+use Rattle.smithy_serde.proofs.ReadValue.{AtNode, value_null, value_scalar, value_scalar_err, value_planned, list_value, list_value_err, map_value, map_value_err, structure_value, structure_value_err, at_place_table, placed_here, has_node_at}
 use Rattle.smithy_serde.proofs.ReadWalk.{not_opened, begins, halted, stopped, taken, hidden, answered}
 use Rattle.smithy_serde.proofs.value_reading.+read_value.Goals as goal
 
@@ -108,59 +108,68 @@ read_value-returns-in_ok-read-in-Scalar g t c =
     let p = rw c.in-Scalar.is at c.plan_of.ensures in
     value_scalar c.args.table.now c.args.node.0 _ _ _ _ c.in-Scalar.kind _ _ _ _ c.in-Some.ensures.node at c.if-reads_null.false p c.in_ok-read-in-Scalar.ensures (c.stored.ensures.value c.args.table.now) (c.stored.ensures.defined _ c.in_ok-read-in-Scalar.ensures.of_kind c.args.table.now)
 
-pub read_value-invariant_of-builder : goal.read_value-invariant_of-builder
-read_value-invariant_of-builder g t c =
+pub list_value-returns-in_err-read_elements : goal.list_value-returns-in_err-read_elements
+list_value-returns-in_err-read_elements g t c =
+    λ m there. let whole = list_value_err (schema_of c.args.schema) m _ _ _ _ _ c.in_err-read_elements.ensures there (c.new.ensures.writes c.args.table.now) in search rules
+
+pub list_value-returns : goal.list_value-returns
+list_value-returns g t c =
+    let defined = subst (λ u. AreDefined u c.read_elements.new.consumer.writes) (ap (λ p. p.0) c.in_ok-read_elements.ensures.kept) c.read_elements.new.consumer.defined in
+    λ m there. list_value (schema_of c.args.schema) m _ _ _ _ c.in_ok-read_elements.ensures there (c.new.ensures.writes c.args.table.now) defined
+
+pub map_value-returns-in_err-read_entries : goal.map_value-returns-in_err-read_entries
+map_value-returns-in_err-read_entries g t c =
+    λ k m there there_2. let whole = map_value_err (schema_of c.args.schema) k m _ _ _ _ _ c.in_err-read_entries.ensures there there_2 (c.new.ensures.writes c.args.table.now) in search rules
+
+pub map_value-returns : goal.map_value-returns
+map_value-returns g t c =
+    let defined = subst (λ u. AreDefined u c.read_entries.new.consumer.writes) (ap (λ p. p.0) c.in_ok-read_entries.ensures.kept) c.read_entries.new.consumer.defined in
+    λ k m there there_2. map_value (schema_of c.args.schema) k m _ _ _ _ c.in_ok-read_entries.ensures there there_2 (c.new.ensures.writes c.args.table.now) defined
+
+pub structure_value-returns-in_err-read_members : goal.structure_value-returns-in_err-read_members
+structure_value-returns-in_err-read_members g t c =
+    let all = rw c.shape_of.ensures at c.in_err-read_members.ensures in
+    let whole = structure_value_err (schema_of c.args.schema) _ _ _ _ _ all (sym c.requires) (c.new.ensures.writes c.args.table.now) in search rules
+
+pub structure_value-returns : goal.structure_value-returns
+structure_value-returns g t c =
+    let all = rw c.shape_of.ensures at c.in_ok-read_members.ensures in
+    let defined = subst (λ u. AreDefined u c.read_members.new.consumer.writes) c.in_ok-read_members.ensures.kept c.read_members.new.consumer.defined in
+    structure_value (schema_of c.args.schema) _ _ _ _ _ all (sym c.requires) (c.new.ensures.writes c.args.table.now) c.in_ok-in_index_order.ensures.order (c.in_ok-in_index_order.ensures.defined c.args.table.now defined)
+
+pub read_value-list_value-requires : goal.read_value-list_value-requires
+read_value-list_value-requires g t c =
     let p = rw c.in-List.is at c.plan_of.ensures in
-    record { has_node = has_node_at c.args.table.now c.args.node.0 _ _ _ c.in-Some.ensures.node p.1; defined = c.new.ensures.defined c.args.table.now }
+    let element = has_node_at c.args.table.now c.args.node.0 _ _ _ c.in-Some.ensures.node p.1 in search rules
 
-pub read_value-invariant_of-builder-in-Map : goal.read_value-invariant_of-builder-in-Map
-read_value-invariant_of-builder-in-Map g t c =
-    let p = rw c.in-Map.is at c.plan_of.ensures in
-    record { has_key = has_node_at c.args.table.now c.args.node.0 _ _ _ c.in-Some.ensures.node p.2; has_value = has_node_at c.args.table.now c.args.node.0 _ _ _ c.in-Some.ensures.node p.3; defined = c.new-in-Map.ensures.defined c.args.table.now }
-
-pub read_value-returns-in_err-read_elements-in-List : goal.read_value-returns-in_err-read_elements-in-List
-read_value-returns-in_err-read_elements-in-List g t c =
+pub read_value-returns-in-List : goal.read_value-returns-in-List
+read_value-returns-in-List g t c =
     let at : AtNode (schema_of c.in-Some.schema) (g.D.ShapeDeserializer.at_hand c.args.reader.now).held c.shape_type-kind.result c.is_null.result c.reads_null.result
     = record { same = c.shape_type-kind.ensures; told = c.is_null.ensures; is = c.reads_null.ensures } in
     let p = rw c.in-List.is at c.plan_of.ensures in
-    let whole = value_list_err c.args.table.now c.args.node.0 _ _ _ _ c.in-List.element _ _ _ _ _ c.in-Some.ensures.node at c.if-reads_null.false p c.in_err-read_elements-in-List.ensures refl refl (c.new.ensures.writes c.args.table.now) in search rules
+    value_planned c.args.table.now c.args.node.0 _ _ _ _ _ _ _ _ c.in-Some.ensures.node at c.if-reads_null.false p.2
+    (c.list_value.ensures p.0 (placed_here c.args.table.now c.args.node.0 _ _ _ c.in-Some.ensures.node p.1))
 
-pub read_value-returns-in_ok-read_elements-in-List : goal.read_value-returns-in_ok-read_elements-in-List
-read_value-returns-in_ok-read_elements-in-List g t c =
-    let at : AtNode (schema_of c.in-Some.schema) (g.D.ShapeDeserializer.at_hand c.args.reader.now).held c.shape_type-kind.result c.is_null.result c.reads_null.result
-    = record { same = c.shape_type-kind.ensures; told = c.is_null.ensures; is = c.reads_null.ensures } in
-    let p = rw c.in-List.is at c.plan_of.ensures in
-    value_list c.args.table.now c.args.node.0 _ _ _ _ c.in-List.element _ _ _ _ c.in-Some.ensures.node at c.if-reads_null.false p c.in_ok-read_elements-in-List.ensures refl refl (c.new.ensures.writes c.args.table.now)
-    (subst (λ u. AreDefined u c.read_elements.new.consumer.writes) (ap (λ p. p.0) c.in_ok-read_elements-in-List.ensures.kept) c.read_elements.new.consumer.defined)
+pub read_value-map_value-requires : goal.read_value-map_value-requires
+read_value-map_value-requires g t c =
+    let p = rw c.in-Map.is at c.plan_of.ensures in
+    let key = has_node_at c.args.table.now c.args.node.0 _ _ _ c.in-Some.ensures.node p.2 in
+    let value = has_node_at c.args.table.now c.args.node.0 _ _ _ c.in-Some.ensures.node p.3 in search rules
 
-pub read_value-returns-in_err-read_entries-in-Map : goal.read_value-returns-in_err-read_entries-in-Map
-read_value-returns-in_err-read_entries-in-Map g t c =
+pub read_value-returns-in-Map : goal.read_value-returns-in-Map
+read_value-returns-in-Map g t c =
     let at : AtNode (schema_of c.in-Some.schema) (g.D.ShapeDeserializer.at_hand c.args.reader.now).held c.shape_type-kind.result c.is_null.result c.reads_null.result
     = record { same = c.shape_type-kind.ensures; told = c.is_null.ensures; is = c.reads_null.ensures } in
     let p = rw c.in-Map.is at c.plan_of.ensures in
-    let whole = value_map_err c.args.table.now c.args.node.0 _ _ _ _ c.in-Map.key c.in-Map.value _ _ _ _ _ c.in-Some.ensures.node at c.if-reads_null.false p c.in_err-read_entries-in-Map.ensures refl refl refl (c.new-in-Map.ensures.writes c.args.table.now) in search rules
+    value_planned c.args.table.now c.args.node.0 _ _ _ _ _ _ _ _ c.in-Some.ensures.node at c.if-reads_null.false p.4
+    (c.map_value.ensures p.0 p.1 (placed_here c.args.table.now c.args.node.0 _ _ _ c.in-Some.ensures.node p.2) (placed_here c.args.table.now c.args.node.0 _ _ _ c.in-Some.ensures.node p.3))
 
-pub read_value-returns-in_ok-read_entries-in-Map : goal.read_value-returns-in_ok-read_entries-in-Map
-read_value-returns-in_ok-read_entries-in-Map g t c =
-    let at : AtNode (schema_of c.in-Some.schema) (g.D.ShapeDeserializer.at_hand c.args.reader.now).held c.shape_type-kind.result c.is_null.result c.reads_null.result
-    = record { same = c.shape_type-kind.ensures; told = c.is_null.ensures; is = c.reads_null.ensures } in
-    let p = rw c.in-Map.is at c.plan_of.ensures in
-    value_map c.args.table.now c.args.node.0 _ _ _ _ c.in-Map.key c.in-Map.value _ _ _ _ c.in-Some.ensures.node at c.if-reads_null.false p c.in_ok-read_entries-in-Map.ensures refl refl refl (c.new-in-Map.ensures.writes c.args.table.now)
-    (subst (λ u. AreDefined u c.read_entries.new.consumer.writes) (ap (λ p. p.0) c.in_ok-read_entries-in-Map.ensures.kept) c.read_entries.new.consumer.defined)
+pub read_value-structure_value-requires : goal.read_value-structure_value-requires
+read_value-structure_value-requires g t c = let table = at_place_table c.args.table.now c.args.node.0 _ (sym c.in-Some.ensures.node) in search rules
 
-pub read_value-returns-in_err-read_members-in-Structure : goal.read_value-returns-in_err-read_members-in-Structure
-read_value-returns-in_err-read_members-in-Structure g t c =
+pub read_value-returns-in-Structure : goal.read_value-returns-in-Structure
+read_value-returns-in-Structure g t c =
     let at : AtNode (schema_of c.in-Some.schema) (g.D.ShapeDeserializer.at_hand c.args.reader.now).held c.shape_type-kind.result c.is_null.result c.reads_null.result
     = record { same = c.shape_type-kind.ensures; told = c.is_null.ensures; is = c.reads_null.ensures } in
     let p = rw c.in-Structure.is at c.plan_of.ensures in
-    let all = rw c.shape_of.ensures at c.in_err-read_members-in-Structure.ensures in
-    let whole = value_structure_err c.args.table.now c.args.node.0 _ _ _ _ _ _ _ _ _ c.in-Some.ensures.node at c.if-reads_null.false p all refl (c.new-in-Structure.ensures.writes c.args.table.now) in search rules
-
-pub read_value-returns-in_ok-in_index_order-in-Structure : goal.read_value-returns-in_ok-in_index_order-in-Structure
-read_value-returns-in_ok-in_index_order-in-Structure g t c =
-    let at : AtNode (schema_of c.in-Some.schema) (g.D.ShapeDeserializer.at_hand c.args.reader.now).held c.shape_type-kind.result c.is_null.result c.reads_null.result
-    = record { same = c.shape_type-kind.ensures; told = c.is_null.ensures; is = c.reads_null.ensures } in
-    let p = rw c.in-Structure.is at c.plan_of.ensures in
-    let all = rw c.shape_of.ensures at c.in_ok-read_members-in-Structure.ensures in
-    let defined = subst (λ u. AreDefined u c.read_members.new.consumer.writes) c.in_ok-read_members-in-Structure.ensures.kept c.read_members.new.consumer.defined in
-    value_structure c.args.table.now c.args.node.0 _ _ _ _ _ _ _ _ _ c.in-Some.ensures.node at c.if-reads_null.false p all refl (c.new-in-Structure.ensures.writes c.args.table.now) c.in_ok-in_index_order-in-Structure.ensures.order (c.in_ok-in_index_order-in-Structure.ensures.defined c.args.table.now defined)
+    value_planned c.args.table.now c.args.node.0 _ _ _ _ _ _ _ _ c.in-Some.ensures.node at c.if-reads_null.false p c.structure_value.ensures

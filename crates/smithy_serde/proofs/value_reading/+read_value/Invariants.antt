@@ -7,13 +7,13 @@ use Rattle.smithy_serde.proofs.ReadWalk.{Walking, still_left}
 use Rattle.smithy_serde.proofs.value_reading.+read_value.Given as goal
 
 abbrev pub decreases-ListBuilderElementConsumer::element : goal.decreases-ListBuilderElementConsumer::element
-decreases-ListBuilderElementConsumer::element g l = 4 * (g.D.ShapeDeserializer.at_hand l.reader.now).levels + 2
+decreases-ListBuilderElementConsumer::element g l = 4 * (g.D.ShapeDeserializer.at_hand l.reader.now).levels + 3
 
 abbrev pub decreases-MapBuilderEntryConsumer::entry : goal.decreases-MapBuilderEntryConsumer::entry
-decreases-MapBuilderEntryConsumer::entry g l = 4 * (g.D.ShapeDeserializer.at_hand l.reader.now).levels + 2
+decreases-MapBuilderEntryConsumer::entry g l = 4 * (g.D.ShapeDeserializer.at_hand l.reader.now).levels + 3
 
 abbrev pub decreases-StructBuilderMemberConsumer::member : goal.decreases-StructBuilderMemberConsumer::member
-decreases-StructBuilderMemberConsumer::member g l = 4 * (g.D.ShapeDeserializer.at_hand l.reader.now).levels + 2
+decreases-StructBuilderMemberConsumer::member g l = 4 * (g.D.ShapeDeserializer.at_hand l.reader.now).levels + 3
 
 abbrev pub decreases-read_elements : goal.decreases-read_elements
 decreases-read_elements g l = 4 * (g.D.ShapeDeserializer.at_hand l.reader.now).levels
@@ -25,7 +25,16 @@ abbrev pub decreases-read_members : goal.decreases-read_members
 decreases-read_members g l = 4 * (g.D.ShapeDeserializer.at_hand l.reader.now).levels
 
 abbrev pub decreases-read_value : goal.decreases-read_value
-decreases-read_value g l = 4 * (g.D.ShapeDeserializer.at_hand l.reader.now).levels + 1
+decreases-read_value g l = 4 * (g.D.ShapeDeserializer.at_hand l.reader.now).levels + 2
+
+abbrev pub decreases-list_value : goal.decreases-list_value
+decreases-list_value g l = 4 * (g.D.ShapeDeserializer.at_hand l.reader.now).levels + 1
+
+abbrev pub decreases-map_value : goal.decreases-map_value
+decreases-map_value g l = 4 * (g.D.ShapeDeserializer.at_hand l.reader.now).levels + 1
+
+abbrev pub decreases-structure_value : goal.decreases-structure_value
+decreases-structure_value g l = 4 * (g.D.ShapeDeserializer.at_hand l.reader.now).levels + 1
 
 abbrev pub invariant-read_elements-loop-consumer : goal.invariant-read_elements-loop-consumer
 invariant-read_elements-loop-consumer g l =
