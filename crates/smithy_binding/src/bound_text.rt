@@ -1,5 +1,5 @@
 // The text of a value where its member is bound (Smithy, HTTP protocol bindings; timestampFormat, mediaType).
-ghost use Rattle.std.specs.Prelude.{◌≡◌, IfOk, IfErr, None, Some, false, is_some};
+ghost use Rattle.std.specs.Prelude.{◌≡◌, IfOk, IfErr, Some, false, is_some};
 ghost use Rattle.std.specs.Cow.{cow_str_bytes};
 ghost use Rattle.smithy_schema.specs.Nodes.{Table};
 ghost use Rattle.smithy_schema.specs.References.{schema_of};

@@ -1,5 +1,5 @@
 // The entries of a map in the headers or the query (Smithy, HTTP protocol bindings, httpPrefixHeaders and httpQueryParams).
-ghost use Rattle.std.specs.Prelude.{◌≡◌, ◌∷◌, ◌++◌, [], ℕ, List, IfOk, IfErr, OnOk, None, Some, option_map, option_and_then, string_bytes};
+ghost use Rattle.std.specs.Prelude.{◌≡◌, ◌∷◌, ◌++◌, [], ℕ, List, IfOk, IfErr, OnOk, None, option_map, option_and_then, string_bytes};
 ghost use Rattle.std.specs.Str.{str_to_ascii_lowercase};
 ghost use Rattle.smithy_types.specs.Texts.{is_one_of};
 ghost use Rattle.smithy_schema.specs.Nodes.{Schema, Table, element_of, member_at, to_prefix, to_query_map};

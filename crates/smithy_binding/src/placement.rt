@@ -1,5 +1,5 @@
 // What the writes put into a request, one by one.
-ghost use Rattle.std.specs.Prelude.{◌≡◌, ◌∷◌, ◌++◌, [], IsTrue, IfOk, IfErr, OnOk, Ok, Err, Some, None, true, false, ℕ, length, drop, option_map, slice_index_or, slice_set};
+ghost use Rattle.std.specs.Prelude.{◌≡◌, ◌∷◌, ◌++◌, [], IsTrue, IfOk, IfErr, OnOk, Ok, None, true, false, ℕ, length, drop, option_map, slice_index_or, slice_set};
 ghost use Rattle.std.specs.List.{list_all};
 ghost use Rattle.smithy_schema.specs.Nodes.{Table, element_of, members_of, to_header, binding_of};
 ghost use Rattle.smithy_schema.specs.References.{schema_of};

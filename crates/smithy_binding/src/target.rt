@@ -1,5 +1,5 @@
 // A request target: the template with its holes filled (Smithy, HTTP protocol bindings, httpLabel).
-ghost use Rattle.std.specs.Prelude.{◌≡◌, ◌∷◌, ◌++◌, [], Err, IfOk, IfErr, OnOk, Ok, Some, MatchOption, ℕ, List, true, false, codes, length, map, option_map, string_bytes};
+ghost use Rattle.std.specs.Prelude.{◌≡◌, ◌∷◌, ◌++◌, [], Err, IfOk, IfErr, OnOk, Ok, MatchOption, ℕ, List, true, false, codes, length, map, option_map, string_bytes};
 ghost use Rattle.smithy_types.specs.Texts.{has_byte};
 ghost use Rattle.smithy_types.specs.Results.{then_give};
 ghost use Rattle.smithy_schema.specs.Templates.{pieces};
