@@ -31,7 +31,8 @@ fn number_value(count: u32, place: u32) -> ShapeValue
 // So many numbers.
 fn numbers(alloc: Global, count: u32) -> Result<WriteList, OutOfMemory>
     ensures writes { IfOk result (λ w.
-        writes_in generating.table w ≡ writes_of (map (generating.number_write count) (range_with_len 0 count))) }
+        writes_in generating.table w
+        ≡ writes_of (map (generating.number_write count) (range_with_len 0 count))) }
     ensures defined { IfOk result (λ w. AreDefined generating.table w) }
 {
     let mut writes = WriteList::new(alloc);

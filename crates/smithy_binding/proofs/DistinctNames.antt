@@ -1,15 +1,11 @@
 -- Names that are distinct, from the last one on.
-use Rattle.std.proofs.Common.{◌≡◌, refl, ap, sym, ◌∙◌, subst, ℕ, suc, zero, Bool, true, false, not, cond, ◌&&◌, ◌||◌, List, [], ◌∷◌, drop, map, Option, Some, None, is_some, eq-eqb}
+use Rattle.std.proofs.Common.{◌≡◌, refl, ap, sym, ◌∙◌, ℕ, suc, zero, Bool, true, false, not, cond, ◌||◌, List, [], ◌∷◌, drop, map, Option, Some, None, is_some}
 use Rattle.std.specs.Borrow.{Bor}
 use Rattle.std.specs.Option.{option_copied}
 use Rattle.std.specs.Str.{bytes_eq}
-use Rattle.std.specs.Cmp.Lexicographic.{same_text as same_from_test}
 use Rattle.std.proofs.lemmas.Bool.{and_parts}
 use Rattle.smithy_types.specs.Texts.{are_distinct, is_one_of, same_text}
-
-same_text_self : (text : List ℕ) → same_text text text ≡ true
-same_text_self [] = refl
-same_text_self (b ∷ text) = λ i. eq-eqb b b refl i && same_text_self text i
+use Rattle.smithy_binding.proofs.Tests.{same_text_back}
 
 pub same_text-sym : (a b : List ℕ) → same_text a b ≡ same_text b a
 same_text-sym a b = go (same_text a b) (same_text b a) refl refl
@@ -17,8 +13,8 @@ same_text-sym a b = go (same_text a b) (same_text b a) refl refl
     go : (x y : Bool) → same_text a b ≡ x → same_text b a ≡ y → x ≡ y
     go true true e f = refl
     go false false e f = refl
-    go true false e f = let same : a ≡ b = same_from_test a b (sym e) in let t : true ≡ false = sym (same_text_self b) ∙ subst (λ c. same_text b c ≡ false) same f in absurd (cc t)
-    go false true e f = let same : b ≡ a = same_from_test b a (sym f) in let t : true ≡ false = sym (same_text_self a) ∙ subst (λ c. same_text a c ≡ false) same e in absurd (cc t)
+    go true false e f = let t : true ≡ false = sym (same_text_back a b e) ∙ f in absurd (cc t)
+    go false true e f = let t : true ≡ false = sym (same_text_back b a f) ∙ e in absurd (cc t)
 
 -- one more name is kept
 pub later-more : (rest : List (List ℕ)) (n : List ℕ) (k : ℕ) (before after : List ℕ → Option ℕ) → ((q : List ℕ) → is_some (before q) ≡ is_one_of q rest)

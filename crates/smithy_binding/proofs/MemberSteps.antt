@@ -1,11 +1,22 @@
 -- The members of a schema, a member at a time.
-use Rattle.std.proofs.Common.{◌≡◌, refl, ap, sym, ◌∙◌, ℕ, ◌+◌, Bool, false, List, ◌∷◌, drop, filter_map, slice_get, Option, Some, None, is_some, option_and_then}
-use Rattle.std.specs.List.{list_all}
+use Rattle.std.proofs.Common.{◌≡◌, refl, ap, sym, ◌∙◌, ℕ, ◌+◌, zero, suc, arith, Bool, false, List, [], ◌∷◌, drop, filter_map, slice_get, Option, Some, None, is_some, option_and_then}
+use Rattle.std.specs.List.{list_all, cons_option}
 use Rattle.smithy_schema.specs.Nodes.{Schema, at_place, member_at}
 use Rattle.smithy_binding.proofs.WriteSteps.{drop-some}
 
 abbrev pub members_from : Schema → ℕ → List Schema
 members_from schema i = filter_map (at_place schema.table) (drop i schema.node.members)
+
+-- the one at the position, if there is one, and those behind it
+pub members_from-more : (schema : Schema) (i : ℕ) → members_from schema i ≡ cons_option (member_at schema i) (members_from schema (i + 1))
+members_from-more schema i = go schema.node.members i
+  where
+    go : (ps : List ℕ) (i : ℕ)
+        → filter_map (at_place schema.table) (drop i ps) ≡ cons_option (option_and_then (at_place schema.table) (slice_get ps i)) (filter_map (at_place schema.table) (drop (i + 1) ps))
+    go [] zero = refl
+    go [] (suc i) = let next : suc i + 1 ≡ suc (i + 1) = omega arith in rw next refl
+    go (p ∷ ps) zero = refl
+    go (p ∷ ps) (suc i) = let next : suc i + 1 ≡ suc (i + 1) = omega arith in rw next (go ps i)
 
 abbrev pub are_defined_from : Schema → ℕ → Bool
 are_defined_from schema i = list_all (λ p. is_some (at_place schema.table p)) (drop i schema.node.members)

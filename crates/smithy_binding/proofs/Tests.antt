@@ -20,6 +20,9 @@ pub same_text_self : (text : List ℕ) → same_text text text ≡ true
 same_text_self [] = refl
 same_text_self (b ∷ text) = and_from (b == b) (same_text text text) (eq-eqb b b refl) (same_text_self text)
 
+pub same_text_back : (a b : List ℕ) → same_text a b ≡ true → same_text b a ≡ true
+same_text_back a b e = ap (same_text b) (same_from_test a b (sym e)) ∙ same_text_self b
+
 none_same : (name : List ℕ) (names : List (List ℕ)) → is_one_of name names ≡ false → AllByRecursion (λ other. name ≢ other) names
 none_same name [] e = tt
 none_same name (other ∷ names) e =

@@ -1,8 +1,9 @@
 -- What the first write of a member does to a request so far.
-use Rattle.std.specs.Prelude.{Bool, true, false, ◌&&◌, ◌++◌, Option, None, if◌then◌else◌}
+use Rattle.std.specs.Prelude.{ℕ, Bool, true, false, ◌&&◌, ◌++◌, Option, None, if◌then◌else◌}
 use Rattle.smithy_schema.specs.Nodes.{Schema, Binding, to_header, to_prefix, to_query, to_query_map, to_label, binding_of}
 use Rattle.smithy_serde.specs.Values.{Value, list}
 use Rattle.smithy_serde.specs.Values as value
+use Rattle.smithy_serde.specs.Writes.{Resolved}
 use Rattle.smithy_http.specs.Headers.{put_all}
 use Rattle.smithy_binding.specs.Bindings.{inserted_at, pairs_at, labelled_at, query_names}
 use Rattle.smithy_binding.specs.Checked.{has_bound_kind, has_map_kind}
@@ -37,6 +38,10 @@ takes_map (to_prefix prefix) = true
 takes_map to_query_map = true
 takes_map _ = false
 
+-- a write of the member at a position
+abbrev pub write_of : ℕ → Schema → Value → Resolved
+write_of position m v = record { position = position; member = m; value = v }
+
 -- what it puts, but for its mark
 abbrev pub placed_first : Schema → Schema → Value → Gathered → Gathered
 placed_first schema m v s =
@@ -48,7 +53,7 @@ placed_first schema m v s =
 
 -- its fault, once it fits
 abbrev pub first_fault : Schema → Value → Option Fault
-first_fault m v = if is_placed_at (binding_of m) then bound_fault (record { position = 0; member = m; value = v }) else None
+first_fault m v = if is_placed_at (binding_of m) then bound_fault (write_of 0 m v) else None
 
 -- the value is no list and no map
 abbrev pub IsSingle : Value → Type 0

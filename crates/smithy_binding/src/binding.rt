@@ -25,7 +25,8 @@ pub fn is_placed(binding: Binding<'_>) -> bool
 
 // Whether an unbound member stands at the position.
 fn is_unbound_at(schema: SchemaRef<'_>, position: usize) -> bool
-    ensures { result ≡ option_map_or (λ m. not (bound m)) (member_at (schema_of schema.entry) position) false }
+    ensures { result
+        ≡ option_map_or (λ m. not (bound m)) (member_at (schema_of schema.entry) position) false }
 {
     match schema.member_schema_by_index(position) {
         Some(member) => !is_bound(member),

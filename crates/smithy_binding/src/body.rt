@@ -1,5 +1,5 @@
 // The body of a request: a payload, or the document of the unbound members (Smithy, HTTP protocol bindings).
-ghost use Rattle.std.specs.Prelude.{◌≡◌, None, Some, IfOk, IfErr, IfSome, option_map, unwrap_or, []};
+ghost use Rattle.std.specs.Prelude.{◌≡◌, None, IfOk, IfErr, IfSome, option_map, unwrap_or, []};
 ghost use Rattle.smithy_schema.specs.Nodes.{Table};
 ghost use Rattle.smithy_schema.specs.References.{schema_of};
 ghost use Rattle.smithy_serde.specs.Values.{writes_of, structure};
@@ -10,7 +10,7 @@ ghost use Rattle.smithy_serde.specs.Finishing.{IsTextOf, IsReady};
 ghost use Rattle.smithy_serde.specs.StoredValues.{value_in, IsDefined};
 ghost use Rattle.smithy_binding.specs.Bodies.{raw_bytes as bytes_of_raw, text_of_document, document_by, bytes_by};
 ghost use Rattle.smithy_binding.specs.Faults.{fault_of_document};
-ghost use Rattle.smithy_binding.specs.Refusing.{TellsFault};
+ghost use Rattle.smithy_binding.specs.Refusing.{IsTold};
 ghost use Rattle.smithy_binding.specs.KeptWrites.{value_of, unbound_in, AreDefinedWrites, kept_in, IsKeptDefined};
 
 use crate::body_form::BodyForm;
@@ -29,7 +29,8 @@ fn tell_writes<S: ShapeSerializer>(
     writes: &[BodyWrite<'_, '_>],
 ) -> Result<(), SerdeError>
     requires { AreDefinedWrites table.now writes.now }
-    ensures { Tells (writes_of (unbound_in table.now writes.now)) (S.seen serializer.old) (S.seen serializer.new) result }
+    ensures { Tells (writes_of (unbound_in table.now writes.now))
+        (S.seen serializer.old) (S.seen serializer.new) result }
 {
     for write in writes {
         tell(serializer, write.member, table, write.value)?;
@@ -46,8 +47,10 @@ pub fn text_of_writes<S: FinishSerializer + Drop>(
 ) -> Result<Blob, SerdeError>
     requires defined { AreDefinedWrites table.now writes.now }
     requires ready { IsReady (S.seen serializer) }
-    ensures ok { IfOk result (IsTextOf ((S.seen serializer).text) (structure (writes_of (unbound_in table.now writes.now)))) }
-    ensures err { IfErr result (IsFaultRefusal (document_fault (structure (writes_of (unbound_in table.now writes.now))))) }
+    ensures ok { IfOk result
+        (IsTextOf ((S.seen serializer).text) (structure (writes_of (unbound_in table.now writes.now)))) }
+    ensures err { IfErr result
+        (IsFaultRefusal (document_fault (structure (writes_of (unbound_in table.now writes.now))))) }
 {
     let mut serializer = serializer;
     serializer.open_struct(schema)?;
@@ -69,7 +72,8 @@ fn raw_bytes(value: &ShapeValue) -> &[u8]
 
 // The bytes of a text or blob payload, none where it was not written.
 fn raw_body(alloc: Global, payload: Option<BodyWrite<'_, '_>>) -> Result<Blob, OutOfMemory>
-    ensures { IfOk result (λ b. (t : Table) → b ≡ unwrap_or (option_map bytes_of_raw (option_map (value_of t) payload.entry)) []) }
+    ensures { IfOk result (λ b. (t : Table) →
+        b ≡ unwrap_or (option_map bytes_of_raw (option_map (value_of t) payload.entry)) []) }
 {
     match payload {
         Some(write) => Blob::new(alloc, raw_bytes(write.value)),
@@ -87,8 +91,9 @@ fn payload_body<S: FinishSerializer + Drop>(
     requires defined { IfSome payload (λ w. IsDefined table.now w.value.now) }
     requires ready { IsReady (S.seen serializer) }
     ensures ok { IfOk result (λ _. fault_of_document (option_map (value_of table.now) payload.entry) ≡ None) }
-    ensures bytes { IfOk result (λ b. b ≡ text_of_document ((S.seen serializer).text) (option_map (value_of table.now) payload.entry)) }
-    ensures err { IfErr result (λ e. TellsFault e (λ f. fault_of_document (option_map (value_of table.now) payload.entry) ≡ Some f)) }
+    ensures bytes { IfOk result (λ b.
+        b ≡ text_of_document ((S.seen serializer).text) (option_map (value_of table.now) payload.entry)) }
+    ensures err { IfErr result (IsTold (fault_of_document (option_map (value_of table.now) payload.entry))) }
 {
     match payload {
         Some(write) => value_text(serializer, write.member, table, write.value),
@@ -109,9 +114,12 @@ pub fn request_body<S: FinishSerializer + Drop>(
 ) -> Result<Blob, SerdeError>
     requires defined { IsKeptDefined table.now writes.now }
     requires ready { IsReady (S.seen serializer) }
-    ensures ok { IfOk result (λ _. fault_of_document (document_by form (kept_in table.now writes.now)) ≡ None) }
-    ensures bytes { IfOk result (λ b. b ≡ bytes_by form ((S.seen serializer).text) (kept_in table.now writes.now)) }
-    ensures err { IfErr result (λ e. TellsFault e (λ f. fault_of_document (document_by form (kept_in table.now writes.now)) ≡ Some f)) }
+    ensures ok { IfOk result
+        (λ _. fault_of_document (document_by form (kept_in table.now writes.now)) ≡ None) }
+    ensures bytes { IfOk result
+        (λ b. b ≡ bytes_by form ((S.seen serializer).text) (kept_in table.now writes.now)) }
+    ensures err { IfErr result
+        (IsTold (fault_of_document (document_by form (kept_in table.now writes.now)))) }
 {
     match form {
         BodyForm::Raw => Ok(raw_body(alloc, writes.payload)?),

@@ -83,7 +83,8 @@ fn part_of(member: SchemaRef<'_>) -> BodyPart
 
 fn part_at(schema: SchemaRef<'_>, position: usize) -> BodyPart
     ensures payload { result.payload ≡ kind_if_payload (member_at (schema_of schema.entry) position) }
-    ensures unbound { result.is_unbound ≡ option_map_or (λ m. not (is_bound m)) (member_at (schema_of schema.entry) position) false }
+    ensures unbound { result.is_unbound
+        ≡ option_map_or (λ m. not (is_bound m)) (member_at (schema_of schema.entry) position) false }
 {
     match schema.member_schema_by_index(position) {
         Some(member) => part_of(member),

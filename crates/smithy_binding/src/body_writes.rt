@@ -45,8 +45,10 @@ impl<'t, 'w> BodyWrites<'t, 'w> {
         binding: Binding<'_>,
         value: &'w ShapeValue,
     ) -> Result<(), OutOfMemory>
-        ensures kept { OnOk result ((t : Table) → kept_in t self.new ≡ kept_at (binding_shown binding.entry) (schema_of member.entry) (value_in t value.now) (kept_in t self.old)) }
-        ensures defined { OnOk result ((t : Table) → IsKeptDefined t self.old → IsDefined t value.now → IsKeptDefined t self.new) }
+        ensures kept { OnOk result ((t : Table) → kept_in t self.new ≡ kept_at (binding_shown binding.entry)
+            (schema_of member.entry) (value_in t value.now) (kept_in t self.old)) }
+        ensures defined { OnOk result
+            ((t : Table) → IsKeptDefined t self.old → IsDefined t value.now → IsKeptDefined t self.new) }
     {
         match binding {
             Binding::Body => {

@@ -1,5 +1,5 @@
 // The text of a value where its member is bound (Smithy, HTTP protocol bindings; timestampFormat, mediaType).
-ghost use Rattle.std.specs.Prelude.{◌≡◌, IfOk, IfErr, None, Some, false, is_some};
+ghost use Rattle.std.specs.Prelude.{◌≡◌, IfOk, IfErr, Some, false, is_some};
 ghost use Rattle.std.specs.Cow.{cow_str_bytes};
 ghost use Rattle.smithy_schema.specs.Nodes.{Table};
 ghost use Rattle.smithy_schema.specs.References.{schema_of};
@@ -7,8 +7,8 @@ ghost use Rattle.smithy_schema.specs.ShownBindings.{binding_shown};
 ghost use Rattle.smithy_serde.specs.StoredValues.{value_in, label_at};
 ghost use Rattle.smithy_strings.specs.Wire.{wire};
 ghost use Rattle.smithy_binding.specs.Bindings.{place_at, member_text, element_text as element};
-ghost use Rattle.smithy_binding.specs.Faults.{no_year as no_year_fault};
-ghost use Rattle.smithy_binding.specs.Refusing.{TellsFault};
+ghost use Rattle.smithy_binding.specs.Refusing.{LacksYear};
+ghost use Rattle.smithy_binding.specs.Seen.{write_at};
 
 use crate::refusal::no_year;
 use smithy_ids::TimestampFormat;
@@ -54,8 +54,10 @@ fn text_or_no_year<'w>(
     place: Place,
     value: &'w ShapeValue,
 ) -> Result<CowStr<'w, Global>, SerdeError>
-    ensures ok { IfOk result (λ s. (t : Table) → wire format has_media_type place (value_in t value.now) ≡ Some (cow_str_bytes s)) }
-    ensures err { IfErr result (λ e. (t : Table) → TellsFault e (λ f. (f ≡ no_year_fault) × (wire format has_media_type place (value_in t value.now) ≡ None))) }
+    ensures ok { IfOk result (λ s. (t : Table) →
+        wire format has_media_type place (value_in t value.now) ≡ Some (cow_str_bytes s)) }
+    ensures err { IfErr result
+        (λ e. (t : Table) → LacksYear (wire format has_media_type place (value_in t value.now)) e) }
 {
     match text_or_none(alloc, format, has_media_type, place, value)? {
         Some(text) => Ok(text),
@@ -72,8 +74,10 @@ pub fn text_of<'w>(
     place: Place,
     value: &'w ShapeValue,
 ) -> Result<CowStr<'w, Global>, SerdeError>
-    ensures ok { IfOk result (λ s. (t : Table) → member_text place (schema_of member.entry) (value_in t value.now) ≡ Some (cow_str_bytes s)) }
-    ensures err { IfErr result (λ e. (t : Table) → TellsFault e (λ f. (f ≡ no_year_fault) × (member_text place (schema_of member.entry) (value_in t value.now) ≡ None))) }
+    ensures ok { IfOk result (λ s. (t : Table) →
+        member_text place (schema_of member.entry) (value_in t value.now) ≡ Some (cow_str_bytes s)) }
+    ensures err { IfErr result
+        (λ e. (t : Table) → LacksYear (member_text place (schema_of member.entry) (value_in t value.now)) e) }
 {
     text_or_no_year(
         alloc,
@@ -93,8 +97,9 @@ pub fn element_text<'w>(
     node: SchemaIndex,
     value: &'w ShapeValue,
 ) -> Result<CowStr<'w, Global>, SerdeError>
-    ensures ok { IfOk result (λ s. element place (record { label = label_at table.now node.0; value = value_in table.now value.now }) ≡ Some (cow_str_bytes s)) }
-    ensures err { IfErr result (λ e. TellsFault e (λ f. (f ≡ no_year_fault) × (element place (record { label = label_at table.now node.0; value = value_in table.now value.now }) ≡ None))) }
+    ensures ok { IfOk result
+        (λ s. element place (write_at table.now node.0 value.now) ≡ Some (cow_str_bytes s)) }
+    ensures err { IfErr result (LacksYear (element place (write_at table.now node.0 value.now))) }
 {
     text_or_no_year(alloc, format_at(table, node), false, place, value)
 }

@@ -93,7 +93,8 @@ fn are_checked<'t>(
     members: &[SchemaRef<'t>],
 ) -> Result<bool, AllocError>
     requires { shown members.now ≡ members_of (schema_of schema) }
-    ensures { IfOk result (λ b. b ≡ (sound (schema_of schema.entry) (members_of (schema_of schema.entry)) && has_sound_names (schema_of schema.entry) && has_sound_http (schema_of schema.entry))) }
+    ensures { IfOk result (λ b. b ≡ (sound (schema_of schema.entry) (members_of (schema_of schema.entry))
+        && has_sound_names (schema_of schema.entry) && has_sound_http (schema_of schema.entry))) }
 {
     if !are_sound(schema, members) {
         return Ok(false);

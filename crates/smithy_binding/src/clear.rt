@@ -117,7 +117,8 @@ fn names_once<'t>(
     alloc: Global,
     holes: &[CutHole<'t>],
 ) -> Result<BTreeMap<&'t str, bool>, AllocError>
-    ensures { IfOk result (λ m. (name : List ℕ) → mark_in m name ≡ once_mark (times_named name (map hole_shown holes.now))) }
+    ensures { IfOk result
+        (λ m. (name : List ℕ) → mark_in m name ≡ once_mark (times_named name (map hole_shown holes.now))) }
 {
     let mut once = BTreeMap::new(alloc);
     for hole in holes {
@@ -152,7 +153,8 @@ pub fn have_one_hole<'t>(
     template: &CutTemplate<'t>,
     names: &[&'t str],
 ) -> Result<bool, AllocError>
-    ensures { IfOk result (λ b. b ≡ list_all (λ name. length (holes_named name.now (template_shown template.now)) == 1) names.now) }
+    ensures { IfOk result (λ b.
+        b ≡ list_all (λ name. length (holes_named name.now (template_shown template.now)) == 1) names.now) }
 {
     let once = names_once(alloc, template.holes.as_slice())?;
     Ok(are_once(&once, names))
@@ -166,14 +168,16 @@ fn hole_count(template: &CutTemplate<'_>) -> usize
 
 // With `a` in each hole it is a legal target, and the holes are whole segments of its path.
 fn is_clear_path(template: &CutTemplate<'_>, filled: &str) -> bool
-    ensures { let shown = template_shown template.now in result ≡ (is_legal_target filled.now && whole_test shown.first shown.rest && authority_test shown) }
+    ensures { let shown = template_shown template.now in
+        result ≡ (is_legal_target filled.now && whole_test shown.first shown.rest && authority_test shown) }
 {
     legal_target(filled) && are_whole_segments(template) && has_whole_authority(template)
 }
 
 // Of the label names `have_one` says whether each is that of one hole; there is no other hole, and only the last is greedy.
 fn are_clear_holes(template: &CutTemplate<'_>, have_one: bool, count: usize) -> bool
-    ensures { let holes = holes_of (template_shown template.now) in result ≡ (have_one && (length holes == count) && greedy_test holes) }
+    ensures { let holes = holes_of (template_shown template.now) in
+        result ≡ (have_one && (length holes == count) && greedy_test holes) }
 {
     have_one && hole_count(template) == count && is_greedy_last(template)
 }

@@ -29,7 +29,8 @@ impl<C: Codec> ClientProtocolInner for HttpBindingProtocol<C> {
 
     ghost takes = { λ p schema. IsTrue (checked_input schema) × C.lawful (codec_of p) };
 
-    ghost answers = { λ p schema ws endpoint omit result. Answers result (answer (protocol_of C.text p) schema (list_of ws) endpoint (omit_of omit)) };
+    ghost answers = { λ p schema ws endpoint omit result. Answers result
+        (answer (protocol_of C.text p) schema (list_of ws) endpoint (omit_of omit)) };
 
     ghost points = { λ _ old endpoint prefix new result. IsPointed old endpoint prefix new result };
 

@@ -53,7 +53,8 @@ fn add_length(
     is_wanted: bool,
     length: usize,
 ) -> Result<(), OutOfMemory>
-    ensures { OnOk result (headers.new ≡ with_default is_wanted (codes "content-length") (decimal length) headers.old) }
+    ensures { OnOk result
+        (headers.new ≡ with_default is_wanted (codes "content-length") (decimal length) headers.old) }
 {
     if !is_wanted {
         return Ok(());
@@ -73,7 +74,8 @@ pub fn add_defaults(
     omit: OmitFlags,
 ) -> Result<(), OutOfMemory>
     requires { IsTrue (is_header_value content_type.now) }
-    ensures { OnOk result (headers.new ≡ with_defaults content_type.now is_codec length (omit_of omit) headers.old) }
+    ensures { OnOk result
+        (headers.new ≡ with_defaults content_type.now is_codec length (omit_of omit) headers.old) }
 {
     let wants_type = is_codec && !omit.content_type;
     add_default(headers, wants_type, "content-type", content_type)?;

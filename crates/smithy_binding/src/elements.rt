@@ -9,8 +9,7 @@ ghost use Rattle.smithy_strings.specs.Lists.{listed};
 ghost use Rattle.smithy_strings.specs.declared.wire.Place.TheVariants as at;
 ghost use Rattle.smithy_binding.specs.Bindings.{element_text as element, kind_or_none, pairs_with};
 ghost use Rattle.smithy_binding.specs.Faults.{element_fault};
-ghost use Rattle.smithy_binding.specs.Faults.{no_year as no_year_fault};
-ghost use Rattle.smithy_binding.specs.Refusing.{TellsFault};
+ghost use Rattle.smithy_binding.specs.Refusing.{IsTold, LacksYear};
 ghost use Rattle.smithy_binding.specs.TargetParts.{queries};
 
 use crate::bound_text::element_text;
@@ -48,8 +47,10 @@ pub fn test_elements(
     kind: ShapeType,
     elements: &WriteList,
 ) -> Result<(), SerdeError>
-    ensures ok { OnOk result (element_fault (schema_of member.entry) kind (writes_in table.now elements.now) ≡ None) }
-    ensures err { IfErr result (λ e. TellsFault e (λ f. element_fault (schema_of member.entry) kind (writes_in table.now elements.now) ≡ Some f)) }
+    ensures ok { OnOk result
+        (element_fault (schema_of member.entry) kind (writes_in table.now elements.now) ≡ None) }
+    ensures err { IfErr result
+        (IsTold (element_fault (schema_of member.entry) kind (writes_in table.now elements.now))) }
 {
     for (_, value) in elements.iter() {
         if !value.fits(kind) {
@@ -67,8 +68,10 @@ pub fn listed_text(
     kind: ShapeType,
     elements: &WriteList,
 ) -> Result<Text, SerdeError>
-    ensures ok { IfOk result (λ s. option_map (listed kind) (each (element at.Header) (list_of (writes_in table.now elements.now))) ≡ Some s) }
-    ensures err { IfErr result (λ e. TellsFault e (λ f. (f ≡ no_year_fault) × (each (element at.Header) (list_of (writes_in table.now elements.now)) ≡ None))) }
+    ensures ok { IfOk result (λ s. option_map (listed kind)
+        (each (element at.Header) (list_of (writes_in table.now elements.now))) ≡ Some s) }
+    ensures err { IfErr result
+        (LacksYear (each (element at.Header) (list_of (writes_in table.now elements.now)))) }
 {
     let mut list = String::new(alloc);
     let mut is_first = true;
@@ -89,8 +92,12 @@ pub fn push_elements(
     name: &str,
     elements: &WriteList,
 ) -> Result<(), SerdeError>
-    ensures ok { OnOk result (option_map (λ texts. string_bytes query.old ++ queries (pairs_with name.now texts)) (each (element at.Query) (list_of (writes_in table.now elements.now))) ≡ Some (string_bytes query.new)) }
-    ensures err { IfErr result (λ e. TellsFault e (λ f. (f ≡ no_year_fault) × (each (element at.Query) (list_of (writes_in table.now elements.now)) ≡ None))) }
+    ensures ok { OnOk result
+        (option_map (λ texts. string_bytes query.old ++ queries (pairs_with name.now texts))
+        (each (element at.Query) (list_of (writes_in table.now elements.now)))
+        ≡ Some (string_bytes query.new)) }
+    ensures err { IfErr result
+        (LacksYear (each (element at.Query) (list_of (writes_in table.now elements.now)))) }
 {
     for (node, value) in elements.iter() {
         let text = element_text(alloc, table, Place::Query, node, value)?;

@@ -37,7 +37,8 @@ pub fn apply_http_endpoint(
 
 // The target was not joined to the endpoint of this URL.
 fn not_applied(alloc: Global, url: &str, refusal: HttpError) -> SerdeError
-    ensures { TellsFault result (λ f. (refusal ≢ HttpError.OutOfMemory) × (f ≡ endpoint_fault url.now refusal)) }
+    ensures { TellsFault result
+        (λ f. (refusal ≢ HttpError.OutOfMemory) × (f ≡ endpoint_fault url.now refusal)) }
 {
     if let HttpError::OutOfMemory = refusal {
         return SerdeError::OutOfMemory;

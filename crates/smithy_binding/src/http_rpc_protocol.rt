@@ -40,7 +40,8 @@ impl<C> Model for HttpRpcProtocol<C> {
 
     ghost Value = { rpc.Parts C };
 
-    ghost view = { λ p. record { protocol_id = p.protocol_id; codec = p.codec; content_type = p.content_type.now } };
+    ghost view = { λ p.
+        record { protocol_id = p.protocol_id; codec = p.codec; content_type = p.content_type.now } };
 
     ghost invariant = { λ p. IsTrue (is_header_value p.content_type.now) };
 }
@@ -54,7 +55,8 @@ impl<C> HttpRpcProtocol<C> {
     /// stand as a header's value (RFC 7230, section 3.2). Takes no memory.
     pub fn new(protocol_id: ShapeId<'static>, codec: C, content_type: &'static str) -> Self
         requires { IsTrue (is_header_value content_type.now) }
-        ensures { result ≡ record { protocol_id = protocol_id.entry; codec = codec; content_type = content_type.now } }
+        ensures { result
+            ≡ record { protocol_id = protocol_id.entry; codec = codec; content_type = content_type.now } }
     {
         HttpRpcProtocol {
             protocol_id,
@@ -174,8 +176,10 @@ fn stored_text<S: FinishSerializer + Drop>(
 ) -> Result<Blob, SerdeError>
     requires defined { AreDefined table.now writes.now }
     requires ready { IsReady (S.seen serializer) }
-    ensures ok { IfOk result (IsTextOf ((S.seen serializer).text) (structure (writes_in table.now writes.now))) }
-    ensures err { IfErr result (IsFaultRefusal (document_fault (structure (writes_in table.now writes.now)))) }
+    ensures ok { IfOk result
+        (IsTextOf ((S.seen serializer).text) (structure (writes_in table.now writes.now))) }
+    ensures err { IfErr result
+        (IsFaultRefusal (document_fault (structure (writes_in table.now writes.now)))) }
 {
     let each = each_write(alloc, table, writes)?;
     text_of_writes(serializer, schema, table, each.as_slice())
@@ -188,7 +192,8 @@ fn each_write<'t, 'w>(
     writes: &'w WriteList,
 ) -> Result<Vec<BodyWrite<'t, 'w>>, AllocError>
     requires { AreDefined table.now writes.now }
-    ensures writes { IfOk result (λ each. unbound_in table.now each.items ≡ list_of (writes_in table.now writes.now)) }
+    ensures writes { IfOk result
+        (λ each. unbound_in table.now each.items ≡ list_of (writes_in table.now writes.now)) }
     ensures defined { IfOk result (λ each. AreDefinedWrites table.now each.items) }
 {
     let mut each = Vec::new(alloc);

@@ -1,5 +1,5 @@
 // The entries of a map in the headers or the query (Smithy, HTTP protocol bindings, httpPrefixHeaders and httpQueryParams).
-ghost use Rattle.std.specs.Prelude.{◌≡◌, ◌∷◌, ◌++◌, [], ℕ, List, IfOk, IfErr, OnOk, None, Some, option_map, option_and_then, string_bytes};
+ghost use Rattle.std.specs.Prelude.{◌≡◌, ◌∷◌, ◌++◌, [], ℕ, List, IfOk, IfErr, OnOk, None, option_map, option_and_then, string_bytes};
 ghost use Rattle.std.specs.Str.{str_to_ascii_lowercase};
 ghost use Rattle.smithy_types.specs.Texts.{is_one_of};
 ghost use Rattle.smithy_schema.specs.Nodes.{Schema, Table, element_of, member_at, to_prefix, to_query_map};
@@ -10,7 +10,7 @@ ghost use Rattle.smithy_http.specs.Headers.{put_all};
 ghost use Rattle.smithy_binding.specs.Bindings.{inserted_at, entry_pairs, pairs_at, query_names as names_of_queries};
 ghost use Rattle.smithy_binding.specs.Entries.{text_at as text_in, pairs_at_place, has_key, unnamed};
 ghost use Rattle.smithy_binding.specs.Faults.{nested_fault, part_fault, item_fault, value_fault, pairs_fault, ends_with_value as ends_whole};
-ghost use Rattle.smithy_binding.specs.Refusing.{TellsFault};
+ghost use Rattle.smithy_binding.specs.Refusing.{IsTold};
 ghost use Rattle.smithy_binding.specs.TargetParts.{queries};
 
 use crate::binding::member_count;
@@ -45,8 +45,10 @@ fn test_nested(
     node: Option<SchemaRef<'_>>,
     value: &ShapeValue,
 ) -> Result<(), SerdeError>
-    ensures ok { OnOk result (nested_fault (schema_of member.entry) (option_map schema_of node.entry) (value_in table.now value.now) ≡ None) }
-    ensures err { IfErr result (λ e. TellsFault e (λ f. nested_fault (schema_of member.entry) (option_map schema_of node.entry) (value_in table.now value.now) ≡ Some f)) }
+    ensures ok { OnOk result (nested_fault (schema_of member.entry)
+        (option_map schema_of node.entry) (value_in table.now value.now) ≡ None) }
+    ensures err { IfErr result (IsTold (nested_fault (schema_of member.entry)
+        (option_map schema_of node.entry) (value_in table.now value.now))) }
 {
     match value {
         ShapeValue::List(elements) => {
@@ -65,8 +67,10 @@ fn test_part(
     node: Option<SchemaRef<'_>>,
     value: &ShapeValue,
 ) -> Result<(), SerdeError>
-    ensures ok { OnOk result (part_fault (schema_of member.entry) (option_map schema_of node.entry) (value_in table.now value.now) ≡ None) }
-    ensures err { IfErr result (λ e. TellsFault e (λ f. part_fault (schema_of member.entry) (option_map schema_of node.entry) (value_in table.now value.now) ≡ Some f)) }
+    ensures ok { OnOk result (part_fault (schema_of member.entry)
+        (option_map schema_of node.entry) (value_in table.now value.now) ≡ None) }
+    ensures err { IfErr result (IsTold (part_fault (schema_of member.entry)
+        (option_map schema_of node.entry) (value_in table.now value.now))) }
 {
     let kind = kind_of(node);
     if !value.fits(kind) {
@@ -83,8 +87,10 @@ pub fn test_entries(
     member: SchemaRef<'_>,
     entries: &WriteList,
 ) -> Result<(), SerdeError>
-    ensures ok { OnOk result (item_fault (schema_of member.entry) (map (writes_in table.now entries.now)) ≡ None) }
-    ensures err { IfErr result (λ e. TellsFault e (λ f. item_fault (schema_of member.entry) (map (writes_in table.now entries.now)) ≡ Some f)) }
+    ensures ok { OnOk result
+        (item_fault (schema_of member.entry) (map (writes_in table.now entries.now)) ≡ None) }
+    ensures err { IfErr result
+        (IsTold (item_fault (schema_of member.entry) (map (writes_in table.now entries.now)))) }
 {
     let mut node = member.key();
     let mut next = member.value();
@@ -112,8 +118,10 @@ pub fn test_map(
     member: SchemaRef<'_>,
     entries: &WriteList,
 ) -> Result<(), SerdeError>
-    ensures ok { OnOk result (value_fault (schema_of member.entry) (map (writes_in table.now entries.now)) ≡ None) }
-    ensures err { IfErr result (λ e. TellsFault e (λ f. value_fault (schema_of member.entry) (map (writes_in table.now entries.now)) ≡ Some f)) }
+    ensures ok { OnOk result
+        (value_fault (schema_of member.entry) (map (writes_in table.now entries.now)) ≡ None) }
+    ensures err { IfErr result
+        (IsTold (value_fault (schema_of member.entry) (map (writes_in table.now entries.now)))) }
 {
     test_entries(alloc, table, member, entries)?;
     if !ends_with_value(entries) {
@@ -152,9 +160,12 @@ fn put_entry(
     key: &str,
     value: &str,
 ) -> Result<(), SerdeError>
-    ensures ok { OnOk result (pairs_fault (schema_of member.entry) ((str_to_ascii_lowercase (prefix.now ++ key.now), value.now) ∷ []) ≡ None) }
-    ensures put { OnOk result (headers.new ≡ put_all headers.old ((str_to_ascii_lowercase (prefix.now ++ key.now), value.now) ∷ [])) }
-    ensures err { IfErr result (λ e. TellsFault e (λ f. pairs_fault (schema_of member.entry) ((str_to_ascii_lowercase (prefix.now ++ key.now), value.now) ∷ []) ≡ Some f)) }
+    ensures ok { OnOk result (pairs_fault (schema_of member.entry)
+        ((str_to_ascii_lowercase (prefix.now ++ key.now), value.now) ∷ []) ≡ None) }
+    ensures put { OnOk result (headers.new
+        ≡ put_all headers.old ((str_to_ascii_lowercase (prefix.now ++ key.now), value.now) ∷ [])) }
+    ensures err { IfErr result (IsTold (pairs_fault (schema_of member.entry)
+        ((str_to_ascii_lowercase (prefix.now ++ key.now), value.now) ∷ []))) }
 {
     let mut name = String::with_capacity(alloc, prefix.len() + key.len())?;
     name.push_str(prefix)?;
@@ -173,9 +184,12 @@ pub fn put_entries(
     prefix: &str,
     entries: &WriteList,
 ) -> Result<(), SerdeError>
-    ensures ok { OnOk result (pairs_fault (schema_of member.entry) (inserted_at (to_prefix prefix.now) (schema_of member.entry) (map (writes_in table.now entries.now))) ≡ None) }
-    ensures put { OnOk result (headers.new ≡ put_all headers.old (inserted_at (to_prefix prefix.now) (schema_of member.entry) (map (writes_in table.now entries.now)))) }
-    ensures err { IfErr result (λ e. TellsFault e (λ f. pairs_fault (schema_of member.entry) (inserted_at (to_prefix prefix.now) (schema_of member.entry) (map (writes_in table.now entries.now))) ≡ Some f)) }
+    ensures ok { OnOk result (pairs_fault (schema_of member.entry) (inserted_at (to_prefix prefix.now)
+        (schema_of member.entry) (map (writes_in table.now entries.now))) ≡ None) }
+    ensures put { OnOk result (headers.new ≡ put_all headers.old (inserted_at
+        (to_prefix prefix.now) (schema_of member.entry) (map (writes_in table.now entries.now)))) }
+    ensures err { IfErr result (IsTold (pairs_fault (schema_of member.entry) (inserted_at
+        (to_prefix prefix.now) (schema_of member.entry) (map (writes_in table.now entries.now))))) }
 {
     for place in 0..entries.len() / 2 {
         let key = text_at(entries, 2 * place);
@@ -193,7 +207,8 @@ fn query_name<'t>(member: SchemaRef<'t>) -> Option<&'t str>
 
 // The query name of the member at a position.
 fn query_name_at<'t>(schema: SchemaRef<'t>, position: usize) -> Option<&'t str>
-    ensures { option_map (λ n. n.now) result ≡ option_and_then (λ m. m.node.traits.http_query) (member_at (schema_of schema.entry) position) }
+    ensures { option_map (λ n. n.now) result
+        ≡ option_and_then (λ m. m.node.traits.http_query) (member_at (schema_of schema.entry) position) }
 {
     query_name(schema.member_schema_by_index(position)?)
 }
@@ -201,7 +216,8 @@ fn query_name_at<'t>(schema: SchemaRef<'t>, position: usize) -> Option<&'t str>
 // The names of the schema's query members, written or not.
 #[tactic(auto, unfolding(crate::specs::Entries::has_key))]
 fn query_names<'t>(alloc: Global, schema: SchemaRef<'t>) -> Result<QueryNames<'t>, AllocError>
-    ensures { IfOk result (λ names. (name : List ℕ) → has_key names name ≡ is_one_of name (names_of_queries (schema_of schema.entry))) }
+    ensures { IfOk result (λ names. (name : List ℕ) → has_key names name
+        ≡ is_one_of name (names_of_queries (schema_of schema.entry))) }
 {
     let mut names = BTreeMap::new(alloc);
     for position in 0..member_count(schema) {
@@ -221,7 +237,8 @@ fn is_named<'n>(names: &QueryNames<'n>, name: &'n str) -> bool
 
 // Adds a pair of the key and each text of a list.
 fn push_texts(query: &mut String, key: &str, texts: &WriteList) -> Result<(), OutOfMemory>
-    ensures { OnOk result ((t : Table) → string_bytes query.new ≡ string_bytes query.old ++ queries (entry_pairs (key.now, list (writes_in t texts.now)))) }
+    ensures { OnOk result ((t : Table) → string_bytes query.new ≡ string_bytes query.old
+        ++ queries (entry_pairs (key.now, list (writes_in t texts.now)))) }
 {
     for (_, text) in texts.iter() {
         push_pair(query, key, text_or_empty(text))?;
@@ -232,7 +249,8 @@ fn push_texts(query: &mut String, key: &str, texts: &WriteList) -> Result<(), Ou
 // Adds the pairs of an entry.
 #[tactic(auto, unfolding(smithy_serde::specs::StoredValues::value_in))]
 fn push_value(query: &mut String, key: &str, value: &ShapeValue) -> Result<(), OutOfMemory>
-    ensures { OnOk result ((t : Table) → string_bytes query.new ≡ string_bytes query.old ++ queries (entry_pairs (key.now, value_in t value.now))) }
+    ensures { OnOk result ((t : Table) → string_bytes query.new ≡ string_bytes query.old
+        ++ queries (entry_pairs (key.now, value_in t value.now))) }
 {
     match value {
         ShapeValue::List(texts) => push_texts(query, key, texts),
@@ -248,7 +266,8 @@ fn push_entry<'n>(
     entries: &WriteList,
     place: usize,
 ) -> Result<(), OutOfMemory>
-    ensures { OnOk result ((t : Table) → string_bytes query.new ≡ string_bytes query.old ++ queries (unnamed names.now key.now (pairs_at_place (writes_in t entries.now) place key.now))) }
+    ensures { OnOk result ((t : Table) → string_bytes query.new ≡ string_bytes query.old
+        ++ queries (unnamed names.now key.now (pairs_at_place (writes_in t entries.now) place key.now))) }
 {
     if is_named(names, key) {
         return Ok(());
@@ -268,7 +287,9 @@ pub fn push_entries<'n>(
     query: &mut String,
     entries: &'n WriteList,
 ) -> Result<(), OutOfMemory>
-    ensures { OnOk result ((t : Table) (m : Schema) → string_bytes query.new ≡ string_bytes query.old ++ queries (pairs_at to_query_map (names_of_queries (schema_of schema.entry)) m (map (writes_in t entries.now)))) }
+    ensures { OnOk result ((t : Table) (m : Schema) →
+        string_bytes query.new ≡ string_bytes query.old ++ queries (pairs_at to_query_map
+        (names_of_queries (schema_of schema.entry)) m (map (writes_in t entries.now)))) }
 {
     let names = query_names(alloc, schema)?;
     for place in 0..entries.len() / 2 {

@@ -105,7 +105,8 @@ pub fn is_payload_kind(kind: ShapeType) -> bool
 
 // The elements, where the member is a list.
 fn list_element<'t>(member: SchemaRef<'t>) -> Option<SchemaRef<'t>>
-    ensures { option_map schema_of result ≡ (if same_kind (schema_of member.entry).node.kind kind.List then element_of (schema_of member.entry) else None) }
+    ensures { option_map schema_of result ≡ (if same_kind (schema_of member.entry).node.kind kind.List
+        then element_of (schema_of member.entry) else None) }
 {
     match member.shape_type() {
         ShapeType::List => member.element(),

@@ -1,10 +1,10 @@
 // A header of a member (Smithy, HTTP protocol bindings, httpHeader and httpPrefixHeaders).
-ghost use Rattle.std.specs.Prelude.{◌≡◌, ◌∷◌, [], IfOk, IfErr, OnOk, None, Some};
+ghost use Rattle.std.specs.Prelude.{◌≡◌, ◌∷◌, [], IfOk, IfErr, OnOk, None};
 ghost use Rattle.std.specs.Str.{str_to_ascii_lowercase};
 ghost use Rattle.smithy_schema.specs.References.{schema_of};
 ghost use Rattle.smithy_http.specs.Headers.{put_all};
 ghost use Rattle.smithy_binding.specs.Faults.{pairs_fault};
-ghost use Rattle.smithy_binding.specs.Refusing.{TellsFault};
+ghost use Rattle.smithy_binding.specs.Refusing.{IsTold};
 
 use crate::refusal::wrong_header;
 use smithy_http::{Headers, HttpError};
@@ -21,9 +21,12 @@ pub fn put_header(
     name: &str,
     text: &str,
 ) -> Result<(), SerdeError>
-    ensures ok { IfOk result (λ _. pairs_fault (schema_of member.entry) ((str_to_ascii_lowercase name.now, text.now) ∷ []) ≡ None) }
-    ensures put { OnOk result (headers.new ≡ put_all headers.old ((str_to_ascii_lowercase name.now, text.now) ∷ [])) }
-    ensures err { IfErr result (λ e. TellsFault e (λ f. pairs_fault (schema_of member.entry) ((str_to_ascii_lowercase name.now, text.now) ∷ []) ≡ Some f)) }
+    ensures ok { IfOk result (λ _. pairs_fault (schema_of member.entry)
+        ((str_to_ascii_lowercase name.now, text.now) ∷ []) ≡ None) }
+    ensures put { OnOk result
+        (headers.new ≡ put_all headers.old ((str_to_ascii_lowercase name.now, text.now) ∷ [])) }
+    ensures err { IfErr result
+        (IsTold (pairs_fault (schema_of member.entry) ((str_to_ascii_lowercase name.now, text.now) ∷ []))) }
 {
     match headers.try_insert(name, text) {
         Ok(()) => Ok(()),

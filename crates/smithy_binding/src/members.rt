@@ -105,7 +105,8 @@ fn defined_members<'t>(
     schema: SchemaRef<'t>,
 ) -> Result<Option<Vec<SchemaRef<'t>>>, AllocError>
     ensures { IfOk result (λ o. MatchOption o (has_defined_members (schema_of schema.entry) ≡ false)
-        (λ v. (has_defined_members (schema_of schema.entry) ≡ true) × (shown v.items ≡ members_of (schema_of schema.entry)))) }
+        (λ v. (has_defined_members (schema_of schema.entry) ≡ true)
+        × (shown v.items ≡ members_of (schema_of schema.entry)))) }
 {
     let mut members = Vec::new(alloc);
     for position in 0..schema.members().len() {
@@ -124,7 +125,8 @@ pub fn named_members<'t>(
     schema: SchemaRef<'t>,
 ) -> Result<Option<Vec<SchemaRef<'t>>>, AllocError>
     ensures { IfOk result (λ o. MatchOption o (has_named_members (schema_of schema.entry) ≡ false)
-        (λ v. (has_named_members (schema_of schema.entry) ≡ true) × (shown v.items ≡ members_of (schema_of schema.entry)))) }
+        (λ v. (has_named_members (schema_of schema.entry) ≡ true)
+        × (shown v.items ≡ members_of (schema_of schema.entry)))) }
 {
     if !is_structure(schema) {
         return Ok(None);

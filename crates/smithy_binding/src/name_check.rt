@@ -123,7 +123,8 @@ fn are_sound_prefixes(
     headers: &[&str],
     prefixes: &[&str],
 ) -> Result<bool, AllocError>
-    ensures { IfOk result (λ b. b ≡ list_all (sound_prefix (texts_shown headers.now)) (texts_shown prefixes.now)) }
+    ensures { IfOk result
+        (λ b. b ≡ list_all (sound_prefix (texts_shown headers.now)) (texts_shown prefixes.now)) }
 {
     for prefix in prefixes {
         if !is_sound_prefix(alloc, headers, prefix)? {

@@ -23,7 +23,8 @@ fn are_sound(members: &[SchemaRef<'_>]) -> bool
 
 // What is asked of a structure whose members are defined and have distinct names.
 fn are_checked(alloc: Global, members: &[SchemaRef<'_>]) -> Result<bool, AllocError>
-    ensures { IfOk result (λ b. b ≡ (are_sound_response (shown members.now) && sound_headers (shown members.now))) }
+    ensures { IfOk result
+        (λ b. b ≡ (are_sound_response (shown members.now) && sound_headers (shown members.now))) }
 {
     if !are_sound(members) {
         return Ok(false);

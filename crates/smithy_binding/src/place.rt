@@ -89,7 +89,8 @@ pub fn place_writes<S: FinishSerializer + Drop>(
     requires defined { AreDefined table.now writes.now }
     requires content_type { IsTrue (is_header_value content_type.now) }
     requires ready { IsReady (S.seen serializer) }
-    ensures { IsAnswer (protocol_with content_type.now (S.seen serializer).text) schema.entry (writes_in table.now writes.now) endpoint.now omit result }
+    ensures { IsAnswer (protocol_with content_type.now (S.seen serializer).text)
+        schema.entry (writes_in table.now writes.now) endpoint.now omit result }
 {
     let mut parts = RequestParts::new(alloc, schema)?;
     gather_writes(alloc, schema, table, writes, &mut parts)?;

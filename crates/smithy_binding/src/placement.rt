@@ -1,11 +1,11 @@
 // What the writes put into a request, one by one.
-ghost use Rattle.std.specs.Prelude.{◌≡◌, ◌∷◌, ◌++◌, [], IsTrue, IfOk, IfErr, OnOk, Ok, Err, Some, None, true, false, ℕ, length, drop, option_map, slice_index_or, slice_set};
+ghost use Rattle.std.specs.Prelude.{◌≡◌, ◌∷◌, ◌++◌, [], IsTrue, IfOk, IfErr, OnOk, Ok, None, true, false, ℕ, length, drop, option_map, slice_index_or, slice_set};
 ghost use Rattle.std.specs.List.{list_all};
 ghost use Rattle.smithy_schema.specs.Nodes.{Table, element_of, members_of, to_header, binding_of};
 ghost use Rattle.smithy_schema.specs.References.{schema_of};
 ghost use Rattle.smithy_schema.specs.ShownBindings.{binding_shown};
 ghost use Rattle.smithy_serde.specs.Fits.{fits_member as fits};
-ghost use Rattle.smithy_serde.specs.StoredValues.{value_in, writes_in, label_at, IsDefined, AreDefined, HasNode};
+ghost use Rattle.smithy_serde.specs.StoredValues.{value_in, writes_in, IsDefined, AreDefined, HasNode};
 ghost use Rattle.smithy_serde.specs.Values.{label_of, list, list_of, map};
 ghost use Rattle.smithy_serde.specs.Writes.{all_resolved};
 ghost use Rattle.smithy_http.specs.Headers.{put_all};
@@ -13,9 +13,9 @@ ghost use Rattle.smithy_binding.specs.Bindings.{kind_or_none, inserted_at};
 ghost use Rattle.smithy_binding.specs.Checked.{has_bound_kind};
 ghost use Rattle.smithy_binding.specs.Faults.{element_fault, is_placed_at};
 ghost use Rattle.smithy_binding.specs.Gather.{gather_one, gather, add_or_fault, nothing_yet};
-ghost use Rattle.smithy_binding.specs.Placed.{has_placed_kind, is_text_member, is_list_binding, takes_map, placed_first, first_fault, IsSingle};
-ghost use Rattle.smithy_binding.specs.Refusing.{TellsFault};
-ghost use Rattle.smithy_binding.specs.Seen.{gathered_of};
+ghost use Rattle.smithy_binding.specs.Placed.{has_placed_kind, is_text_member, is_list_binding, takes_map, placed_first, first_fault, write_of, IsSingle};
+ghost use Rattle.smithy_binding.specs.Refusing.{IsTold, IsFaultOf};
+ghost use Rattle.smithy_binding.specs.Seen.{gathered_of, write_at};
 ghost use Rattle.smithy_binding.specs.Bodies.{body_parts};
 ghost use Rattle.smithy_binding.specs.KeptWrites.{keep, keep_all, kept_in, IsEmpty, IsKeptDefined};
 
@@ -91,10 +91,13 @@ fn add_single<'t, 'w>(
     requires bound { binding_shown binding ≡ binding_of (schema_of member) }
     requires placed { IsTrue (is_text_member (schema_of member)) }
     requires single { (t : Table) → IsSingle (value_in t value.now) }
-    ensures ok { OnOk result ((t : Table) → first_fault (schema_of member.entry) (value_in t value.now) ≡ None) }
-    ensures put { OnOk result ((t : Table) → gathered_of parts.new ≡ placed_first (schema_of schema.entry) (schema_of member.entry) (value_in t value.now) (gathered_of parts.old)) }
+    ensures ok { OnOk result
+        ((t : Table) → first_fault (schema_of member.entry) (value_in t value.now) ≡ None) }
+    ensures put { OnOk result ((t : Table) → gathered_of parts.new ≡ placed_first (schema_of schema.entry)
+        (schema_of member.entry) (value_in t value.now) (gathered_of parts.old)) }
     ensures body { OnOk result (parts.new.body ≡ parts.old.body) }
-    ensures err { IfErr result (λ e. (t : Table) → TellsFault e (λ f. first_fault (schema_of member.entry) (value_in t value.now) ≡ Some f)) }
+    ensures err { IfErr result
+        (λ e. (t : Table) → IsTold (first_fault (schema_of member.entry) (value_in t value.now)) e) }
 {
     let text = text_of(alloc, member, place_of(binding), value)?;
     match binding {
@@ -122,10 +125,14 @@ fn put_list(
     elements: &WriteList,
 ) -> Result<(), SerdeError>
     requires header { to_header name.now ≡ binding_of (schema_of member) }
-    requires kinds { element_fault (schema_of member) (kind_or_none (element_of (schema_of member))) (writes_in table.now elements.now) ≡ None }
-    ensures ok { OnOk result (first_fault (schema_of member.entry) (list (writes_in table.now elements.now)) ≡ None) }
-    ensures put { OnOk result (headers.new ≡ put_all headers.old (inserted_at (to_header name.now) (schema_of member.entry) (list (writes_in table.now elements.now)))) }
-    ensures err { IfErr result (λ e. TellsFault e (λ f. first_fault (schema_of member.entry) (list (writes_in table.now elements.now)) ≡ Some f)) }
+    requires kinds { element_fault (schema_of member)
+        (kind_or_none (element_of (schema_of member))) (writes_in table.now elements.now) ≡ None }
+    ensures ok { OnOk result
+        (first_fault (schema_of member.entry) (list (writes_in table.now elements.now)) ≡ None) }
+    ensures put { OnOk result (headers.new ≡ put_all headers.old (inserted_at (to_header name.now)
+        (schema_of member.entry) (list (writes_in table.now elements.now)))) }
+    ensures err { IfErr result
+        (IsTold (first_fault (schema_of member.entry) (list (writes_in table.now elements.now)))) }
 {
     let text = listed_text(alloc, table, element_kind(member), elements)?;
     put_header(alloc, member, headers, name, text.as_str())
@@ -143,10 +150,13 @@ fn add_list<'t>(
 ) -> Result<(), SerdeError>
     requires bound { binding_shown binding ≡ binding_of (schema_of member) }
     requires placed { IsTrue (is_list_binding (binding_of (schema_of member))) }
-    ensures ok { OnOk result (first_fault (schema_of member.entry) (list (writes_in table.now elements.now)) ≡ None) }
-    ensures put { OnOk result (gathered_of parts.new ≡ placed_first (schema_of schema.entry) (schema_of member.entry) (list (writes_in table.now elements.now)) (gathered_of parts.old)) }
+    ensures ok { OnOk result
+        (first_fault (schema_of member.entry) (list (writes_in table.now elements.now)) ≡ None) }
+    ensures put { OnOk result (gathered_of parts.new ≡ placed_first (schema_of schema.entry)
+        (schema_of member.entry) (list (writes_in table.now elements.now)) (gathered_of parts.old)) }
     ensures body { OnOk result (parts.new.body ≡ parts.old.body) }
-    ensures err { IfErr result (λ e. TellsFault e (λ f. first_fault (schema_of member.entry) (list (writes_in table.now elements.now)) ≡ Some f)) }
+    ensures err { IfErr result
+        (IsTold (first_fault (schema_of member.entry) (list (writes_in table.now elements.now)))) }
 {
     test_elements(alloc, table, member, element_kind(member), elements)?;
     match binding {
@@ -170,10 +180,13 @@ fn add_map<'t>(
 ) -> Result<(), SerdeError>
     requires bound { binding_shown binding ≡ binding_of (schema_of member) }
     requires placed { IsTrue (takes_map (binding_of (schema_of member))) }
-    ensures ok { OnOk result (first_fault (schema_of member.entry) (map (writes_in table.now entries.now)) ≡ None) }
-    ensures put { OnOk result (gathered_of parts.new ≡ placed_first (schema_of schema.entry) (schema_of member.entry) (map (writes_in table.now entries.now)) (gathered_of parts.old)) }
+    ensures ok { OnOk result
+        (first_fault (schema_of member.entry) (map (writes_in table.now entries.now)) ≡ None) }
+    ensures put { OnOk result (gathered_of parts.new ≡ placed_first (schema_of schema.entry)
+        (schema_of member.entry) (map (writes_in table.now entries.now)) (gathered_of parts.old)) }
     ensures body { OnOk result (parts.new.body ≡ parts.old.body) }
-    ensures err { IfErr result (λ e. TellsFault e (λ f. first_fault (schema_of member.entry) (map (writes_in table.now entries.now)) ≡ Some f)) }
+    ensures err { IfErr result
+        (IsTold (first_fault (schema_of member.entry) (map (writes_in table.now entries.now)))) }
 {
     test_map(alloc, table, member, entries)?;
     match binding {
@@ -204,9 +217,11 @@ fn add_first<'t, 'w>(
     requires kinds { IsTrue (has_placed_kind (schema_of member)) }
     requires fits { IsTrue (fits (schema_of member) (value_in table.now value.now)) }
     ensures ok { OnOk result (first_fault (schema_of member.entry) (value_in table.now value.now) ≡ None) }
-    ensures put { OnOk result (gathered_of parts.new ≡ placed_first (schema_of schema.entry) (schema_of member.entry) (value_in table.now value.now) (gathered_of parts.old)) }
+    ensures put { OnOk result (gathered_of parts.new ≡ placed_first (schema_of schema.entry)
+        (schema_of member.entry) (value_in table.now value.now) (gathered_of parts.old)) }
     ensures body { OnOk result (parts.new.body ≡ parts.old.body) }
-    ensures err { IfErr result (λ e. TellsFault e (λ f. first_fault (schema_of member.entry) (value_in table.now value.now) ≡ Some f)) }
+    ensures err { IfErr result
+        (IsTold (first_fault (schema_of member.entry) (value_in table.now value.now))) }
 {
     match value {
         ShapeValue::List(elements) => add_list(
@@ -228,10 +243,15 @@ fn add_resolved<'t, 'w>(
     value: &'w ShapeValue,
 ) -> Result<(), SerdeError>
     requires { IsTrue (has_placed_kind (schema_of member)) }
-    ensures ok { OnOk result (add_or_fault (schema_of schema.entry) (gathered_of parts.old) (record { position = position; member = schema_of member.entry; value = value_in table.now value.now }) ≡ Ok (gathered_of parts.new)) }
-    ensures err { IfErr result (λ e. TellsFault e (λ f. add_or_fault (schema_of schema.entry) (gathered_of parts.old) (record { position = position; member = schema_of member.entry; value = value_in table.now value.now }) ≡ Err f)) }
-    ensures body { OnOk result (kept_in table.now parts.new.body ≡ keep (kept_in table.now parts.old.body) (record { position = position; member = schema_of member.entry; value = value_in table.now value.now })) }
-    ensures defined { OnOk result (IsKeptDefined table.now parts.old.body → IsDefined table.now value.now → IsKeptDefined table.now parts.new.body) }
+    ensures ok { OnOk result (add_or_fault (schema_of schema.entry) (gathered_of parts.old)
+        (write_of position (schema_of member.entry) (value_in table.now value.now))
+        ≡ Ok (gathered_of parts.new)) }
+    ensures err { IfErr result (IsFaultOf (add_or_fault (schema_of schema.entry) (gathered_of parts.old)
+        (write_of position (schema_of member.entry) (value_in table.now value.now)))) }
+    ensures body { OnOk result (kept_in table.now parts.new.body ≡ keep (kept_in table.now parts.old.body)
+        (write_of position (schema_of member.entry) (value_in table.now value.now))) }
+    ensures defined { OnOk result (IsKeptDefined table.now parts.old.body →
+        IsDefined table.now value.now → IsKeptDefined table.now parts.new.body) }
 {
     if !fits_member(member, value) {
         return Err(wrong_kind(alloc, member, value));
@@ -260,10 +280,14 @@ fn add_write<'t, 'w>(
 ) -> Result<(), SerdeError>
     requires kinds { IsTrue (list_all has_placed_kind (members_of (schema_of schema))) }
     requires defined { HasNode table.now node.0 }
-    ensures ok { OnOk result (gather_one (schema_of schema.entry) (gathered_of parts.old) (record { label = label_at table.now node.0; value = value_in table.now value.now }) ≡ Ok (gathered_of parts.new)) }
-    ensures err { IfErr result (λ e. TellsFault e (λ f. gather_one (schema_of schema.entry) (gathered_of parts.old) (record { label = label_at table.now node.0; value = value_in table.now value.now }) ≡ Err f)) }
-    ensures body { OnOk result (kept_in table.now parts.new.body ≡ keep_all (kept_in table.now parts.old.body) (all_resolved (schema_of schema.entry) (record { label = label_at table.now node.0; value = value_in table.now value.now } ∷ []))) }
-    ensures defined { OnOk result (IsKeptDefined table.now parts.old.body → IsDefined table.now value.now → IsKeptDefined table.now parts.new.body) }
+    ensures ok { OnOk result (gather_one (schema_of schema.entry) (gathered_of parts.old)
+        (write_at table.now node.0 value.now) ≡ Ok (gathered_of parts.new)) }
+    ensures err { IfErr result (IsFaultOf
+        (gather_one (schema_of schema.entry) (gathered_of parts.old) (write_at table.now node.0 value.now))) }
+    ensures body { OnOk result (kept_in table.now parts.new.body ≡ keep_all (kept_in table.now parts.old.body)
+        (all_resolved (schema_of schema.entry) (write_at table.now node.0 value.now ∷ []))) }
+    ensures defined { OnOk result (IsKeptDefined table.now parts.old.body →
+        IsDefined table.now value.now → IsKeptDefined table.now parts.new.body) }
 {
     let Some(written) = table.get(node) else {
         unreachable!()
@@ -289,9 +313,12 @@ pub fn gather_writes<'t, 'w>(
     requires defined { AreDefined table.now writes.now }
     requires empty { gathered_of parts.old ≡ nothing_yet (schema_of schema) }
     requires empty_body { IsEmpty parts.old.body }
-    ensures ok { OnOk result (gather (schema_of schema.entry) (nothing_yet (schema_of schema.entry)) (list_of (writes_in table.now writes.now)) ≡ Ok (gathered_of parts.new)) }
-    ensures err { IfErr result (λ e. TellsFault e (λ f. gather (schema_of schema.entry) (nothing_yet (schema_of schema.entry)) (list_of (writes_in table.now writes.now)) ≡ Err f)) }
-    ensures body { OnOk result (kept_in table.now parts.new.body ≡ body_parts (schema_of schema.entry) (list_of (writes_in table.now writes.now))) }
+    ensures ok { OnOk result (gather (schema_of schema.entry) (nothing_yet (schema_of schema.entry))
+        (list_of (writes_in table.now writes.now)) ≡ Ok (gathered_of parts.new)) }
+    ensures err { IfErr result (IsFaultOf (gather (schema_of schema.entry)
+        (nothing_yet (schema_of schema.entry)) (list_of (writes_in table.now writes.now)))) }
+    ensures body { OnOk result (kept_in table.now parts.new.body
+        ≡ body_parts (schema_of schema.entry) (list_of (writes_in table.now writes.now))) }
     ensures body_defined { OnOk result (IsKeptDefined table.now parts.new.body) }
 {
     for (node, value) in writes.iter() {

@@ -27,7 +27,8 @@ pub fn unknown_member(alloc: Global, written: SchemaRef<'_>) -> SerdeError
 
 /// The member is not of the value's kind.
 pub fn wrong_kind(alloc: Global, member: SchemaRef<'_>, value: &ShapeValue) -> SerdeError
-    ensures { (t : Table) → TellsFault result (λ f. f ≡ wrong_kind_fault (schema_of member.entry) (value_in t value.now)) }
+    ensures { (t : Table) →
+        TellsFault result (λ f. f ≡ wrong_kind_fault (schema_of member.entry) (value_in t value.now)) }
 {
     let written = value.written_word();
     let name = name_of(member);
@@ -45,7 +46,8 @@ pub fn wrong_item(
     kind: ShapeType,
     value: &ShapeValue,
 ) -> SerdeError
-    ensures { (t : Table) → TellsFault result (λ f. f ≡ wrong_item_fault (schema_of member.entry) kind (value_in t value.now)) }
+    ensures { (t : Table) →
+        TellsFault result (λ f. f ≡ wrong_item_fault (schema_of member.entry) kind (value_in t value.now)) }
 {
     let written = value.written_word();
     let name = name_of(member);

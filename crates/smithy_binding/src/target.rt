@@ -1,12 +1,12 @@
 // A request target: the template with its holes filled (Smithy, HTTP protocol bindings, httpLabel).
-ghost use Rattle.std.specs.Prelude.{◌≡◌, ◌∷◌, ◌++◌, [], Err, IfOk, IfErr, OnOk, Ok, Some, MatchOption, ℕ, List, true, false, codes, length, map, option_map, string_bytes};
+ghost use Rattle.std.specs.Prelude.{◌≡◌, ◌∷◌, ◌++◌, [], Err, IfOk, IfErr, OnOk, Ok, MatchOption, ℕ, List, true, false, codes, length, map, option_map, string_bytes};
 ghost use Rattle.smithy_types.specs.Texts.{has_byte};
 ghost use Rattle.smithy_types.specs.Results.{then_give};
 ghost use Rattle.smithy_schema.specs.Templates.{pieces};
 ghost use Rattle.smithy_binding.specs.Filling.{fill as filled, filled_by, hole_text, keep_slashes, text_in};
 ghost use Rattle.smithy_binding.specs.Faults.{hole_fault};
 ghost use Rattle.smithy_binding.specs.Faults.{missing_hole as missing_fault};
-ghost use Rattle.smithy_binding.specs.Refusing.{TellsFault};
+ghost use Rattle.smithy_binding.specs.Refusing.{TellsFault, IsTold};
 ghost use Rattle.smithy_binding.specs.Seen.{label_pair};
 ghost use Rattle.smithy_binding.specs.LabelTexts.{text_under};
 ghost use Rattle.smithy_binding.specs.TargetParts.{separator, queries, target_behind, target_with};
@@ -37,7 +37,8 @@ fn push_path(out: &mut String, text: &str) -> Result<(), OutOfMemory>
 }
 
 fn push_hole_text(out: &mut String, is_greedy: bool, text: &str) -> Result<(), OutOfMemory>
-    ensures { OnOk result (string_bytes out.new ≡ string_bytes out.old ++ hole_text (record { name = []; greedy = is_greedy }) text.now) }
+    ensures { OnOk result (string_bytes out.new ≡ string_bytes out.old
+        ++ hole_text (record { name = []; greedy = is_greedy }) text.now) }
 {
     if is_greedy {
         push_path(out, text)
@@ -53,8 +54,11 @@ fn push_label<'l>(
     is_greedy: bool,
     texts: &LabelTexts<'l>,
 ) -> Result<(), SerdeError>
-    ensures ok { OnOk result (then_give (text_in (text_under texts.now) (record { name = name.now; greedy = is_greedy })) (λ t. string_bytes out.old ++ t) ≡ Ok (string_bytes out.new)) }
-    ensures err { IfErr result (λ e. TellsFault e (λ f. (f ≡ missing_fault name.now) × (text_in (text_under texts.now) (record { name = name.now; greedy = is_greedy }) ≡ Err name.now))) }
+    ensures ok { OnOk result
+        (then_give (text_in (text_under texts.now) (record { name = name.now; greedy = is_greedy }))
+        (λ t. string_bytes out.old ++ t) ≡ Ok (string_bytes out.new)) }
+    ensures err { IfErr result (λ e. TellsFault e (λ f. (f ≡ missing_fault name.now)
+        × (text_in (text_under texts.now) (record { name = name.now; greedy = is_greedy }) ≡ Err name.now))) }
 {
     let Some(text) = text_of_label(texts, name) else {
         return Err(missing_hole(alloc, name));
@@ -73,8 +77,10 @@ fn fill_by<'l>(
     template: &'l str,
     texts: &LabelTexts<'l>,
 ) -> Result<String, SerdeError>
-    ensures ok { IfOk result (λ t. filled_by (text_under texts.now) (pieces template.now) ≡ Ok (string_bytes t)) }
-    ensures err { IfErr result (λ e. TellsFault e (λ f. hole_fault (filled_by (text_under texts.now) (pieces template.now)) ≡ Some f)) }
+    ensures ok { IfOk result
+        (λ t. filled_by (text_under texts.now) (pieces template.now) ≡ Ok (string_bytes t)) }
+    ensures err { IfErr result
+        (IsTold (hole_fault (filled_by (text_under texts.now) (pieces template.now)))) }
 {
     let mut out = String::new(alloc);
     let mut rest = template;
@@ -93,8 +99,10 @@ fn fill<'l>(
     template: &'l str,
     labels: &'l [Label<'l, 'l>],
 ) -> Result<String, SerdeError>
-    ensures ok { IfOk result (λ t. filled (pieces template.now) (map label_pair labels.now) ≡ Ok (string_bytes t)) }
-    ensures err { IfErr result (λ e. TellsFault e (λ f. hole_fault (filled (pieces template.now) (map label_pair labels.now)) ≡ Some f)) }
+    ensures ok { IfOk result
+        (λ t. filled (pieces template.now) (map label_pair labels.now) ≡ Ok (string_bytes t)) }
+    ensures err { IfErr result
+        (IsTold (hole_fault (filled (pieces template.now) (map label_pair labels.now)))) }
 {
     let texts = texts_by_name(alloc, labels)?;
     fill_by(alloc, template, &texts)
@@ -102,7 +110,8 @@ fn fill<'l>(
 
 /// Adds a pair behind a `&`, both sides escaped (Smithy, HTTP protocol bindings, httpQuery).
 pub fn push_pair(query: &mut String, name: &str, text: &str) -> Result<(), OutOfMemory>
-    ensures { OnOk result (string_bytes query.new ≡ string_bytes query.old ++ queries ((name.now, text.now) ∷ [])) }
+    ensures { OnOk result
+        (string_bytes query.new ≡ string_bytes query.old ++ queries ((name.now, text.now) ∷ [])) }
 {
     query.push_str("&")?;
     push_escaped(query, name)?;
@@ -150,8 +159,10 @@ pub fn whole_target<'l>(
     labels: &'l [Label<'l, 'l>],
     query: &str,
 ) -> Result<String, SerdeError>
-    ensures ok { IfOk result (λ t. target_with template.now (map label_pair labels.now) query.now ≡ Ok (string_bytes t)) }
-    ensures err { IfErr result (λ e. TellsFault e (λ f. hole_fault (target_with template.now (map label_pair labels.now) query.now) ≡ Some f)) }
+    ensures ok { IfOk result
+        (λ t. target_with template.now (map label_pair labels.now) query.now ≡ Ok (string_bytes t)) }
+    ensures err { IfErr result
+        (IsTold (hole_fault (target_with template.now (map label_pair labels.now) query.now))) }
 {
     let mut target = fill(alloc, template, labels)?;
     push_query(&mut target, query)?;

@@ -26,7 +26,8 @@ pub struct CutTemplate<'t> {
 // The text before a `}` and the text behind it.
 fn cut_at_close<'t>(text: &'t str) -> Option<(&'t str, &'t str)>
     ensures { MatchOption result (slice_split is_close text.now ≡ text.now ∷ [])
-        (λ x. (slice_split is_close text.now ≡ x.0.now ∷ slice_split is_close x.1.now) × (length x.1.now < length text.now)) }
+        (λ x. (slice_split is_close text.now ≡ x.0.now ∷ slice_split is_close x.1.now)
+        × (length x.1.now < length text.now)) }
 {
     text.split_once('}')
 }
@@ -34,7 +35,8 @@ fn cut_at_close<'t>(text: &'t str) -> Option<(&'t str, &'t str)>
 // The text before a `{` and the text behind it.
 fn cut_at_open<'t>(text: &'t str) -> Option<(&'t str, &'t str)>
     ensures { MatchOption result (has_byte 123 text.now ≡ false)
-        (λ x. (has_byte 123 text.now ≡ true) × (x.0.now ≡ before_first is_open text.now) × (x.1.now ≡ after_first is_open text.now) × (length x.1.now < length text.now)) }
+        (λ x. (has_byte 123 text.now ≡ true) × (x.0.now ≡ before_first is_open text.now)
+        × (x.1.now ≡ after_first is_open text.now) × (length x.1.now < length text.now)) }
 {
     text.split_once('{')
 }
@@ -70,7 +72,8 @@ fn hole_behind<'t>(literal: &'t str, hole: &'t str) -> CutHole<'t>
 #[tactic(auto, using(crate::proofs::PieceLemmas::cutting))]
 pub fn cut_hole<'t>(text: &'t str) -> Option<(CutHole<'t>, &'t str)>
     ensures { MatchOption result (pieces text.now ≡ literal_alone text.now)
-        (λ x. (pieces text.now ≡ behind_hole x.0.literal.now (hole_shown x.0) (pieces x.1.now)) × (length x.1.now < length text.now)) }
+        (λ x. (pieces text.now ≡ behind_hole x.0.literal.now (hole_shown x.0) (pieces x.1.now))
+        × (length x.1.now < length text.now)) }
 {
     let Some((literal, behind)) = cut_at_open(text) else {
         return None;

@@ -115,7 +115,8 @@ fn expected_coded<'v>(
     code: &'v str,
     service: &[&'v str],
 ) -> Result<ExpectedIn<'v>, JobError>
-    ensures { ReadsAs IsExpectedIn (option_map (coded code.now) (errors (texts service.now) (view job.now))) result }
+    ensures { ReadsAs IsExpectedIn
+        (option_map (coded code.now) (errors (texts service.now) (view job.now))) result }
 {
     let placed = errors_asked(alloc, job, service)?;
     Ok(ExpectedIn {
@@ -153,7 +154,8 @@ fn expected_by_name<'v>(
     name: &'v Value,
 ) -> Result<ExpectedIn<'v>, JobError>
     ensures { ReadsAs IsExpectedIn
-        (expected_by (view job.now) (Some (view name.now)) (get (codes "code") (view job.now)) (get (codes "serviceErrors") (view job.now))) result }
+        (expected_by (view job.now) (Some (view name.now)) (get (codes "code") (view job.now))
+        (get (codes "serviceErrors") (view job.now))) result }
 {
     match (job.get("code"), job.get("serviceErrors")) {
         (None, None) => match name.as_str() {

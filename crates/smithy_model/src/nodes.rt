@@ -85,7 +85,8 @@ pub fn define_member<'v, 's>(
 ) -> Result<(), OutOfMemory>
     requires { has_hash shape.now ≡ true }
     ensures { OnOk result (IsFilledBy place
-        (defined.member_of (spots_of spots.now) shape.now position (member_view member.now) (spot_view spot.entry) ∷ [])
+        (defined.member_of (spots_of spots.now) shape.now position
+        (member_view member.now) (spot_view spot.entry) ∷ [])
         table.old table.new) }
 {
     let traits = passed_traits(spots, &member.traits, spot.shape);
@@ -138,7 +139,8 @@ fn define_structure<'v, 's>(
     requires structure { defined.is_structure spot.shape.now.kind ≡ true }
     requires name { has_hash spot.shape.now.name.now ≡ true }
     ensures { OnOk result (IsFilledBy place
-        (defined.input_node (spots_of spots.now) http.entry (spot_view spot.entry) ∷ []) table.old table.new) }
+        (defined.input_node (spots_of spots.now) http.entry (spot_view spot.entry) ∷ [])
+        table.old table.new) }
 {
     let shape = spot.shape;
     let members = shape.members.as_slice();
@@ -164,7 +166,8 @@ pub fn define_shape<'v, 's>(
 ) -> Result<(), OutOfMemory>
     requires { has_hash spot.shape.now.name.now ≡ true }
     ensures { OnOk result (IsFilledBy place
-        (defined.input_node (spots_of spots.now) http.entry (spot_view spot.entry) ∷ []) table.old table.new) }
+        (defined.input_node (spots_of spots.now) http.entry (spot_view spot.entry) ∷ [])
+        table.old table.new) }
 {
     let shape = spot.shape;
     if is_structure(shape.kind) {

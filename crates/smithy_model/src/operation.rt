@@ -149,7 +149,8 @@ fn error_named<'v>(errors: &[&'v str], name: &str) -> Option<&'v str>
 
 /// The full name of the shape of what is asked. None where it is no error of the operation. Takes no memory.
 pub fn name_asked<'v>(operation: &Operation<'v>, asked: Asked<'_>) -> Option<&'v str>
-    ensures { option_map (λ t. t.now) result ≡ name_asked (asked_view asked.entry) (operation_view operation.now) }
+    ensures { option_map (λ t. t.now) result
+        ≡ name_asked (asked_view asked.entry) (operation_view operation.now) }
 {
     match asked {
         Asked::Input => Some(operation.input),

@@ -96,7 +96,8 @@ fn meet_names<'v>(
     more: &[&'v str],
 ) -> Result<(), AllocError>
     requires { ArePlaces places.old (texts names.old.items) }
-    ensures names { OnOk result (texts names.new.items ≡ with_names (texts names.old.items) (texts more.now)) }
+    ensures names { OnOk result
+        (texts names.new.items ≡ with_names (texts names.old.items) (texts more.now)) }
     ensures places { OnOk result (ArePlaces places.new (texts names.new.items)) }
 {
     for name in more {
@@ -114,7 +115,8 @@ pub fn shapes_from<'v>(
     shapes: &'v Value,
     roots: &[&'v str],
 ) -> Result<Reached<'v>, JobError>
-    ensures shapes { Reads (λ r. map shape_view r.shapes.items) (reached (view shapes.now) (texts roots.now)) result }
+    ensures shapes { Reads (λ r. map shape_view r.shapes.items)
+        (reached (view shapes.now) (texts roots.now)) result }
     ensures whole { IfOk result IsWhole }
 {
     let Some(object) = shapes.as_object() else {

@@ -14,7 +14,8 @@ pub fn reify_error<R: ShapeReader + Drop, D: ShapeDeserializer>(
     error_code: &str,
     reader: &mut D,
 ) -> Result<Option<R::Output>, OutOfMemory>
-    ensures { Reifies R.gives (error_reader_for error_code.now registry.entry) (D.at_hand reader.old) (D.at_hand reader.new) result }
+    ensures { Reifies R.gives (error_reader_for error_code.now registry.entry)
+        (D.at_hand reader.old) (D.at_hand reader.new) result }
 {
     let Some(entry) = registry.entry_for_error_code(error_code) else {
         return Ok(None);

@@ -67,7 +67,8 @@ pub(crate) fn put<R: ShapeReader + Drop>(
 ) -> Result<(), OutOfMemory>
     requires shape { has_hash (string_bytes name) ≡ true }
     requires kept { IsKept (entries_kept entries.old.entries) names.old }
-    ensures ok { OnOk result (entries_kept entries.new.entries ≡ with_value (string_bytes name) entry (entries_kept entries.old.entries)) }
+    ensures ok { OnOk result (entries_kept entries.new.entries
+        ≡ with_value (string_bytes name) entry (entries_kept entries.old.entries)) }
     ensures err { OnErr result (entries_kept entries.new.entries ≡ entries_kept entries.old.entries) }
     ensures kept { IsKept (entries_kept entries.new.entries) names.new }
 {

@@ -7,6 +7,7 @@ use smithy_http::Headers;
 use smithy_ids::{ShapeId, ShapeType};
 use smithy_schema::{Schema, SchemaIndex, SchemaRef, Schemas};
 use smithy_serde::ValueReader;
+use std::alloc::Global;
 use std::process::Abort;
 
 // The place of the entry that was found, 9 for none.
@@ -46,19 +47,30 @@ fn put<'t>(
     builder.insert(id, entry).expect(rt, "no memory");
 }
 
+// Four structures, of which the last has the name of the second.
+fn structures(rt: &impl Abort, alloc: Global) -> Schemas {
+    let mut table = Schemas::new(alloc);
+    for name in ["b#FooError", "a#FooError", "c#Bar$foo", "a#FooError"] {
+        let id = ShapeId::parse(name).expect(rt, "no name");
+        let schema = Schema::new_struct(id, ShapeType::Structure, &[]);
+        table.insert(schema).expect(rt, "no place");
+    }
+    table
+}
+
+// The first two of them, whose shape names are one.
+fn two<'t>(rt: &impl Abort, alloc: Global, table: &'t Schemas) -> TypeRegistry<ValueReader<'t>> {
+    let mut builder = TypeRegistry::builder(alloc);
+    put(rt, &mut builder, table, 0);
+    put(rt, &mut builder, table, 1);
+    builder.build()
+}
+
 #[test]
 fn entries_are_found_by_name_and_by_code(rt: HostRuntime) {
     let alloc = rt.alloc();
-    let mut table = Schemas::new(alloc);
-    for name in ["b#FooError", "a#FooError", "c#Bar$foo", "a#FooError"] {
-        let id = ShapeId::parse(name).expect(&rt, "no name");
-        let schema = Schema::new_struct(id, ShapeType::Structure, &[]);
-        table.insert(schema).expect(&rt, "no place");
-    }
-    let mut builder = TypeRegistry::builder(alloc);
-    put(&rt, &mut builder, &table, 0);
-    put(&rt, &mut builder, &table, 1);
-    let both = builder.build();
+    let table = structures(&rt, alloc);
+    let both = two(&rt, alloc, &table);
     assert_eq!(rt; both.len(), 2);
     assert_eq!(rt; place(both.entry_for_error_code("FooError")), 1);
     assert_eq!(rt;
@@ -69,7 +81,13 @@ fn entries_are_found_by_name_and_by_code(rt: HostRuntime) {
     assert_eq!(rt; place(both.entry_for_fqn("b#FooError")), 0);
     assert!(rt; both.schema_for(node(&rt, &table, 1).shape_id()) == Some(SchemaIndex(1)));
     assert!(rt; both.schema_for_fqn("c#FooError").is_none());
+}
 
+#[test]
+fn the_first_registry_is_asked_first(rt: HostRuntime) {
+    let alloc = rt.alloc();
+    let table = structures(&rt, alloc);
+    let both = two(&rt, alloc, &table);
     let mut builder = TypeRegistry::builder(alloc);
     let read = reader(&rt, &table, 0);
     builder
@@ -89,20 +107,22 @@ fn entries_are_found_by_name_and_by_code(rt: HostRuntime) {
         1
     );
     assert_eq!(rt; place(one.or(&both).entry_for_fqn("c#Bar")), 9);
+}
 
+#[test]
+fn composed_entries_are_in_order_of_their_names(rt: HostRuntime) {
+    let alloc = rt.alloc();
+    let table = structures(&rt, alloc);
     let mut builder = TypeRegistry::builder(alloc);
-    let read = reader(&rt, &table, 2);
-    builder
-        .insert_shape(node(&rt, &table, 2), read)
+    for place in [2, 1, 3] {
+        let read = reader(&rt, &table, place);
+        builder
+            .insert_shape(node(&rt, &table, place), read)
+            .expect(&rt, "no memory");
+    }
+    let whole = two(&rt, alloc, &table)
+        .compose(builder.build())
         .expect(&rt, "no memory");
-    let third = reader(&rt, &table, 3);
-    builder
-        .insert_shape(node(&rt, &table, 1), read)
-        .expect(&rt, "no memory");
-    builder
-        .insert_shape(node(&rt, &table, 3), third)
-        .expect(&rt, "no memory");
-    let whole = both.compose(builder.build()).expect(&rt, "no memory");
     let mut entries = whole.iter();
     for (left, name, node) in [
         (2, "a#FooError", 3),

@@ -82,7 +82,8 @@ impl<R: ShapeReader + Drop> TypeRegistry<R> {
 
     /// The place of the node of the shape with this name. Takes no memory.
     pub fn schema_for(&self, id: ShapeId<'_>) -> Option<SchemaIndex>
-        ensures { place_of result ≡ option_map (λ e. e.schema) (by_name (parts_of id.entry).full_name self.now) }
+        ensures { place_of result
+            ≡ option_map (λ e. e.schema) (by_name (parts_of id.entry).full_name self.now) }
     {
         self.schema_for_fqn(id.as_str())
     }
@@ -142,7 +143,8 @@ impl<R: ShapeReader + Drop> TypeRegistry<R> {
     /// The entries of both. Under a name of both stands the entry of `other`. After a refusal both are gone.
     pub fn compose(self, other: TypeRegistry<R>) -> Result<TypeRegistry<R>, OutOfMemory>
         ensures value { IfOk result (λ r. r ≡ composed self other) }
-        ensures union { IfOk result (λ r. (name : List ℕ) → by_name name r ≡ option_or (by_name name other) (by_name name self)) }
+        ensures union { IfOk result
+            (λ r. (name : List ℕ) → by_name name r ≡ option_or (by_name name other) (by_name name self)) }
     {
         let mut whole = self;
         let TypeRegistry { entries, .. } = other;

@@ -1,23 +1,18 @@
 use Rattle.std.proofs.Common.{◌≡◌, ℕ, ap, sym, ◌∙◌, subst, Bool, List, true, false, slice_set, Ok, Err}
 use Rattle.std.proofs.lemmas.Result.{on_ok_weaker}
-use Rattle.smithy_schema.specs.Nodes.{Schema, Binding}
+use Rattle.smithy_schema.specs.Nodes.{Binding}
 use Rattle.smithy_schema.specs.References.{schema_of}
 use Rattle.smithy_serde.proofs.ResultLemmas.{OnOk-both}
 use Rattle.smithy_serde.specs.StoredValues.{value_in}
-use Rattle.smithy_serde.specs.Values.{Value}
-use Rattle.smithy_serde.specs.Writes.{Resolved}
 use Rattle.smithy_binding.specs.Faults.{is_placed_at}
 use Rattle.smithy_binding.specs.Gather.{Gathered, is_seen}
-use Rattle.smithy_binding.specs.Placed.{placed_first}
+use Rattle.smithy_binding.specs.Placed.{placed_first, write_of}
 use Rattle.smithy_binding.specs.Seen.{gathered_of}
 use Rattle.smithy_binding.specs.KeptWrites.{kept_at, kept_in, IsKeptDefined}
 use Rattle.smithy_binding.proofs.Refusals.{TellsFault-then, IfErr-then}
 use Rattle.smithy_binding.proofs.KeptSteps.{add-unplaced}
 use Rattle.smithy_binding.proofs.WriteSteps.{add-wrong, add-again, add-first, add-fault}
 use Rattle.smithy_binding.proofs.placement.add_resolved.Goals as goal
-
-abbrev write_of : ℕ → Schema → Value → Resolved
-write_of position m v = record { position = position; member = m; value = v }
 
 pub returns-then-not-fits_member-clause-err : goal.returns-then-not-fits_member-clause-err
 returns-then-not-fits_member-clause-err c =
