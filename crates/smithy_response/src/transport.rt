@@ -43,7 +43,7 @@ pub enum Turn<'s> {
 }
 
 impl Transport {
-    ghost use Rattle.std.specs.Prelude.{◌≡◌, []};
+    ghost use Rattle.std.specs.Prelude.{◌≡◌, false, []};
     ghost use Rattle.smithy_schema.specs.References.{schema_of};
     ghost use Rattle.smithy_serde.specs.declared.scalar.Group.TheVariants as group;
     ghost use Rattle.smithy_serde.specs.Held.{IsAnswer};
@@ -181,7 +181,8 @@ impl Transport {
 
     /// Whether the value at hand is the null, which no bound member is.
     pub(crate) fn is_null(&self) -> bool
-        ensures { TellsNull (transport_at_hand self.now) result }
+        ensures told { TellsNull (transport_at_hand self.now) result }
+        ensures no { result ≡ false }
     {
         false
     }
