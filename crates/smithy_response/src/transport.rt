@@ -74,7 +74,8 @@ impl Transport {
         ensures closed { (transport_at_hand self.new).opened ≡ [] }
     {
         self.member = BoundMember::Nothing;
-        while self.place < schema.members().len() {
+        let count = schema.members().len();
+        while self.place < count {
             let position = self.place;
             self.place = position + 1;
             if let Some(member) = schema.member_schema_by_index(position) {
