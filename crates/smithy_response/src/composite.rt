@@ -11,8 +11,8 @@ use smithy_types::Text;
 use std::alloc::Global;
 
 /// Reads the members of a response: those that are bound to its status, headers and bytes, and then the body's. Until a
-/// structure is opened it tells no value at hand and answers as its body's reader does, but to a consumer's refusal, which
-/// it answers as it is. A bound member is never null, has no size that is known, and is passed over by doing nothing.
+/// structure is opened it tells no value at hand, and answers as its body's reader does; but a consumer's refusal it
+/// answers as it is. A bound member is never null, its size is not known, and to pass over it is to do nothing.
 #[derive(Drop)]
 pub struct CompositeReader<D: ShapeDeserializer> {
     body: Counted<D>,

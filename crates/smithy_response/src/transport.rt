@@ -79,6 +79,9 @@ impl Transport {
             let position = self.place;
             self.place = position + 1;
             if let Some(member) = schema.member_schema_by_index(position) {
+                if !member.has_http_response_binding() {
+                    continue;
+                }
                 match member_taken(alloc, &self.response, member)? {
                     BoundMember::Nothing => {}
                     BoundMember::Body => {

@@ -1,11 +1,11 @@
-use Rattle.std.proofs.Common.{subst}
+use Rattle.std.proofs.Common.{sym, ◌∙◌, subst}
 use Rattle.std.proofs.lemmas.Result.{err_from_is_err_and}
 use Rattle.smithy_schema.specs.Nodes.{member_at}
 use Rattle.smithy_schema.specs.References.{schema_of}
 use Rattle.smithy_response.specs.Routes.{source_of}
 use Rattle.smithy_response.specs.Transporting.{IsTakenAt}
 use Rattle.smithy_response.proofs.Members.{within, here, nowhere}
-use Rattle.smithy_response.proofs.Passing.{passes_hole, passes_member, passes_body, hands_body, hands_member, refuses_member}
+use Rattle.smithy_response.proofs.Passing.{passes_hole, passes_member, passes_unbound, passes_body, hands_body, hands_member, refuses_member}
 use Rattle.smithy_response.proofs.transport.Transport.next.Goals as goal
 
 pub returns-in_err-taken-clause-turn : goal.returns-in_err-taken-clause-turn
@@ -15,6 +15,14 @@ returns-in_err-taken-clause-turn c =
     (within c.members-count.result.now (schema_of c.args.schema).node.members c.loop-self.self.place c.members-count.ensures.places c.loop-self-test.true)
     (schema_of c.in-Some.member)
     (here c.member_schema_by_index.result (member_at (schema_of c.args.schema) c.loop-self.self.place) c.in-Some.member c.member_schema_by_index.ensures c.in-Some.is) _ c.in_err-taken.ensures)
+
+pub loop-self-preserved-then-not-has_http_response_binding : goal.loop-self-preserved-then-not-has_http_response_binding
+loop-self-preserved-then-not-has_http_response_binding c =
+    passes_unbound (schema_of c.args.schema) c.args.is_given c.args.self.now c.loop-self.self c.loop-self.invariant
+    (within c.members-count.result.now (schema_of c.args.schema).node.members c.loop-self.self.place c.members-count.ensures.places c.loop-self-test.true)
+    (schema_of c.in-Some.member)
+    (here c.member_schema_by_index.result (member_at (schema_of c.args.schema) c.loop-self.self.place) c.in-Some.member c.member_schema_by_index.ensures c.in-Some.is)
+    (sym c.has_http_response_binding.ensures ∙ c.if-not-has_http_response_binding.true)
 
 pub loop-self-preserved-in-Nothing : goal.loop-self-preserved-in-Nothing
 loop-self-preserved-in-Nothing c =
