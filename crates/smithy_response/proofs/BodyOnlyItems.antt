@@ -44,7 +44,7 @@ unbound_source None None true payload e = cc
 unbound_source None None false true e = cc
 unbound_source None None false false e = (refl, refl)
 
-stands_in_body : (m : Schema) → Unbound m → (source_of m ≡ in_body) × (m.node.traits.http_payload ≡ false)
+pub stands_in_body : (m : Schema) → Unbound m → (source_of m ≡ in_body) × (m.node.traits.http_payload ≡ false)
 stands_in_body m u = unbound_source m.node.traits.http_header m.node.traits.http_prefix_headers m.node.traits.http_response_code m.node.traits.http_payload u
 
 -- each field is a member, and none is bound

@@ -2,15 +2,16 @@
 use Rattle.std.proofs.Common.{◌≡◌, ◌<◌, ◌≤◌, inl, inr, ◌+◌, Bool, true, false, length, Option, Some, None, Err, refl, sym, ap, ◌∙◌, arith}
 use Rattle.std.specs.List.{cons_option}
 use Rattle.smithy_http.specs.Responses.{Response}
-use Rattle.smithy_schema.specs.Nodes.{Schema, member_at}
+use Rattle.smithy_schema.specs.Nodes.{Schema, member_at, is_response_bound}
 use Rattle.smithy_serde.specs.declared.error.SerdeError.{SerdeError}
 use Rattle.smithy_serde.specs.Held.{Held}
 use Rattle.smithy_response.specs.declared.parts.BoundMember.{BoundMember}
 use Rattle.smithy_response.specs.declared.parts.BoundMember.TheVariants as bound
 use Rattle.smithy_response.specs.declared.transport.Transport.{Transport}
 use Rattle.smithy_response.specs.Handed.{Ended, routed, with_route}
-use Rattle.smithy_response.specs.Routes.{Route, passed_over, handed_out, handed_body, refused, route, source_of}
+use Rattle.smithy_response.specs.Routes.{Route, passed_over, handed_out, handed_body, refused, route, route_at, source_of}
 use Rattle.smithy_response.specs.Transporting.{member_at_hand, members_from, still_routed, IsLeft, IsSameResponse, IsTaken, IsTakenAt, TakesAt, HandsMember, HandsBody, HandsNoMember, RefusesMember}
+use Rattle.smithy_response.proofs.BodyOnlyItems.{stands_in_body}
 use Rattle.smithy_response.proofs.Members.{from-next, from-end}
 
 taken_nothing : (response : Response) (r : Route) → IsTaken response r bound.Nothing → r ≡ passed_over
@@ -82,6 +83,15 @@ module _ (schema : Schema) (is_given : Bool) (start t : Transport) (p : Passing 
       none = p.none;
       later = (let before : start.place ≤ t.place = p.later in omega (arith, before));
       follows = λ rest body left. by_route passed_over (taken_nothing t.response (route m t.response) taken.route) rest body left;
+    }
+
+    -- no part of the response but the body has it
+    pub passes_unbound : is_response_bound m ≡ false → Passing schema is_given start (record t { place = t.place + 1 })
+    passes_unbound unbound = record {
+      same = record { response = p.same.response; is_error = p.same.is_error; policy = p.same.policy };
+      none = p.none;
+      later = (let before : start.place ≤ t.place = p.later in omega (arith, before));
+      follows = λ rest body left. by_route passed_over (ap (λ s. route_at s m t.response) (stands_in_body m unbound).0) rest body left;
     }
 
     -- the body was handed out before

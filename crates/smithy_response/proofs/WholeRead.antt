@@ -42,7 +42,7 @@ module _ (table : Table) (place : ℕ) (response : Response) (policy : NonUtf8He
   pub response_read : {D : Type 0} {is_read : Ghosts D} (at : D → AtHand) (is_error : Bool) (body : D) (m : Schema) (reader : ResponseReader D is_read) → Some m ≡ at_place table place
       → IsReader at response is_error policy (chosen_whole m is_error) body reader → ReadsListed table place (reader_at_hand at reader) result → GivesResponse table place response is_error policy (at body).held result
   response_read at true body m (BodyOnly b) there is listed = absurd is
-  response_read at true body m (Composite c) there is listed = by_members true (at body) _ is listed
+  response_read at true body m (Composite c) there is listed = by_members true (at body) _ is.whole listed
   response_read {D} {is_read} at false body m reader there is listed = by_choice (is_body_only m) refl reader is listed
     where
       by_choice : (only : Bool) → is_body_only m ≡ only → (r : ResponseReader D is_read) → IsReader at response false policy (not only) body r → ReadsListed table place (reader_at_hand at r) result
@@ -50,7 +50,7 @@ module _ (table : Table) (place : ℕ) (response : Response) (policy : NonUtf8He
       by_choice true e (BodyOnly b) is listed = by_body m there e (at body) (subst (λ d. ReadsListed table place (at d) result) is listed)
       by_choice true e (Composite c) is listed = absurd is
       by_choice false e (BodyOnly b) is listed = absurd is
-      by_choice false e (Composite c) is listed = by_members false (at body) _ is listed
+      by_choice false e (Composite c) is listed = by_members false (at body) _ is.whole listed
 
 module _ {S : Type 0} (takes : S → Slot → Held → S → Answer → Type 0) (n : Schema) (response : Response) (policy : NonUtf8HeaderHandling) (old new : S) (answer : Answer) where
   all_members : (is_error : Bool) (body seen : AtHand) → ReadsWhole response is_error policy body seen → AllHanded takes group.Structure (seen.listing group.Structure n) old new answer
@@ -68,7 +68,7 @@ module _ {S : Type 0} (takes : S → Slot → Held → S → Answer → Type 0) 
   pub members_handed : {D : Type 0} {is_read : Ghosts D} (at : D → AtHand) (is_error : Bool) (body : D) (reader : ResponseReader D is_read) → IsReader at response is_error policy (chosen_whole n is_error) body reader
       → AllHanded takes group.Structure ((reader_at_hand at reader).listing group.Structure n) old new answer → AllHanded takes group.Structure (handed_with n response is_error policy (at body).held) old new answer
   members_handed at true body (BodyOnly b) is all = absurd is
-  members_handed at true body (Composite c) is all = all_members true (at body) _ is all
+  members_handed at true body (Composite c) is all = all_members true (at body) _ is.whole all
   members_handed {D} {is_read} at false body reader is all = by_choice (is_body_only n) refl reader is all
     where
       by_choice : (only : Bool) → is_body_only n ≡ only → (r : ResponseReader D is_read) → IsReader at response false policy (not only) body r
@@ -76,7 +76,7 @@ module _ {S : Type 0} (takes : S → Slot → Held → S → Answer → Type 0) 
       by_choice true e (BodyOnly b) is all = all_fields e (at body) (subst (λ d. AllHanded takes group.Structure ((at d).listing group.Structure n) old new answer) is all)
       by_choice true e (Composite c) is all = absurd is
       by_choice false e (BodyOnly b) is all = absurd is
-      by_choice false e (Composite c) is all = all_members false (at body) _ is all
+      by_choice false e (Composite c) is all = all_members false (at body) _ is.whole all
 
 -- nothing was handed out
 pub none_handed : {S : Type 0} (takes : S → Slot → Held → S → Answer → Type 0) (listing : Option Listing) (old new : S) (answer : Answer) → new ≡ old → answer ≡ Err OutOfMemory

@@ -1,3 +1,4 @@
+pub mod BodyCalls
 pub mod CountedCalls
 pub mod Frames
 pub mod GivenScalars

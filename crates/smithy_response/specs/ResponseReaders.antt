@@ -11,7 +11,9 @@ use Rattle.smithy_serde.specs.ReadCalls.{AtHand}
 use Rattle.smithy_serde.specs.declared.deserializer.ShapeDeserializer.{Ghosts}
 use Rattle.smithy_response.specs.declared.response_reader.ResponseReader.{ResponseReader}
 use Rattle.smithy_response.specs.declared.response_reader.ResponseReader.TheVariants.{BodyOnly, Composite}
-use Rattle.smithy_response.specs.Frames.{composite_at_hand}
+use Rattle.smithy_response.specs.declared.composite.CompositeReader.{CompositeReader}
+use Rattle.smithy_response.specs.declared.stage.Stage.TheVariants as stage
+use Rattle.smithy_response.specs.BodyCalls.{seen}
 use Rattle.smithy_response.specs.Handed.{has_unbound, handed}
 
 -- the schema has members, and none is bound to another part of the response than the body
@@ -29,7 +31,7 @@ chosen_whole schema false = not (is_body_only schema)
 
 abbrev pub reader_at_hand : {D : Type 0} {is_read : Ghosts D} → (D → AtHand) → ResponseReader D is_read → AtHand
 reader_at_hand at (BodyOnly body) = at body
-reader_at_hand at (Composite c) = composite_at_hand c.stage c.transport (at c.body.reader)
+reader_at_hand at (Composite c) = seen at c
 
 -- A reader of the whole response: it tells no value at hand, nothing is open, and a structure has the members that are handed out.
 pub record ReadsWhole (response : Response) (is_error : Bool) (policy : NonUtf8HeaderHandling) (body seen : AtHand) : Type 0 where
@@ -37,9 +39,15 @@ pub record ReadsWhole (response : Response) (is_error : Bool) (policy : NonUtf8H
   pub none_open : seen.opened ≡ []
   pub members : (schema : Schema) → seen.listing group.Structure schema ≡ option_map (λ h. handed schema response h is_error policy) body.held
 
+-- That reader begins over this one of the body, and no structure is open.
+pub record BeginsWhole {D : Type 0} {is_read : Ghosts D} (at : D → AtHand) (response : Response) (is_error : Bool) (policy : NonUtf8HeaderHandling) (body : D) (c : CompositeReader D is_read) : Type 0 where
+  pub whole : ReadsWhole response is_error policy (at body) (seen at c)
+  pub body_reader : c.body.reader ≡ body
+  pub top : c.stage ≡ stage.Top
+
 -- which reader it is
 abbrev pub IsReader : {D : Type 0} {is_read : Ghosts D} → (D → AtHand) → Response → Bool → NonUtf8HeaderHandling → (is_whole : Bool) → D → ResponseReader D is_read → Type 0
 IsReader at response is_error policy true body (BodyOnly b) = ⊥
-IsReader at response is_error policy true body (Composite c) = ReadsWhole response is_error policy (at body) (composite_at_hand c.stage c.transport (at c.body.reader))
+IsReader at response is_error policy true body (Composite c) = BeginsWhole at response is_error policy body c
 IsReader at response is_error policy false body (BodyOnly b) = b ≡ body
 IsReader at response is_error policy false body (Composite c) = ⊥

@@ -11,7 +11,8 @@ use smithy_types::Text;
 use std::alloc::Global;
 
 /// Reads the members of a response: those that are bound to its status, headers and bytes, and then the body's. Until a
-/// structure is opened it answers as its body's reader does, and tells no value at hand.
+/// structure is opened it tells no value at hand, and answers as its body's reader does; but a consumer's refusal it
+/// answers as it is. A bound member is never null, its size is not known, and to pass over it is to do nothing.
 #[derive(Drop)]
 pub struct CompositeReader<D: ShapeDeserializer> {
     body: Counted<D>,
@@ -40,16 +41,24 @@ impl<D: ShapeDeserializer> CompositeReader<D> {
 }
 
 impl<D: ShapeDeserializer> ShapeDeserializer for CompositeReader<D> {
-    ghost use Rattle.smithy_response.specs.Frames.{composite_at_hand};
+    ghost use Rattle.smithy_schema.specs.References.{schema_of as node};
+    ghost use Rattle.smithy_serde.specs.declared.scalar.Group.TheVariants as group;
+    ghost use Rattle.smithy_serde.specs.ReadCalls.{IsIn, scalar_of_read, Reads, Skips, OpensAt, NextMember, NextElement, NextEntry, Settles, TellsNull};
+    ghost use Rattle.smithy_response.specs.BodyCalls.{seen, stands, ReadsBody, OpensFirst, NextMemberFirst, NextElementFirst, NextEntryFirst, SettlesFirst, TellsBodyNull, IsUnsized, SkipsBody, Stays};
 
-    ghost at_hand = { λ r. composite_at_hand r.stage r.transport (D.at_hand r.body.reader) };
+    ghost at_hand = { seen D.at_hand };
 
     fn read(
         &mut self,
         alloc: Global,
         schema: SchemaRef<'_>,
         kind: ScalarKind,
-    ) -> Result<ReadScalar, SerdeError> {
+    ) -> Result<ReadScalar, SerdeError>
+        ensures told { let old = seen D.at_hand self.old in
+            Reads scalar_of_read kind (node schema.entry) old (seen D.at_hand self.new) result }
+        ensures body { ReadsBody (stands D.at_hand) kind (node schema.entry) self.old self.new result }
+        ensures stage { Stays (stands D.at_hand) self.old self.new }
+    {
         match self.stage {
             Stage::Bound { .. } => self.transport.read(alloc, schema, kind),
             Stage::Top => self.body.read(alloc, schema, kind),
@@ -58,12 +67,11 @@ impl<D: ShapeDeserializer> ShapeDeserializer for CompositeReader<D> {
         }
     }
 
-    fn open(
-        &mut self,
-        alloc: Global,
-        schema: SchemaRef<'_>,
-        group: Group,
-    ) -> Result<(), SerdeError> {
+    fn open(&mut self, alloc: Global, schema: SchemaRef<'_>, group: Group) -> Result<(), SerdeError>
+        ensures told { let old = seen D.at_hand self.old in
+            OpensAt group (node schema.entry) old (seen D.at_hand self.new) result }
+        ensures first { OpensFirst (stands D.at_hand) group (node schema.entry) self.old self.new result }
+    {
         match self.stage {
             Stage::Top => {
                 if self.body.depth() != 0 {
@@ -94,7 +102,12 @@ impl<D: ShapeDeserializer> ShapeDeserializer for CompositeReader<D> {
         &mut self,
         alloc: Global,
         schema: SchemaRef<'s>,
-    ) -> Result<Option<SchemaRef<'s>>, SerdeError> {
+    ) -> Result<Option<SchemaRef<'s>>, SerdeError>
+        requires { IsIn group.Structure (seen D.at_hand self.old) }
+        ensures told { let old = seen D.at_hand self.old in
+            NextMember (node schema.entry) old (seen D.at_hand self.new) result }
+        ensures first { NextMemberFirst (stands D.at_hand) (node schema.entry) self.old self.new result }
+    {
         match self.stage {
             Stage::Top => self.body.next_member(alloc, schema),
             Stage::Bound { is_given } => self.next_bound(alloc, schema, is_given),
@@ -114,7 +127,11 @@ impl<D: ShapeDeserializer> ShapeDeserializer for CompositeReader<D> {
         }
     }
 
-    fn next_element(&mut self, alloc: Global) -> Result<bool, SerdeError> {
+    fn next_element(&mut self, alloc: Global) -> Result<bool, SerdeError>
+        requires { IsIn group.List (seen D.at_hand self.old) }
+        ensures told { NextElement (seen D.at_hand self.old) (seen D.at_hand self.new) result }
+        ensures first { NextElementFirst (stands D.at_hand) self.old self.new result }
+    {
         match self.stage {
             Stage::Top => self.body.next_element(alloc),
             Stage::Bound { .. } => self.transport.next_element(),
@@ -128,7 +145,11 @@ impl<D: ShapeDeserializer> ShapeDeserializer for CompositeReader<D> {
         }
     }
 
-    fn next_entry(&mut self, alloc: Global) -> Result<Option<Text>, SerdeError> {
+    fn next_entry(&mut self, alloc: Global) -> Result<Option<Text>, SerdeError>
+        requires { IsIn group.Map (seen D.at_hand self.old) }
+        ensures told { NextEntry (seen D.at_hand self.old) (seen D.at_hand self.new) result }
+        ensures first { NextEntryFirst (stands D.at_hand) self.old self.new result }
+    {
         match self.stage {
             Stage::Top => self.body.next_entry(alloc),
             Stage::Bound { .. } => self.transport.next_entry(alloc),
@@ -142,7 +163,10 @@ impl<D: ShapeDeserializer> ShapeDeserializer for CompositeReader<D> {
         }
     }
 
-    fn settle(&mut self, alloc: Global, refusal: SerdeError) -> Result<(), SerdeError> {
+    fn settle(&mut self, alloc: Global, refusal: SerdeError) -> Result<(), SerdeError>
+        ensures told { Settles refusal (seen D.at_hand self.old) (seen D.at_hand self.new) result }
+        ensures first { SettlesFirst (stands D.at_hand) refusal self.old self.new result }
+    {
         match self.stage {
             Stage::Bound { .. } => match self.transport.settle(alloc, refusal) {
                 Ok(()) => {
@@ -157,7 +181,10 @@ impl<D: ShapeDeserializer> ShapeDeserializer for CompositeReader<D> {
         }
     }
 
-    fn is_null(&self) -> bool {
+    fn is_null(&self) -> bool
+        ensures told { TellsNull (seen D.at_hand self.now) result }
+        ensures body { TellsBodyNull (stands D.at_hand self.now) result }
+    {
         match self.stage {
             Stage::Bound { .. } => self.transport.is_null(),
             Stage::Top => self.body.is_null(),
@@ -166,14 +193,20 @@ impl<D: ShapeDeserializer> ShapeDeserializer for CompositeReader<D> {
         }
     }
 
-    fn container_size(&self) -> Option<usize> {
+    fn container_size(&self) -> Option<usize>
+        ensures { IsUnsized (stands D.at_hand self.now) result }
+    {
         match self.stage {
             Stage::Bound { .. } => None,
             _ => self.body.container_size(),
         }
     }
 
-    fn read_null(&mut self) -> Result<(), SerdeError> {
+    fn read_null(&mut self) -> Result<(), SerdeError>
+        ensures told { Skips (seen D.at_hand self.old) (seen D.at_hand self.new) result }
+        ensures body { SkipsBody (stands D.at_hand) self.old self.new result }
+        ensures stage { Stays (stands D.at_hand) self.old self.new }
+    {
         match self.stage {
             Stage::Bound { .. } => Ok(()),
             Stage::Top => self.body.read_null(),
@@ -182,7 +215,11 @@ impl<D: ShapeDeserializer> ShapeDeserializer for CompositeReader<D> {
         }
     }
 
-    fn skip_value(&mut self, alloc: Global) -> Result<(), SerdeError> {
+    fn skip_value(&mut self, alloc: Global) -> Result<(), SerdeError>
+        ensures told { Skips (seen D.at_hand self.old) (seen D.at_hand self.new) result }
+        ensures body { SkipsBody (stands D.at_hand) self.old self.new result }
+        ensures stage { Stays (stands D.at_hand) self.old self.new }
+    {
         match self.stage {
             Stage::Bound { .. } => Ok(()),
             Stage::Top => self.body.skip_value(alloc),

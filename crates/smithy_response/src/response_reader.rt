@@ -24,28 +24,36 @@ pub enum ResponseReader<D: ShapeDeserializer> {
 }
 
 impl<D: ShapeDeserializer> ShapeDeserializer for ResponseReader<D> {
-    ghost use Rattle.smithy_response.specs.ResponseReaders.{reader_at_hand};
+    ghost use Rattle.smithy_schema.specs.References.{schema_of as node};
+    ghost use Rattle.smithy_serde.specs.declared.scalar.Group.TheVariants as group;
+    ghost use Rattle.smithy_serde.specs.ReadCalls.{IsIn, scalar_of_read, Reads, Skips, OpensAt, NextMember, NextElement, NextEntry, Settles, TellsNull};
+    ghost use Rattle.smithy_response.specs.BodyCalls.{reader_stands as stands, ReadsBody, OpensFirst, NextMemberFirst, NextElementFirst, NextEntryFirst, SettlesFirst, TellsBodyNull, IsUnsized, SkipsBody, Stays};
+    ghost use Rattle.smithy_response.specs.ResponseReaders.{reader_at_hand as seen};
 
-    ghost at_hand = { reader_at_hand D.at_hand };
+    ghost at_hand = { seen D.at_hand };
 
     fn read(
         &mut self,
         alloc: Global,
         schema: SchemaRef<'_>,
         kind: ScalarKind,
-    ) -> Result<ReadScalar, SerdeError> {
+    ) -> Result<ReadScalar, SerdeError>
+        ensures told { let old = seen D.at_hand self.old in
+            Reads scalar_of_read kind (node schema.entry) old (seen D.at_hand self.new) result }
+        ensures body { ReadsBody (stands D.at_hand) kind (node schema.entry) self.old self.new result }
+        ensures stage { Stays (stands D.at_hand) self.old self.new }
+    {
         match self {
             ResponseReader::BodyOnly(reader) => reader.read(alloc, schema, kind),
             ResponseReader::Composite(reader) => reader.read(alloc, schema, kind),
         }
     }
 
-    fn open(
-        &mut self,
-        alloc: Global,
-        schema: SchemaRef<'_>,
-        group: Group,
-    ) -> Result<(), SerdeError> {
+    fn open(&mut self, alloc: Global, schema: SchemaRef<'_>, group: Group) -> Result<(), SerdeError>
+        ensures told { let old = seen D.at_hand self.old in
+            OpensAt group (node schema.entry) old (seen D.at_hand self.new) result }
+        ensures first { OpensFirst (stands D.at_hand) group (node schema.entry) self.old self.new result }
+    {
         match self {
             ResponseReader::BodyOnly(reader) => reader.open(alloc, schema, group),
             ResponseReader::Composite(reader) => reader.open(alloc, schema, group),
@@ -56,56 +64,85 @@ impl<D: ShapeDeserializer> ShapeDeserializer for ResponseReader<D> {
         &mut self,
         alloc: Global,
         schema: SchemaRef<'s>,
-    ) -> Result<Option<SchemaRef<'s>>, SerdeError> {
+    ) -> Result<Option<SchemaRef<'s>>, SerdeError>
+        requires { IsIn group.Structure (seen D.at_hand self.old) }
+        ensures told { let old = seen D.at_hand self.old in
+            NextMember (node schema.entry) old (seen D.at_hand self.new) result }
+        ensures first { NextMemberFirst (stands D.at_hand) (node schema.entry) self.old self.new result }
+    {
         match self {
             ResponseReader::BodyOnly(reader) => reader.next_member(alloc, schema),
             ResponseReader::Composite(reader) => reader.next_member(alloc, schema),
         }
     }
 
-    fn next_element(&mut self, alloc: Global) -> Result<bool, SerdeError> {
+    fn next_element(&mut self, alloc: Global) -> Result<bool, SerdeError>
+        requires { IsIn group.List (seen D.at_hand self.old) }
+        ensures told { NextElement (seen D.at_hand self.old) (seen D.at_hand self.new) result }
+        ensures first { NextElementFirst (stands D.at_hand) self.old self.new result }
+    {
         match self {
             ResponseReader::BodyOnly(reader) => reader.next_element(alloc),
             ResponseReader::Composite(reader) => reader.next_element(alloc),
         }
     }
 
-    fn next_entry(&mut self, alloc: Global) -> Result<Option<Text>, SerdeError> {
+    fn next_entry(&mut self, alloc: Global) -> Result<Option<Text>, SerdeError>
+        requires { IsIn group.Map (seen D.at_hand self.old) }
+        ensures told { NextEntry (seen D.at_hand self.old) (seen D.at_hand self.new) result }
+        ensures first { NextEntryFirst (stands D.at_hand) self.old self.new result }
+    {
         match self {
             ResponseReader::BodyOnly(reader) => reader.next_entry(alloc),
             ResponseReader::Composite(reader) => reader.next_entry(alloc),
         }
     }
 
-    fn settle(&mut self, alloc: Global, refusal: SerdeError) -> Result<(), SerdeError> {
+    fn settle(&mut self, alloc: Global, refusal: SerdeError) -> Result<(), SerdeError>
+        ensures told { Settles refusal (seen D.at_hand self.old) (seen D.at_hand self.new) result }
+        ensures first { SettlesFirst (stands D.at_hand) refusal self.old self.new result }
+    {
         match self {
             ResponseReader::BodyOnly(reader) => reader.settle(alloc, refusal),
             ResponseReader::Composite(reader) => reader.settle(alloc, refusal),
         }
     }
 
-    fn is_null(&self) -> bool {
+    fn is_null(&self) -> bool
+        ensures told { TellsNull (seen D.at_hand self.now) result }
+        ensures body { TellsBodyNull (stands D.at_hand self.now) result }
+    {
         match self {
             ResponseReader::BodyOnly(reader) => reader.is_null(),
             ResponseReader::Composite(reader) => reader.is_null(),
         }
     }
 
-    fn container_size(&self) -> Option<usize> {
+    fn container_size(&self) -> Option<usize>
+        ensures { IsUnsized (stands D.at_hand self.now) result }
+    {
         match self {
             ResponseReader::BodyOnly(reader) => reader.container_size(),
             ResponseReader::Composite(reader) => reader.container_size(),
         }
     }
 
-    fn read_null(&mut self) -> Result<(), SerdeError> {
+    fn read_null(&mut self) -> Result<(), SerdeError>
+        ensures told { Skips (seen D.at_hand self.old) (seen D.at_hand self.new) result }
+        ensures body { SkipsBody (stands D.at_hand) self.old self.new result }
+        ensures stage { Stays (stands D.at_hand) self.old self.new }
+    {
         match self {
             ResponseReader::BodyOnly(reader) => reader.read_null(),
             ResponseReader::Composite(reader) => reader.read_null(),
         }
     }
 
-    fn skip_value(&mut self, alloc: Global) -> Result<(), SerdeError> {
+    fn skip_value(&mut self, alloc: Global) -> Result<(), SerdeError>
+        ensures told { Skips (seen D.at_hand self.old) (seen D.at_hand self.new) result }
+        ensures body { SkipsBody (stands D.at_hand) self.old self.new result }
+        ensures stage { Stays (stands D.at_hand) self.old self.new }
+    {
         match self {
             ResponseReader::BodyOnly(reader) => reader.skip_value(alloc),
             ResponseReader::Composite(reader) => reader.skip_value(alloc),

@@ -43,7 +43,7 @@ pub enum Turn<'s> {
 }
 
 impl Transport {
-    ghost use Rattle.std.specs.Prelude.{◌≡◌, []};
+    ghost use Rattle.std.specs.Prelude.{◌≡◌, false, []};
     ghost use Rattle.smithy_schema.specs.References.{schema_of};
     ghost use Rattle.smithy_serde.specs.declared.scalar.Group.TheVariants as group;
     ghost use Rattle.smithy_serde.specs.Held.{IsAnswer};
@@ -74,10 +74,14 @@ impl Transport {
         ensures closed { (transport_at_hand self.new).opened ≡ [] }
     {
         self.member = BoundMember::Nothing;
-        while self.place < schema.members().len() {
+        let count = schema.members().len();
+        while self.place < count {
             let position = self.place;
             self.place = position + 1;
             if let Some(member) = schema.member_schema_by_index(position) {
+                if !member.has_http_response_binding() {
+                    continue;
+                }
                 match member_taken(alloc, &self.response, member)? {
                     BoundMember::Nothing => {}
                     BoundMember::Body => {
@@ -181,7 +185,8 @@ impl Transport {
 
     /// Whether the value at hand is the null, which no bound member is.
     pub(crate) fn is_null(&self) -> bool
-        ensures { TellsNull (transport_at_hand self.now) result }
+        ensures told { TellsNull (transport_at_hand self.now) result }
+        ensures no { result ≡ false }
     {
         false
     }

@@ -4,7 +4,8 @@ ghost use Rattle.smithy_schema.specs.References.{schema_of};
 ghost use Rattle.smithy_serde.specs.StoredValues.{HasNode};
 ghost use Rattle.smithy_serde.specs.declared.scalar.Group.TheVariants as group;
 ghost use Rattle.smithy_serde.specs.Handing.{at_members, AllHanded};
-ghost use Rattle.smithy_response.specs.ResponseReaders.{chosen_whole, IsReader};
+ghost use Rattle.smithy_response.specs.MembersRead.{ReadsListed};
+ghost use Rattle.smithy_response.specs.ResponseReaders.{chosen_whole, reader_at_hand, IsReader};
 ghost use Rattle.smithy_response.specs.WholeResponses.{GivesResponse, handed_with};
 
 use crate::reading::read_response;
@@ -35,7 +36,23 @@ pub fn response_value<'t, D: ShapeDeserializer + Drop>(
         unreachable!()
     };
     let mut reader = reader_of(alloc, body, response, schema, is_error, policy)?;
-    read_response(alloc, &mut reader, table, output)
+    read_whole(alloc, &mut reader, table, output)
+}
+
+// Reads what the reader hands out. Each kind of reader is read as such, so that no call asks for the kind.
+fn read_whole<'t, D: ShapeDeserializer>(
+    alloc: Global,
+    reader: &mut ResponseReader<D>,
+    table: &'t Schemas,
+    output: SchemaIndex,
+) -> Result<StructValue<'t>, SerdeError>
+    requires { HasNode table.now output.0 }
+    ensures { ReadsListed table.now output.0 (reader_at_hand D.at_hand reader.old) result }
+{
+    match reader {
+        ResponseReader::BodyOnly(body) => read_response(alloc, body, table, output),
+        ResponseReader::Composite(whole) => read_response(alloc, whole, table, output),
+    }
 }
 
 /// Hands what a response has for the members of its output, or of a modelled error, to the consumer: each once and in

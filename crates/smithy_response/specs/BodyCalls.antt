@@ -1,0 +1,110 @@
+-- Which calls of a response's reader are its body's reader's, and what the others answer.
+use Rattle.std.specs.Prelude.{◌≡◌, ℕ, Bool, true, false, List, [], ◌∷◌, Option, Some, None, Result, Ok, Err}
+use Rattle.smithy_schema.specs.Nodes.{Schema}
+use Rattle.smithy_schema.specs.declared.schema_ref.SchemaRef.{SchemaRef}
+use Rattle.smithy_serde.specs.declared.deserializer.ShapeDeserializer.{Ghosts}
+use Rattle.smithy_serde.specs.declared.error.SerdeError.{SerdeError}
+use Rattle.smithy_serde.specs.declared.read_scalar.ScalarKind.{ScalarKind}
+use Rattle.smithy_serde.specs.declared.read_scalar.ReadScalar.{ReadScalar}
+use Rattle.smithy_serde.specs.declared.scalar.Group.{Group}
+use Rattle.smithy_serde.specs.declared.scalar.Group.TheVariants as group
+use Rattle.smithy_serde.specs.Held.{Answer}
+use Rattle.smithy_serde.specs.ReadCalls.{Frame, AtHand, scalar_of_read, Reads, Skips, OpensAt, NextMember, NextElement, NextEntry, TellsNull}
+use Rattle.smithy_response.specs.declared.composite.CompositeReader.{CompositeReader}
+use Rattle.smithy_response.specs.declared.response_reader.ResponseReader.{ResponseReader}
+use Rattle.smithy_response.specs.declared.response_reader.ResponseReader.TheVariants.{BodyOnly, Composite}
+use Rattle.smithy_response.specs.declared.stage.Stage.{Stage}
+use Rattle.smithy_response.specs.declared.stage.Stage.TheVariants as stage
+use Rattle.smithy_response.specs.Frames.{composite_at_hand}
+
+-- what is seen of a reader of bound members and of the body
+abbrev pub seen : {D : Type 0} {is_read : Ghosts D} → (D → AtHand) → CompositeReader D is_read → AtHand
+seen at c = composite_at_hand c.stage c.transport (at c.body.reader)
+
+-- How far a response's reader has come, if it reads more than the body, and what is seen of its body's reader.
+pub record Standing : Type 0 where
+  pub stage : Option Stage
+  pub body : AtHand
+
+abbrev pub stands : {D : Type 0} {is_read : Ghosts D} → (D → AtHand) → CompositeReader D is_read → Standing
+stands at c = record { stage = Some c.stage; body = at c.body.reader }
+
+abbrev pub reader_stands : {D : Type 0} {is_read : Ghosts D} → (D → AtHand) → ResponseReader D is_read → Standing
+reader_stands at (BodyOnly body) = record { stage = None; body = at body }
+reader_stands at (Composite c) = stands at c
+
+-- it comes no further
+abbrev pub Stays : {R : Type 0} → (R → Standing) → R → R → Type 0
+Stays at old new = (at new).stage ≡ (at old).stage
+
+-- a member that is bound to another part than the body is at hand, or an item of it
+abbrev pub is_bound : Option Stage → Bool
+is_bound (Some (stage.Bound is_given)) = true
+is_bound (Some stage.Top) = false
+is_bound (Some stage.Payload) = false
+is_bound (Some stage.Body) = false
+is_bound None = false
+
+-- the response's structure is not open
+abbrev pub is_top : Option Stage → Bool
+is_top (Some stage.Top) = true
+is_top (Some (stage.Bound is_given)) = false
+is_top (Some stage.Payload) = false
+is_top (Some stage.Body) = false
+is_top None = false
+
+-- Unless a bound member is at hand, the body's reader reads a scalar.
+abbrev pub ReadsUnless : (bound : Bool) → ScalarKind → Schema → AtHand → AtHand → Result ReadScalar SerdeError → Type 0
+ReadsUnless true k node old new result = Unit {0}
+ReadsUnless false k node old new result = Reads scalar_of_read k node old new result
+
+abbrev pub ReadsBody : {R : Type 0} → (R → Standing) → ScalarKind → Schema → R → R → Result ReadScalar SerdeError → Type 0
+ReadsBody at k node old new result = ReadsUnless (is_bound (at old).stage) k node (at old).body (at new).body result
+
+-- A bound member is not the null. Otherwise the body's reader tells it.
+abbrev pub TellsNullUnless : (bound : Bool) → AtHand → Bool → Type 0
+TellsNullUnless true body result = result ≡ false
+TellsNullUnless false body result = TellsNull body result
+
+abbrev pub TellsBodyNull : Standing → Bool → Type 0
+TellsBodyNull now result = TellsNullUnless (is_bound now.stage) now.body result
+
+-- of a bound member no size is known
+abbrev pub IsUnsized : Standing → Option ℕ → Type 0
+IsUnsized now size = is_bound now.stage ≡ true → size ≡ None
+
+-- A bound member is passed over by doing nothing. Otherwise the body's reader does it.
+abbrev pub SkipsUnless : {R : Type 0} → (bound : Bool) → R → R → AtHand → AtHand → Answer → Type 0
+SkipsUnless true old new body left result = (new ≡ old) × (result ≡ Ok tt)
+SkipsUnless false old new body left result = Skips body left result
+
+abbrev pub SkipsBody : {R : Type 0} → (R → Standing) → R → R → Answer → Type 0
+SkipsBody at old new result = SkipsUnless (is_bound (at old).stage) old new (at old).body (at new).body result
+
+-- While nothing is open, a structure opens as the response's, and the body's reader is as it was. Anything else that reader opens.
+abbrev pub OpensUnder : List Frame → Group → Schema → AtHand → Standing → Answer → Type 0
+OpensUnder [] group.Structure node old new result = (result ≡ Ok tt) × (new.body ≡ old) × (is_top new.stage ≡ false)
+OpensUnder [] group.List node old new result = OpensAt group.List node old new.body result × (is_top new.stage ≡ true)
+OpensUnder [] group.Map node old new result = OpensAt group.Map node old new.body result × (is_top new.stage ≡ true)
+OpensUnder (o ∷ os) g node old new result = OpensAt g node old new.body result × (is_top new.stage ≡ true)
+
+-- Until the response's structure is open, the body's reader opens everything else, and brings the items to hand.
+abbrev pub OpensFirst : {R : Type 0} → (R → Standing) → Group → Schema → R → R → Answer → Type 0
+OpensFirst at g node old new result =
+    is_top (at old).stage ≡ true → OpensUnder (at old).body.opened g node (at old).body (at new) result
+
+abbrev pub NextMemberFirst : {R : Type 0} → (R → Standing) → Schema → R → R → Result (Option SchemaRef) SerdeError → Type 0
+NextMemberFirst at node old new result =
+    is_top (at old).stage ≡ true → NextMember node (at old).body (at new).body result × (is_top (at new).stage ≡ true)
+
+abbrev pub NextElementFirst : {R : Type 0} → (R → Standing) → R → R → Result Bool SerdeError → Type 0
+NextElementFirst at old new result =
+    is_top (at old).stage ≡ true → NextElement (at old).body (at new).body result × (is_top (at new).stage ≡ true)
+
+abbrev pub NextEntryFirst : {R : Type 0} → (R → Standing) → R → R → Result (Option (List ℕ)) SerdeError → Type 0
+NextEntryFirst at old new result =
+    is_top (at old).stage ≡ true → NextEntry (at old).body (at new).body result × (is_top (at new).stage ≡ true)
+
+-- and a refusal is answered as it is
+abbrev pub SettlesFirst : {R : Type 0} → (R → Standing) → SerdeError → R → R → Answer → Type 0
+SettlesFirst at refusal old new result = is_top (at old).stage ≡ true → (new ≡ old) × (result ≡ Err refusal)
