@@ -17,6 +17,7 @@ use crate::json_tree_documents::tree_of;
 use crate::text_list::TextList;
 use fast_float::Numeral;
 use json::{Error as JsonError, Reader, Scratch, Value};
+use simdutf8::compat::from_utf8;
 use smithy_serde::SerdeError;
 use smithy_types::Number;
 use std::alloc::Global;
@@ -177,7 +178,7 @@ const MAX_DEPTH: usize = 127;
 fn plain_tree(alloc: Global, text: &[u8]) -> Result<JsonTree, JsonFault>
     ensures { IfOk result (λ t. document_of_text text.now ≡ Some (tree_view t)) }
 {
-    let Ok(text) = std::str::from_utf8(text) else {
+    let Ok(text) = from_utf8(text) else {
         return Err(JsonFault::NoDocument);
     };
     let mut scratch = Scratch::new(alloc);
@@ -190,7 +191,7 @@ fn plain_tree(alloc: Global, text: &[u8]) -> Result<JsonTree, JsonFault>
     if reader.next().is_some() {
         return Err(JsonFault::NoDocument);
     }
-    let mut texts = TextList::new(alloc);
+    let mut texts = TextList::with_capacity(alloc, text.len())?;
     let root = node_of(alloc, &mut texts, &value)?;
     Ok(JsonTree { texts, root })
 }

@@ -37,6 +37,16 @@ impl TextList {
         }
     }
 
+    /// No texts, and room for so many bytes of them.
+    pub(crate) fn with_capacity(alloc: Global, bytes: usize) -> Result<TextList, OutOfMemory>
+        ensures { IfOk result (λ texts. texts ≡ []) }
+    {
+        Ok(TextList {
+            bytes: String::with_capacity(alloc, bytes)?,
+            cuts: Vec::new(alloc),
+        })
+    }
+
     /// Adds a copy of the text at the end, and gives its place, counted from 0.
     pub(crate) fn push(&mut self, text: &str) -> Result<usize, OutOfMemory>
         ensures place { IfOk result (λ place. place ≡ length self.old) }
