@@ -7,7 +7,7 @@ use Rattle.smithy_http.specs.Facts.{values_at}
 use Rattle.smithy_binding.specs.Bodies.{Body}
 use Rattle.smithy_binding.specs.Placing.{Protocol, Omit, with_default, adds_content_type, adds_content_length, all_headers}
 use Rattle.smithy_binding.specs.Typed.{leaves_default, default_names}
-use Rattle.smithy_binding.proofs.Tests.{same_text_self}
+use Rattle.smithy_binding.proofs.Tests.{same_text_back}
 use Rattle.smithy_unambiguity.proofs.Queries.{values_at-append}
 use Rattle.smithy_unambiguity.proofs.ByName.{front, found-front}
 
@@ -33,9 +33,6 @@ wanted_stands true false false d false h = ((λ p q. q), (λ p q. p))
 wanted_stands false b true true false h = absurd (cc h)
 wanted_stands false b true false false h = ((λ p q. p), (λ p q. q))
 wanted_stands false b false d false h = ((λ p q. p), (λ p q. p))
-
-same_text_back : (a b : List ℕ) → same_text a b ≡ true → same_text b a ≡ true
-same_text_back a b e = ap (same_text b) (same_from_test a b (sym e)) ∙ same_text_self b
 
 pub all_headers_at : (protocol : Protocol) (b : Body) (omit : Omit) (pairs : List (List ℕ × List ℕ)) (name : List ℕ) → leaves_default b omit pairs name ≡ true
     → values_at name (all_headers protocol b omit pairs) ≡ values_at name pairs

@@ -30,6 +30,7 @@ use Rattle.smithy_unambiguity.proofs.LastTexts.{last_value, lowered}
 use Rattle.smithy_unambiguity.proofs.ByName.{under_name, entries_at}
 use Rattle.smithy_unambiguity.proofs.Conforming.{no_first}
 use Rattle.smithy_unambiguity.proofs.Headers.{map_pairs}
+use Rattle.smithy_unambiguity.proofs.MemberTexts.{list_form}
 use Rattle.smithy_unambiguity.proofs.PairLemmas.{valued, ordered_valued, filter_valued, filter_ascends, passing, looked_filter, names, unnamed, ascending_distinct, ordered_ascends}
 use Rattle.smithy_unambiguity.proofs.Queries.{values_at-append}
 
@@ -82,14 +83,6 @@ elements_settled m (Some s) (write l v ws) plain fault =
     let here : settled (Some s) v ≡ as_text (text_of_key v) = ap (settled (Some s)) x.1 ∙ ap (λ u. as_text (text_of_key u)) (sym x.1) in
     let rest = elements_settled m (Some s) ws plain a.1 in
     λ i. write (own_label (Some s) no_label) (here i) (rest i)
-
-list_form : (v : Value) → fits kind.List v ≡ true → (ws : Writes) × (v ≡ value.list ws)
-list_form (value.list ws) e = (ws, refl)
-list_form (value.scalar (value.whole value.byte z)) e = absurd (cc e)
-list_form (value.scalar (value.whole value.short z)) e = absurd (cc e)
-list_form (value.scalar (value.whole value.integer z)) e = absurd (cc e)
-list_form (value.scalar (value.whole value.long z)) e = absurd (cc e)
-list_form _ e = absurd (cc e)
 
 -- where no String stands, a list of any texts is its own
 pub own_value_list : (here : Option Schema) (ts : List (List ℕ)) → is_kind kind.String here ≡ false → own_value here ts ≡ own_list here ts

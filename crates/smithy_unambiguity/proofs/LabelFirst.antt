@@ -12,6 +12,7 @@ use Rattle.smithy_binding.proofs.Tests.{same_text_self}
 use Rattle.smithy_unambiguity.proofs.ByMember.{at_member, first_value, first_texts, only_member, none_given}
 use Rattle.smithy_unambiguity.proofs.ByName.{values_at-flat_map, under_name}
 use Rattle.smithy_unambiguity.proofs.Members.{HasApartNames}
+use Rattle.smithy_unambiguity.proofs.Traits.{stands_at}
 
 -- what the labels of one write give at a name
 abbrev spoken : List ℕ → Resolved → List (List ℕ)
@@ -21,19 +22,11 @@ labels_at_name : (schema : Schema) (ws : List Write) (name : List ℕ) → value
 unfolding labels
 labels_at_name schema ws name = values_at-flat_map name labelled (firsts schema ws)
 
-abbrev pub is_label : Binding → Bool
-is_label to_label = true
-is_label _ = false
-
-pub label_is : (b : Binding) → is_label b ≡ true → b ≡ to_label
-label_is to_label e = refl
-label_is _ e = absurd (cc e)
-
 -- a label member of this name
 abbrev pub is_label_named : List ℕ → Schema → Bool
-is_label_named name m = is_label (binding_of m) && same_text (name_of m) name
+is_label_named name m = stands_at to_label (binding_of m) && same_text (name_of m) name
 
-spoken_is : (name : List ℕ) (b : Binding) (m : Schema) (v : Value) → values_at name (labelled_at b m v) ≡ cond (is_label b && same_text (name_of m) name) (unwrap_or (texts m v) []) []
+spoken_is : (name : List ℕ) (b : Binding) (m : Schema) (v : Value) → values_at name (labelled_at b m v) ≡ cond (stands_at to_label b && same_text (name_of m) name) (unwrap_or (texts m v) []) []
 spoken_is name to_label m v = under_name name (name_of m) (same_text (name_of m) name) (unwrap_or (texts m v) []) refl
 spoken_is name _ m v = refl
 
@@ -50,7 +43,7 @@ pub label_of_first : (schema : Schema) → HasApartNames schema → (ws : List W
 label_of_first schema apart ws i m at label = labels_at_name schema ws (name_of m) ∙ only_member (spoken (name_of m)) schema ws i m at others ∙ go (first_value schema ws i)
   where
     others : (r : Resolved) → member_at schema r.position ≡ Some r.member → r.position ≢ i → spoken (name_of m) r ≡ []
-    others r at_r other = nothing_spoken (name_of m) r (by (is_label (binding_of r.member)) (same_text (name_of r.member) (name_of m)) refl)
+    others r at_r other = nothing_spoken (name_of m) r (by (stands_at to_label (binding_of r.member)) (same_text (name_of r.member) (name_of m)) refl)
       where
         by : (b t : Bool) → same_text (name_of r.member) (name_of m) ≡ t → (b && t) ≡ false
         by b true e = absurd (other (apart r.position i r.member m at_r at (same_from_test (name_of r.member) (name_of m) (sym e))))

@@ -57,7 +57,7 @@ one_header m v t flat e = one_text m v t flat (go (texts m v) ∙ e)
     go None = refl
     go (Some ts) = sym (flat_header m v ts flat)
 
-list_form : (v : Value) → fits kind.List v ≡ true → (ws : Writes) × (v ≡ value.list ws)
+pub list_form : (v : Value) → fits kind.List v ≡ true → (ws : Writes) × (v ≡ value.list ws)
 list_form (value.list ws) e = (ws, refl)
 list_form (value.scalar (value.whole value.byte z)) e = absurd (cc e)
 list_form (value.scalar (value.whole value.short z)) e = absurd (cc e)

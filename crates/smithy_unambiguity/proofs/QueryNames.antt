@@ -17,7 +17,7 @@ use Rattle.smithy_unambiguity.proofs.EntriesTold.{text_pairs, key_texts, written
 use Rattle.smithy_unambiguity.proofs.Positions.{members_by_position, queries_apart, query_name_found}
 use Rattle.smithy_unambiguity.proofs.Singles.{single}
 use Rattle.smithy_unambiguity.proofs.SoundMaps.{sound_maps}
-use Rattle.smithy_unambiguity.proofs.Traits.{trait_of}
+use Rattle.smithy_unambiguity.proofs.Traits.{trait_of, stands_at, stands_there}
 
 -- what a write gives to the query at a name
 abbrev asked : Schema → List ℕ → Resolved → List (List ℕ)
@@ -65,19 +65,11 @@ abbrev pub named_query : List ℕ → Binding → Bool
 named_query name (to_query n) = same_text n name
 named_query name _ = false
 
-abbrev pub is_map : Binding → Bool
-is_map to_query_map = true
-is_map _ = false
-
-pub map_is : (b : Binding) → is_map b ≡ true → b ≡ to_query_map
-map_is to_query_map e = refl
-map_is _ e = absurd (cc e)
-
 -- no other binding gives a pair of the name
-nothing_asked : (schema : Schema) (name : List ℕ) (r : Resolved) → named_query name (binding_of r.member) ≡ false → is_map (binding_of r.member) ≡ false → asked schema name r ≡ []
+nothing_asked : (schema : Schema) (name : List ℕ) (r : Resolved) → named_query name (binding_of r.member) ≡ false → stands_at to_query_map (binding_of r.member) ≡ false → asked schema name r ≡ []
 nothing_asked schema name r unnamed no_map = asked_is (query_names schema) name (binding_of r.member) r.member r.value ∙ go (binding_of r.member) unnamed no_map
   where
-    go : (b : Binding) → named_query name b ≡ false → is_map b ≡ false → asked_at (query_names schema) name b r.member r.value ≡ []
+    go : (b : Binding) → named_query name b ≡ false → stands_at to_query_map b ≡ false → asked_at (query_names schema) name b r.member r.value ≡ []
     go (to_query n) a c = ap (λ t. cond t (unwrap_or (texts r.member r.value) []) []) a
     go to_query_map a c = absurd (cc c)
     go _ a c = refl
@@ -99,7 +91,7 @@ unnamed_outside schema checked name outside i m at = go (binding_of m) refl
             absurd (cc q)
     go _ e = refl
 
-pub no_pairs : (schema : Schema) (ws : List Write) (name : List ℕ) → IsUnnamed schema name → ((i : ℕ) (m : Schema) → member_at schema i ≡ Some m → is_map (binding_of m) ≡ false) → values_at name (pairs schema ws) ≡ []
+pub no_pairs : (schema : Schema) (ws : List Write) (name : List ℕ) → IsUnnamed schema name → ((i : ℕ) (m : Schema) → member_at schema i ≡ Some m → stands_at to_query_map (binding_of m) ≡ false) → values_at name (pairs schema ws) ≡ []
 no_pairs schema ws name unnamed no_map =
     pairs_at_name schema ws name ∙ none_given (asked schema name) schema ws (λ r at. nothing_asked schema name r (unnamed r.position r.member at) (no_map r.position r.member at))
 
@@ -112,13 +104,13 @@ pairs_of_map schema checked ws i m name at query_map unnamed = pairs_at_name sch
     one = leb-true (length (filter (λ m. m.node.traits.http_query_params) (members_of schema))) 1 (sound_maps schema checked).one_query_map
 
     others : (r : Resolved) → member_at schema r.position ≡ Some r.member → r.position ≢ i → asked schema name r ≡ []
-    others r at_r other = nothing_asked schema name r (unnamed r.position r.member at_r) (no_map (is_map (binding_of r.member)) refl)
+    others r at_r other = nothing_asked schema name r (unnamed r.position r.member at_r) (no_map (stands_at to_query_map (binding_of r.member)) refl)
       where
-        no_map : (t : Bool) → is_map (binding_of r.member) ≡ t → t ≡ false
+        no_map : (t : Bool) → stands_at to_query_map (binding_of r.member) ≡ t → t ≡ false
         no_map false e = refl
         no_map true e =
             absurd (other (single (λ m. m.node.traits.http_query_params) (members_of schema) one r.position i r.member m (members_by_position schema checked r.position ∙ at_r) (members_by_position schema checked i ∙ at)
-            (trait_of r.member to_query_map (map_is (binding_of r.member) e)) (trait_of m to_query_map query_map)))
+            (trait_of r.member to_query_map (stands_there to_query_map (binding_of r.member) e)) (trait_of m to_query_map query_map)))
 
     go : (o : Option Value) → option_map_or (λ v. asked schema name (at_member i m v)) o [] ≡ cond (is_one_of name (query_names schema)) [] (values_at name (flat_map text_pairs (written_texts o)))
     go None = none (is_one_of name (query_names schema))

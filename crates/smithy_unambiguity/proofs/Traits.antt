@@ -25,3 +25,14 @@ HasTrait m b = let t = m.node.traits in TraitAt t.http_header t.http_prefix_head
 
 pub trait_of : (m : Schema) (b : Binding) → binding_of m ≡ b → HasTrait m b
 trait_of m b e = let t = m.node.traits in subst (HasTrait m) e (trait_at t.http_header t.http_prefix_headers t.http_query t.http_query_params t.http_label t.http_payload)
+
+-- a binding is this one, of those without a name
+abbrev pub stands_at : Binding → Binding → Bool
+stands_at to_label to_label = true
+stands_at to_query_map to_query_map = true
+stands_at _ _ = false
+
+pub stands_there : (place b : Binding) → stands_at place b ≡ true → b ≡ place
+stands_there to_label to_label e = refl
+stands_there to_query_map to_query_map e = refl
+stands_there _ _ e = absurd (cc e)

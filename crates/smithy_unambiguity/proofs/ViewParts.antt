@@ -20,15 +20,15 @@ use Rattle.smithy_unambiguity.proofs.ByMember.{first_value, first_texts}
 use Rattle.smithy_unambiguity.proofs.ByName.{found-front, front}
 use Rattle.smithy_unambiguity.proofs.EntriesTold.{own_value, key_texts, written_texts, text_pairs, query_texts, query_texts_kept}
 use Rattle.smithy_unambiguity.proofs.Fits.{is_flat}
-use Rattle.smithy_unambiguity.proofs.LabelFirst.{is_label, label_is, is_label_named, no_labels, label_of_first}
+use Rattle.smithy_unambiguity.proofs.LabelFirst.{is_label_named, no_labels, label_of_first}
 use Rattle.smithy_unambiguity.proofs.MapsTold.{query_map_view, query_map_at, keys_distinct}
 use Rattle.smithy_unambiguity.proofs.MemberTexts.{list_of_element, bound_list}
 use Rattle.smithy_unambiguity.proofs.Members.{names_apart, HasApartNames}
 use Rattle.smithy_unambiguity.proofs.Placed.{HasTypedWrites, IsPlacedValue, placed_value, bound_view_of, kinds_at}
 use Rattle.smithy_unambiguity.proofs.Positions.{members_by_position}
-use Rattle.smithy_unambiguity.proofs.QueryNames.{named_query, is_map, map_is, IsUnnamed, no_pairs, pairs_of_member, pairs_of_map}
+use Rattle.smithy_unambiguity.proofs.QueryNames.{named_query, IsUnnamed, no_pairs, pairs_of_member, pairs_of_map}
 use Rattle.smithy_unambiguity.proofs.TargetTold.{query_kinds}
-use Rattle.smithy_unambiguity.proofs.Traits.{trait_of}
+use Rattle.smithy_unambiguity.proofs.Traits.{trait_of, stands_at, stands_there}
 use Rattle.smithy_unambiguity.proofs.ViewValues.{list_texts_kept, map_left, own_texts}
 use Rattle.smithy_unambiguity.proofs.ViewWrites.{first_value_of_view}
 
@@ -115,10 +115,10 @@ query_named name (to_query n) e = ap to_query (same_from_test n name (sym e))
 query_named name _ e = absurd (cc e)
 
 pub pairs_of_view : (schema : Schema) (ws : List Write) → IsCheckedInput schema → is_well_made schema ≡ true → HasTypedWrites schema ws → (name : List ℕ) → values_at name (pairs schema (view schema ws)) ≡ values_at name (pairs schema ws)
-pairs_of_view schema ws checked well_made typed name = go (member_or schema checked (λ m. named_query name (binding_of m))) (member_or schema checked (λ m. is_map (binding_of m)))
+pairs_of_view schema ws checked well_made typed name = go (member_or schema checked (λ m. named_query name (binding_of m))) (member_or schema checked (λ m. stands_at to_query_map (binding_of m)))
   where
     go : ((i : ℕ) × (m : Schema) × (member_at schema i ≡ Some m) × (named_query name (binding_of m) ≡ true)) ⊎ IsUnnamed schema name
-        → ((i : ℕ) × (m : Schema) × (member_at schema i ≡ Some m) × (is_map (binding_of m) ≡ true)) ⊎ ((i : ℕ) (m : Schema) → member_at schema i ≡ Some m → is_map (binding_of m) ≡ false)
+        → ((i : ℕ) × (m : Schema) × (member_at schema i ≡ Some m) × (stands_at to_query_map (binding_of m) ≡ true)) ⊎ ((i : ℕ) (m : Schema) → member_at schema i ≡ Some m → stands_at to_query_map (binding_of m) ≡ false)
         → values_at name (pairs schema (view schema ws)) ≡ values_at name (pairs schema ws)
     go (inl x) other =
         let i = x.0 in
@@ -129,7 +129,7 @@ pairs_of_view schema ws checked well_made typed name = go (member_or schema chec
         ∙ sym (pairs_of_member schema checked ws i m name x.2 query)
     go (inr unnamed) (inr no_map) = no_pairs schema (view schema ws) name unnamed no_map ∙ sym (no_pairs schema ws name unnamed no_map)
     go (inr unnamed) (inl x) =
-        let query_map = map_is (binding_of x.1) x.3 in
+        let query_map = stands_there to_query_map (binding_of x.1) x.3 in
         pairs_of_map schema checked (view schema ws) x.0 x.1 name x.2 query_map unnamed
         ∙ ap (λ o. cond (is_one_of name (query_names schema)) [] (values_at name (flat_map text_pairs (written_texts o)))) (bound_part schema ws x.0 x.1 to_query_map checked well_made x.2 query_map refl)
         ∙ query_map_left x.1 (query_names schema) name (first_value schema ws x.0) (query_map_at schema checked x.0 x.1 x.2 query_map) (λ v e. placed_value schema ws x.0 x.1 v typed x.2 (ap is_placed_at query_map) e)
@@ -152,8 +152,8 @@ labels_of_view schema ws checked well_made name = found-front name (labels schem
     go (inr none) = no_labels schema (view schema ws) name none ∙ sym (no_labels schema ws name none)
     go (inl x) =
         let m = x.1 in
-        let tests = and_parts (is_label (binding_of m)) (same_text (name_of m) name) x.3 in
-        let label = label_is (binding_of m) tests.0 in
+        let tests = and_parts (stands_at to_label (binding_of m)) (same_text (name_of m) name) x.3 in
+        let label = stands_there to_label (binding_of m) tests.0 in
         let of_first : (us : List Write) → values_at name (labels schema us) ≡ first_texts m (first_value schema us x.0) = λ us.
         ap (λ n. values_at n (labels schema us)) (sym (same_from_test (name_of m) name (sym tests.1))) ∙ label_of_first schema apart us x.0 m x.2 label in
         of_first (view schema ws)
