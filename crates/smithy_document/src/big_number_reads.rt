@@ -68,13 +68,15 @@ fn decimal_of_text(alloc: Global, text: &str) -> Result<BigDecimal, SerdeError>
 }
 
 fn integer_of_number(alloc: Global, number: Number) -> Result<BigInteger, SerdeError>
-    ensures { Gives value.big_integer (Some (Ok (value.big_integer (number_text_lem (number_view number))))) result }
+    ensures { Gives value.big_integer
+        (Some (Ok (value.big_integer (number_text_lem (number_view number))))) result }
 {
     integer_of_whole(alloc, integer_of(number))
 }
 
 fn decimal_of_number(alloc: Global, number: Number) -> Result<BigDecimal, SerdeError>
-    ensures { Gives value.big_decimal (Some (Ok (value.big_decimal (number_text_lem (number_view number))))) result }
+    ensures { Gives value.big_decimal
+        (Some (Ok (value.big_decimal (number_text_lem (number_view number))))) result }
 {
     decimal_of_whole(alloc, integer_of(number))
 }
@@ -82,7 +84,8 @@ fn decimal_of_number(alloc: Global, number: Number) -> Result<BigDecimal, SerdeE
 // A document that is no text.
 fn integer_of_other(alloc: Global, document: &Document) -> Result<BigInteger, SerdeError>
     requires { string_in (view document.now) ≡ None }
-    ensures { Gives value.big_integer (Some (scalar_of_document ShapeType.BigInteger (view document.now))) result }
+    ensures { Gives value.big_integer
+        (Some (scalar_of_document ShapeType.BigInteger (view document.now))) result }
 {
     match document.as_number() {
         Some(number) => integer_of_number(alloc, *number),
@@ -92,7 +95,8 @@ fn integer_of_other(alloc: Global, document: &Document) -> Result<BigInteger, Se
 
 /// A number, or the whole number of a text: a big decimal's is its integer part.
 pub(crate) fn big_integer(alloc: Global, document: &Document) -> Result<BigInteger, SerdeError>
-    ensures { Gives value.big_integer (Some (scalar_of_document ShapeType.BigInteger (view document.now))) result }
+    ensures { Gives value.big_integer
+        (Some (scalar_of_document ShapeType.BigInteger (view document.now))) result }
 {
     match document.as_string() {
         Some(text) => integer_of_text(alloc, text),
@@ -103,7 +107,8 @@ pub(crate) fn big_integer(alloc: Global, document: &Document) -> Result<BigInteg
 // A document that is no text.
 fn decimal_of_other(alloc: Global, document: &Document) -> Result<BigDecimal, SerdeError>
     requires { string_in (view document.now) ≡ None }
-    ensures { Gives value.big_decimal (Some (scalar_of_document ShapeType.BigDecimal (view document.now))) result }
+    ensures { Gives value.big_decimal
+        (Some (scalar_of_document ShapeType.BigDecimal (view document.now))) result }
 {
     match document.as_number() {
         Some(number) => decimal_of_number(alloc, *number),
@@ -113,7 +118,8 @@ fn decimal_of_other(alloc: Global, document: &Document) -> Result<BigDecimal, Se
 
 /// A number, or the decimal of a text.
 pub(crate) fn big_decimal(alloc: Global, document: &Document) -> Result<BigDecimal, SerdeError>
-    ensures { Gives value.big_decimal (Some (scalar_of_document ShapeType.BigDecimal (view document.now))) result }
+    ensures { Gives value.big_decimal
+        (Some (scalar_of_document ShapeType.BigDecimal (view document.now))) result }
 {
     match document.as_string() {
         Some(text) => decimal_of_text(alloc, text),

@@ -59,7 +59,8 @@ impl Cursor {
         root: &Document,
         group: Group,
     ) -> Result<(), SerdeError>
-        ensures { (tells : Bool) (schema : Schema) → OpensAt group schema (seen tells (view root.entry.now) self.old) (seen tells (view root.entry.now) self.new) result }
+        ensures { (tells : Bool) (schema : Schema) → OpensAt group schema
+            (seen tells (view root.entry.now) self.old) (seen tells (view root.entry.now) self.new) result }
     {
         let document = self.document(root);
         if !opens_as(group, document) {
@@ -103,7 +104,8 @@ impl Cursor {
     /// The next element of the innermost container, which is a list: whether there was one.
     pub(crate) fn next_element(&mut self, root: &Document) -> bool
         requires { IsIn group.List (seen true (view root.now) self.old) }
-        ensures { (tells : Bool) → NextElement (seen tells (view root.entry.now) self.old) (seen tells (view root.entry.now) self.new) (Ok result) }
+        ensures { (tells : Bool) → NextElement (seen tells (view root.entry.now) self.old)
+            (seen tells (view root.entry.now) self.new) (Ok result) }
     {
         self.advance(root)
     }
@@ -115,7 +117,8 @@ impl Cursor {
         root: &Document,
     ) -> Result<Option<Text>, SerdeError>
         requires { IsIn group.Map (seen true (view root.now) self.old) }
-        ensures { (tells : Bool) → NextEntry (seen tells (view root.entry.now) self.old) (seen tells (view root.entry.now) self.new) result }
+        ensures { (tells : Bool) → NextEntry (seen tells (view root.entry.now) self.old)
+            (seen tells (view root.entry.now) self.new) result }
     {
         if !self.advance(root) {
             return Ok(None);
@@ -130,7 +133,8 @@ impl Cursor {
         schema: SchemaRef<'s>,
     ) -> Option<SchemaRef<'s>>
         requires { IsIn group.Structure (seen true (view root.now) self.old) }
-        ensures { (tells : Bool) → NextMember (node schema.entry) (seen tells (view root.entry.now) self.old) (seen tells (view root.entry.now) self.new) (Ok result) }
+        ensures { (tells : Bool) → NextMember (node schema.entry)
+            (seen tells (view root.entry.now) self.old) (seen tells (view root.entry.now) self.new) (Ok result) }
     {
         match self.advance_to_member(root, schema) {
             Some(member) => Some(member),
@@ -170,7 +174,8 @@ impl Cursor {
         schema: SchemaRef<'s>,
     ) -> Option<SchemaRef<'s>>
         requires { IsOpen self.old }
-        ensures { AdvancesToMember (view root.entry.now) (node schema.entry) self.old self.new (option_map node result) }
+        ensures { AdvancesToMember (view root.entry.now) (node schema.entry)
+            self.old self.new (option_map node result) }
     {
         'parts: while self.advance(root) {
             if let Some(member) = schema.member_schema(self.name()) {

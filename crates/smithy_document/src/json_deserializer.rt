@@ -41,7 +41,8 @@ fn read_node(
 ) -> Result<ReadScalar, SerdeError>
     requires { IsTrue (is_read (node_view tree.now.texts node.now)) }
     ensures of_kind { IfOk result (λ a. IsTrue (is_of_kind kind (scalar_of_read a))) }
-    ensures gives { Gives scalar_of_read (Some (scalar_of_document (type_of kind) (node_view tree.now.texts node.now))) result }
+    ensures gives { Gives scalar_of_read
+        (Some (scalar_of_document (type_of kind) (node_view tree.now.texts node.now))) result }
 {
     match (kind, node) {
         (ScalarKind::String, Node::Text(place)) => {

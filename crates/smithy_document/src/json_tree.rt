@@ -43,7 +43,8 @@ impl Node {
 
     /// The part at a place, counted from 0.
     pub(crate) fn part(&self, place: usize) -> Option<&Node>
-        ensures { (texts : List (List ℕ)) → option_map (λ n. node_view texts n.now) result ≡ part_at (node_view texts self.now) place }
+        ensures { (texts : List (List ℕ)) → option_map (λ n. node_view texts n.now) result
+            ≡ part_at (node_view texts self.now) place }
     {
         match self {
             Node::Array(items) => items.get(place),

@@ -33,7 +33,8 @@ pub(crate) struct TreeCursor {
 
 // The part of one of the tree's values that was handed out last, the value itself where none was.
 fn last_part<'t>(tree: &'t JsonTree, container: &'t Node, place: &TreePlace) -> &'t Node
-    ensures { node_view tree.now.texts result.now ≡ part_behind (node_view tree.now.texts container.now) place.now }
+    ensures { node_view tree.now.texts result.now
+        ≡ part_behind (node_view tree.now.texts container.now) place.now }
 {
     if place.next == 0 {
         return container;
@@ -104,7 +105,8 @@ impl TreeCursor {
         tree: &JsonTree,
         group: Group,
     ) -> Result<(), SerdeError>
-        ensures { (schema : Schema) → OpensAt group schema (tree_seen (tree_view tree.now) self.old) (tree_seen (tree_view tree.now) self.new) result }
+        ensures { (schema : Schema) → OpensAt group schema (tree_seen (tree_view tree.now) self.old)
+            (tree_seen (tree_view tree.now) self.new) result }
     {
         let node = self.node(tree);
         if !node.opens_as(group) {
@@ -121,7 +123,8 @@ impl TreeCursor {
     /// The next element of the innermost container, which is a list: whether there was one.
     pub(crate) fn next_element(&mut self, tree: &JsonTree) -> bool
         requires { IsIn group.List (tree_seen (tree_view tree.now) self.old) }
-        ensures { NextElement (tree_seen (tree_view tree.now) self.old) (tree_seen (tree_view tree.now) self.new) (Ok result) }
+        ensures { NextElement (tree_seen (tree_view tree.now) self.old)
+            (tree_seen (tree_view tree.now) self.new) (Ok result) }
     {
         self.advance(tree).is_some()
     }
@@ -133,7 +136,8 @@ impl TreeCursor {
         tree: &JsonTree,
     ) -> Result<Option<Text>, SerdeError>
         requires { IsIn group.Map (tree_seen (tree_view tree.now) self.old) }
-        ensures { NextEntry (tree_seen (tree_view tree.now) self.old) (tree_seen (tree_view tree.now) self.new) result }
+        ensures { NextEntry (tree_seen (tree_view tree.now) self.old)
+            (tree_seen (tree_view tree.now) self.new) result }
     {
         match self.advance(tree) {
             Some(name) => Ok(Some(Text::from_str(alloc, name)?)),
@@ -169,7 +173,8 @@ impl TreeCursor {
         schema: SchemaRef<'s>,
     ) -> Option<SchemaRef<'s>>
         requires { IsIn group.Structure (tree_seen (tree_view tree.now) self.old) }
-        ensures { NextMember (node schema.entry) (tree_seen (tree_view tree.now) self.old) (tree_seen (tree_view tree.now) self.new) (Ok result) }
+        ensures { NextMember (node schema.entry) (tree_seen (tree_view tree.now) self.old)
+            (tree_seen (tree_view tree.now) self.new) (Ok result) }
     {
         let Some(place) = self.places.pop() else {
             unreachable!()

@@ -89,7 +89,8 @@ fn nodes_of_documents(
     documents: &Documents,
 ) -> Result<Vec<Node>, OutOfMemory>
     ensures grows { Grows texts.old texts.new }
-    ensures are { IfOk result (λ ns. StaysIn (λ ts. nodes_view ts ns.items) texts.new (items_view documents.now)) }
+    ensures are { IfOk result
+        (λ ns. StaysIn (λ ts. nodes_view ts ns.items) texts.new (items_view documents.now)) }
 {
     let items = documents.as_slice();
     let mut found = Vec::new(alloc);
@@ -106,7 +107,8 @@ fn fields_of_members(
     members: &Members,
 ) -> Result<Vec<(usize, Node)>, OutOfMemory>
     ensures grows { Grows texts.old texts.new }
-    ensures are { IfOk result (λ fs. StaysIn (λ ts. fields_view ts fs.items) texts.new (members_view members.now)) }
+    ensures are { IfOk result
+        (λ fs. StaysIn (λ ts. fields_view ts fs.items) texts.new (members_view members.now)) }
 {
     let mut found = Vec::new(alloc);
     'members: for (name, member) in members.iter() {

@@ -67,7 +67,8 @@ fn number_below_zero(numeral: &Numeral<'_>) -> Option<Number>
 #[cycle(node)]
 fn node_of(alloc: Global, texts: &mut TextList, value: &Value<'_>) -> Result<Node, JsonFault>
     ensures grows { Grows texts.old texts.new }
-    ensures is { IfOk result (λ n. IsFound (document_of_json (value_view value.now)) (λ ts. node_view ts n) texts.new) }
+    ensures is { IfOk result
+        (λ n. IsFound (document_of_json (value_view value.now)) (λ ts. node_view ts n) texts.new) }
 {
     match value {
         Value::Null => Ok(Node::Null),
@@ -95,7 +96,8 @@ fn nodes_of(
     items: &Vec<Value<'_>>,
 ) -> Result<Vec<Node>, JsonFault>
     ensures grows { Grows texts.old texts.new }
-    ensures are { IfOk result (λ ns. IsFound (items_of_json (items_view items.now.items)) (λ ts. nodes_view ts ns.items) texts.new) }
+    ensures are { IfOk result (λ ns. IsFound (items_of_json (items_view items.now.items))
+        (λ ts. nodes_view ts ns.items) texts.new) }
 {
     let mut found = Vec::new(alloc);
     'items: for item in items {
@@ -129,7 +131,8 @@ fn fields_in_turn(
 ) -> Result<Vec<(usize, Node)>, JsonFault>
     requires { IsOrdered (map (λ m. (m.0.now, m.1)) members.now.items) }
     ensures grows { Grows texts.old texts.new }
-    ensures are { IfOk result (λ fs. IsFound (members_of_json (members_view members.now.items)) (λ ts. fields_view ts fs.items) texts.new) }
+    ensures are { IfOk result (λ fs. IsFound (members_of_json (members_view members.now.items))
+        (λ ts. fields_view ts fs.items) texts.new) }
 {
     let mut found = Vec::new(alloc);
     'members: for member in members {
@@ -147,7 +150,8 @@ fn fields_in_order(
     members: &Vec<(&str, Value<'_>)>,
 ) -> Result<Vec<(usize, Node)>, JsonFault>
     ensures grows { Grows texts.old texts.new }
-    ensures are { IfOk result (λ fs. IsFound (members_of_json (members_view members.now.items)) (λ ts. fields_view ts fs.items) texts.new) }
+    ensures are { IfOk result (λ fs. IsFound (members_of_json (members_view members.now.items))
+        (λ ts. fields_view ts fs.items) texts.new) }
 {
     let mut found = BTreeMap::new(alloc);
     'members: for member in members {

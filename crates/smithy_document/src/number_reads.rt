@@ -77,21 +77,24 @@ fn whole(
 
 /// A number of 8 bits.
 pub(crate) fn byte(alloc: Global, document: &Document) -> Result<i8, SerdeError>
-    ensures { Gives (value.whole value.byte) (Some (scalar_of_document ShapeType.Byte (view document.now))) result }
+    ensures { Gives (value.whole value.byte)
+        (Some (scalar_of_document ShapeType.Byte (view document.now))) result }
 {
     Ok(whole(alloc, document, ShapeType::Byte, -0x80, 0x80)? as i8)
 }
 
 /// A number of 16 bits.
 pub(crate) fn short(alloc: Global, document: &Document) -> Result<i16, SerdeError>
-    ensures { Gives (value.whole value.short) (Some (scalar_of_document ShapeType.Short (view document.now))) result }
+    ensures { Gives (value.whole value.short)
+        (Some (scalar_of_document ShapeType.Short (view document.now))) result }
 {
     Ok(whole(alloc, document, ShapeType::Short, -0x8000, 0x8000)? as i16)
 }
 
 /// A number of 32 bits.
 pub(crate) fn integer(alloc: Global, document: &Document) -> Result<i32, SerdeError>
-    ensures { Gives (value.whole value.integer) (Some (scalar_of_document ShapeType.Integer (view document.now))) result }
+    ensures { Gives (value.whole value.integer)
+        (Some (scalar_of_document ShapeType.Integer (view document.now))) result }
 {
     Ok(whole(
         alloc,
@@ -104,7 +107,8 @@ pub(crate) fn integer(alloc: Global, document: &Document) -> Result<i32, SerdeEr
 
 /// A number of 64 bits.
 pub(crate) fn long(alloc: Global, document: &Document) -> Result<i64, SerdeError>
-    ensures { Gives (value.whole value.long) (Some (scalar_of_document ShapeType.Long (view document.now))) result }
+    ensures { Gives (value.whole value.long)
+        (Some (scalar_of_document ShapeType.Long (view document.now))) result }
 {
     Ok(whole(
         alloc,

@@ -96,7 +96,8 @@ fn end_of(container: &Document, names: &Option<Vec<Text>>) -> usize
 
 /// The place behind the next part, if there is one. Takes no memory.
 pub(crate) fn place_behind(container: &Document, place: &Place) -> Option<usize>
-    ensures { result ≡ option_map (λ d. place.now.next + 1) (part_in (view container.now) place.now.names place.now.next) }
+    ensures { result
+        ≡ option_map (λ d. place.now.next + 1) (part_in (view container.now) place.now.names place.now.next) }
 {
     if place.next >= end_of(container, &place.names) {
         return None;

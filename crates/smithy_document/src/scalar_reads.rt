@@ -81,7 +81,8 @@ fn timestamp<S: DocumentSettings>(
 
 // The same without settings.
 fn plain_timestamp(alloc: Global, document: &Document) -> Result<DateTime, SerdeError>
-    ensures { Gives value.timestamp (Some (scalar_of_document ShapeType.Timestamp (view document.now))) result }
+    ensures { Gives value.timestamp
+        (Some (scalar_of_document ShapeType.Timestamp (view document.now))) result }
 {
     match document {
         Document::Number(number) => Ok(NoSettings.coerce_number_to_timestamp(alloc, *number)?),
@@ -104,7 +105,8 @@ pub(crate) fn read_as<S: DocumentSettings>(
 ) -> Result<ReadScalar, SerdeError>
     requires { IsTrue (is_canonical (view document.now)) }
     ensures of_kind { IfOk result (λ a. IsTrue (is_of_kind kind (scalar_of_read a))) }
-    ensures gives { IfNone settings.entry (Gives scalar_of_read (Some (scalar_of_document (type_of kind) (view document.entry.now))) result) }
+    ensures gives { IfNone settings.entry
+        (Gives scalar_of_read (Some (scalar_of_document (type_of kind) (view document.entry.now))) result) }
 {
     match kind {
         ScalarKind::Boolean => Ok(ReadScalar::Boolean(boolean(alloc, document)?)),
