@@ -61,7 +61,8 @@ impl<'a, S: DocumentSettings> DocumentShapeDeserializer<'a, S> {
 }
 
 impl<S: DocumentSettings> ShapeDeserializer for DocumentShapeDeserializer<'_, S> {
-    ghost use Rattle.std.specs.Prelude.{◌≡◌, Ok};
+    ghost use Rattle.std.specs.Prelude.{◌≡◌, IsOk};
+    ghost use Rattle.smithy_serde.specs.ReadCalls.{Skips};
     ghost use Rattle.smithy_document.specs.DocumentHand.{document_hand};
     ghost use Rattle.smithy_document.specs.Sizes.{container_size as container_size_lem, document_at_hand};
 
@@ -109,9 +110,20 @@ impl<S: DocumentSettings> ShapeDeserializer for DocumentShapeDeserializer<'_, S>
         is_null(self.cursor.document(self.root))
     }
 
-    /// Passes over the value at hand. Takes no memory.
+    /// Answers Ok, and leaves the reader as it was. Takes no memory.
+    fn read_null(&mut self) -> Result<(), SerdeError>
+        ensures skips { Skips (document_hand self.old) (document_hand self.new) result }
+        ensures stays { self.new ≡ self.old }
+        ensures ok { IsOk result }
+    {
+        Ok(())
+    }
+
+    /// Passes over the value at hand: it reads nothing. Takes no memory.
     fn skip_value(&mut self, _alloc: Global) -> Result<(), SerdeError>
-        ensures { result ≡ Ok tt }
+        ensures skips { Skips (document_hand self.old) (document_hand self.new) result }
+        ensures stays { self.new ≡ self.old }
+        ensures ok { IsOk result }
     {
         Ok(())
     }

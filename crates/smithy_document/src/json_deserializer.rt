@@ -55,6 +55,8 @@ fn read_node(
 }
 
 impl ShapeDeserializer for JsonDeserializer {
+    ghost use Rattle.std.specs.Prelude.{◌≡◌, IsOk};
+    ghost use Rattle.smithy_serde.specs.ReadCalls.{Skips};
     ghost use Rattle.smithy_document.specs.JsonHand.{json_hand, json_size, PassesOver};
 
     ghost at_hand = { json_hand };
@@ -119,9 +121,20 @@ impl ShapeDeserializer for JsonDeserializer {
         }
     }
 
+    /// Answers Ok, and leaves the reader as it was. Takes no memory.
+    fn read_null(&mut self) -> Result<(), SerdeError>
+        ensures skips { Skips (json_hand self.old) (json_hand self.new) result }
+        ensures stays { self.new ≡ self.old }
+        ensures ok { IsOk result }
+    {
+        Ok(())
+    }
+
     /// Passes over the value at hand; over what is no JSON it is refused as each read is. Takes no memory where it is Ok.
     fn skip_value(&mut self, alloc: Global) -> Result<(), SerdeError>
-        ensures { PassesOver self.old result }
+        ensures skips { Skips (json_hand self.old) (json_hand self.new) result }
+        ensures stays { self.new ≡ self.old }
+        ensures passes { PassesOver self.old result }
     {
         match &self.tree {
             Some(_) => Ok(()),
