@@ -27,12 +27,12 @@ abbrev pub json_hand : JsonDeserializer → AtHand
 json_hand r = hand_of r.tree r.cursor
 
 -- how many items the value at hand tells
+abbrev pub size_over : Option JsonTree → TreeCursor → Option ℕ
+size_over None c = None
+size_over (Some t) c = container_size (document_at (tree_view t) c)
+
 abbrev pub json_size : JsonDeserializer → Option ℕ
-json_size r = size_of r.tree
-  where
-    size_of : Option JsonTree → Option ℕ
-    size_of None = None
-    size_of (Some t) = container_size (document_at (tree_view t) r.cursor)
+json_size r = size_over r.tree r.cursor
 
 -- the value at hand is passed over, and what is no JSON is refused
 abbrev pub PassesOver : {U : Type 0} → JsonDeserializer → Result U SerdeError → Type 0

@@ -147,7 +147,9 @@ impl ShapeDeserializer for JsonDeserializer {
     fn container_size(&self) -> Option<usize>
         ensures { result ≡ json_size self.now }
     {
-        let tree = self.tree.as_ref()?;
-        self.cursor.node(tree).container_size()
+        match &self.tree {
+            Some(tree) => self.cursor.node(tree).container_size(),
+            None => None,
+        }
     }
 }

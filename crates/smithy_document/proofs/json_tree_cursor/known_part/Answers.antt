@@ -1,4 +1,4 @@
-use Rattle.std.proofs.Common.{◌≡◌, ◌<◌, ◌≤◌, List, ℕ, length, subst, sym, ap, arith}
+use Rattle.std.proofs.Common.{◌<◌, ◌≤◌, List, ℕ, length, subst, arith}
 use Rattle.smithy_schema.specs.References.{schema_of}
 use Rattle.smithy_document.specs.JsonTree.{node_view}
 use Rattle.smithy_document.specs.OpenDocuments.{parts_of}

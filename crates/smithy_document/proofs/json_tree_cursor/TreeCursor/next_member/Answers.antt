@@ -1,4 +1,4 @@
-use Rattle.std.proofs.Common.{◌≡◌, true, List, ◌∷◌, ◌++◌, [], None, Some, option_map, refl, sym, ap, ◌∙◌, subst}
+use Rattle.std.proofs.Common.{◌≡◌, true, List, ◌∷◌, ◌++◌, [], None, Some, refl, sym, ap, ◌∙◌, subst}
 use Rattle.smithy_schema.specs.References.{schema_of}
 use Rattle.smithy_document.specs.declared.json_tree_cursor.TreePlace.{TreePlace}
 use Rattle.smithy_document.specs.CursorView.{ClosesBehind, StepsToMember}

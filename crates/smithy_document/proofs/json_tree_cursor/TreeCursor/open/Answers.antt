@@ -1,11 +1,11 @@
-use Rattle.std.proofs.Common.{◌≡◌, ◌∷◌, None, true, false, refl, sym, ap, ◌∙◌, subst}
+use Rattle.std.proofs.Common.{◌≡◌, None, true, sym, ap, ◌∙◌, subst}
 use Rattle.smithy_serde.specs.DocumentReads.{mismatch}
 use Rattle.smithy_serde.specs.Requests.{word_of_document}
 use Rattle.smithy_serde.specs.Refusals.{IsRefusal}
 use Rattle.smithy_document.specs.JsonTree.{tree_view}
 use Rattle.smithy_document.specs.OpenDocuments.{opens_as}
 use Rattle.smithy_document.specs.TreePaths.{document_at, opened_along, opened_by}
-use Rattle.smithy_document.proofs.CursorLemmas.{opened_here, refused_here, starved_here}
+use Rattle.smithy_document.proofs.CursorLemmas.{opened_here, refused_here}
 use Rattle.smithy_document.proofs.TreeLemmas.{along_last}
 use Rattle.smithy_document.proofs.json_tree_cursor.TreeCursor.open.Goals as goal
 
