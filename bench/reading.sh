@@ -1,6 +1,6 @@
 #!/bin/sh
-# Instructions of reading, counted by callgrind: a field of JSON objects of 100, 10,000 and 100,000 String fields, each read by its
-# schema, and a response of 8 headers and 100 such fields. Each is read N times and 2N times; the difference of the two runs,
+# Instructions of reading, counted by callgrind: a field of JSON objects of 100, 10,000 and 100,000 String fields, in the order
+# of the members and in none, each read by its schema, and a response of 8 headers and 100 such fields. Each is read N times and 2N times; the difference of the two runs,
 # divided by what was read between them, is what one takes, so that start-up and the making of the schema drop out.
 # `sh bench/reading.sh [N]`, N is 100 if left out; the larger objects are read fewer times.
 here=$(cd "$(dirname "$0")/.." && pwd)
@@ -21,16 +21,18 @@ count() {
     callgrind_annotate --threshold=100 "$work/$name" >"$work/$name.lines" 2>"$work/log" || exit 70
 }
 
-# objects FIELDS TIMES
+# objects WORD FIELDS TIMES
 objects() {
-    count few object "$1" "$2"
-    count many object "$1" $((2 * $2))
-    python3 "$here/bench/difference.py" "object of $1 fields" $(($1 * $2)) "$work/few.lines" "$work/many.lines" field
+    count few "$1" "$2" "$3"
+    count many "$1" "$2" $((2 * $3))
+    python3 "$here/bench/difference.py" "$1 of $2 fields" $(($2 * $3)) "$work/few.lines" "$work/many.lines" field
 }
 
-objects 100 "$times"
-objects 10000 $(((times + 24) / 25))
-objects 100000 1
+for word in object scrambled; do
+    objects $word 100 "$times"
+    objects $word 10000 $(((times + 24) / 25))
+    objects $word 100000 1
+done
 count few response "$times"
 count many response $((2 * times))
 python3 "$here/bench/difference.py" response "$times" "$work/few.lines" "$work/many.lines" response

@@ -1,5 +1,5 @@
-// Reads a JSON object of so many fields so many times, as `object 100 1000`, or a response so many times, as
-// `response 1000`: a program to count instructions in.
+// Reads a JSON object of so many fields so many times, as `object 100 1000`, or `scrambled 100 1000` where its fields stand
+// in no order, or a response so many times, as `response 1000`: a program to count instructions in.
 #![tactic(auto)]
 
 mod counted;
@@ -11,6 +11,8 @@ mod sample;
 use crate::failed::Failed;
 use crate::object::read_objects;
 use crate::response::read_responses;
+use crate::sample::Order;
+use std::alloc::Global;
 use std::env;
 use std::env::Args;
 use std::process::ExitCode;
@@ -34,6 +36,11 @@ fn number(words: &mut Args) -> Result<u32, Failed> {
     }
 }
 
+fn objects(alloc: Global, words: &mut Args, order: Order) -> Result<(), Failed> {
+    let fields = number(words)?;
+    read_objects(alloc, fields, order, number(words)?)
+}
+
 fn run<R: Env + AllocGlobal>(rt: &R) -> Result<(), Failed> {
     let mut words = env::args(rt)?;
     let _ = words.next();
@@ -41,10 +48,8 @@ fn run<R: Env + AllocGlobal>(rt: &R) -> Result<(), Failed> {
         return Err(Failed);
     };
     match sample.as_str() {
-        "object" => {
-            let fields = number(&mut words)?;
-            read_objects(rt.alloc(), fields, number(&mut words)?)
-        }
+        "object" => objects(rt.alloc(), &mut words, Order::InTurn),
+        "scrambled" => objects(rt.alloc(), &mut words, Order::Scrambled),
         "response" => read_responses(rt.alloc(), number(&mut words)?),
         _ => Err(Failed),
     }

@@ -3,7 +3,7 @@ ghost use Rattle.smithy_serde.specs.StoredValues.{HasNode};
 
 use crate::counted::check_count;
 use crate::failed::Failed;
-use crate::sample::{Sizes, insert_structure, object_text};
+use crate::sample::{Order, Sizes, insert_structure, object_text};
 use smithy_document::JsonCodec;
 use smithy_schema::{SchemaIndex, Schemas};
 use smithy_serde::{Codec, ShapeReader, ValueReader};
@@ -24,15 +24,15 @@ fn read_object(
     check_count(&value, sizes)
 }
 
-/// Reads a JSON object of so many String fields as the value of its structure, so many times.
-pub fn read_objects(alloc: Global, fields: u32, times: u32) -> Result<(), Failed> {
+/// Reads a JSON object of so many String fields, in this order, as the value of its structure, so many times.
+pub fn read_objects(alloc: Global, fields: u32, order: Order, times: u32) -> Result<(), Failed> {
     let sizes = Sizes { headers: 0, fields };
     let mut table = Schemas::new(alloc);
     let node = insert_structure(alloc, &mut table, sizes)?;
     if table.get(node).is_none() {
         return Err(Failed);
     }
-    let text = object_text(alloc, fields)?;
+    let text = object_text(alloc, fields, order)?;
     for _ in 0..times {
         read_object(alloc, &table, node, text.as_bytes(), sizes)?;
     }

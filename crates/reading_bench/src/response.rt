@@ -3,7 +3,7 @@ ghost use Rattle.smithy_serde.specs.StoredValues.{HasNode};
 
 use crate::counted::check_count;
 use crate::failed::Failed;
-use crate::sample::{Sizes, headers_of, insert_structure, object_text};
+use crate::sample::{Order, Sizes, headers_of, insert_structure, object_text};
 use smithy_document::JsonCodec;
 use smithy_http::{NonUtf8HeaderHandling, Response};
 use smithy_response::response_value;
@@ -18,7 +18,7 @@ const SIZES: Sizes = Sizes {
 };
 
 fn sample_response(alloc: Global) -> Result<Response, Failed> {
-    let text = object_text(alloc, SIZES.fields)?;
+    let text = object_text(alloc, SIZES.fields, Order::InTurn)?;
     let body = Blob::new(alloc, text.as_bytes())?;
     let headers = headers_of(alloc, SIZES.headers)?;
     Ok(Response::new(200, headers, Some(body)))

@@ -72,12 +72,29 @@ pub fn headers_of(alloc: Global, count: u32) -> Result<Headers, Failed> {
     Ok(headers)
 }
 
-/// The JSON object of so many fields, in the order of the members.
-pub fn object_text(alloc: Global, fields: u32) -> Result<String, Failed> {
+/// In which order the fields of an object stand.
+#[derive(Clone, Copy)]
+pub enum Order {
+    /// In that of the members, which is byte order of their names.
+    InTurn,
+    /// In none.
+    Scrambled,
+}
+
+// The field that stands at a place. A prime is no divisor of the counts that are measured, so each field stands once.
+fn field_at(place: u32, fields: u32, order: Order) -> u32 {
+    match order {
+        Order::InTurn => place,
+        Order::Scrambled => ((place as u64 * 7919) % fields.max(1) as u64) as u32,
+    }
+}
+
+/// The JSON object of so many fields, in this order.
+pub fn object_text(alloc: Global, fields: u32, order: Order) -> Result<String, Failed> {
     let mut text = String::from_str(alloc, "{")?;
-    for field in 0..fields {
-        let name = field_name(alloc, field)?;
-        let separator = if field == 0 { "" } else { "," };
+    for place in 0..fields {
+        let name = field_name(alloc, field_at(place, fields, order))?;
+        let separator = if place == 0 { "" } else { "," };
         let member = format!(in alloc; "{separator}\"{name}\":\"a field's value\"")?;
         text.push_str(member.as_str())?;
     }

@@ -1,5 +1,5 @@
 // JSON texts as trees.
-ghost use Rattle.std.specs.Prelude.{◌≡◌, ◌<◌, ◌==◌, true, false, length, slice_index, Some, IfOk, IfErr, IfSome, IsTrue, map, option_map, option_and_then};
+ghost use Rattle.std.specs.Prelude.{◌≡◌, ◌<◌, ◌==◌, true, false, length, slice_index, Some, IfOk, IfErr, IfSome, IsTrue, IsUtf8, map, option_map, option_and_then};
 ghost use Rattle.json.specs.Value.{value_view, items_view, members_view};
 ghost use Rattle.serde_json.specs.Read.{number_of as number_of_text, number_from};
 ghost use Rattle.smithy_types.specs.DocumentView.{number_view};
@@ -134,7 +134,7 @@ fn fields_in_turn(
     ensures are { IfOk result (λ fs. IsFound (members_of_json (members_view members.now.items))
         (λ ts. fields_view ts fs.items) texts.new) }
 {
-    let mut found = Vec::new(alloc);
+    let mut found = Vec::with_capacity(alloc, members.len())?;
     'members: for member in members {
         let place = texts.push(member.0)?;
         found.push((place, node_of(alloc, texts, &member.1)?))?;
@@ -186,7 +186,15 @@ fn plain_tree(alloc: Global, text: &[u8]) -> Result<JsonTree, JsonFault>
         return Err(JsonFault::NoDocument);
     };
     let mut scratch = Scratch::new(alloc);
-    let mut reader = Reader::new(text, &mut scratch)?;
+    tree_of_text(alloc, text, &mut scratch)
+}
+
+// The same of a text. It is no part of its caller, so that the scratch, of some 16 KiB, is filled once.
+#[inline(never)]
+fn tree_of_text(alloc: Global, text: &str, scratch: &mut Scratch) -> Result<JsonTree, JsonFault>
+    ensures { IfOk result (λ t. IsUtf8 text.now → document_of_text text.now ≡ Some (tree_view t)) }
+{
+    let mut reader = Reader::new(text, scratch)?;
     let value = match Value::read(alloc, &mut reader, MAX_DEPTH) {
         Ok(value) => value,
         Err(JsonError::OutOfMemory) => return Err(JsonFault::OutOfMemory),
