@@ -65,6 +65,7 @@ fn number_below_zero(numeral: &Numeral<'_>) -> Option<Number>
 
 // The value that stands in a text, without floats.
 #[cycle(node)]
+#[inline(always)]
 fn node_of(alloc: Global, texts: &mut TextList, value: &Value<'_>) -> Result<Node, JsonFault>
     ensures grows { Grows texts.old texts.new }
     ensures is { IfOk result
@@ -90,6 +91,7 @@ fn node_of(alloc: Global, texts: &mut TextList, value: &Value<'_>) -> Result<Nod
 }
 
 #[cycle(node)]
+#[inline(never)]
 fn nodes_of(
     alloc: Global,
     texts: &mut TextList,
@@ -124,6 +126,7 @@ fn are_ascending(members: &Vec<(&str, Value<'_>)>) -> bool
 
 // The fields of members that stand in order.
 #[cycle(node)]
+#[inline(never)]
 fn fields_in_turn(
     alloc: Global,
     texts: &mut TextList,
@@ -144,6 +147,7 @@ fn fields_in_turn(
 
 // The fields of members in any order. At a name that stands more than once the last value stays.
 #[cycle(node)]
+#[inline(never)]
 fn fields_in_order(
     alloc: Global,
     texts: &mut TextList,
