@@ -21,7 +21,10 @@ fn has_comma(format: Format) -> bool
 
 // The place of the comma that ends the first piece; the first comma does not where a piece has one itself.
 fn cutting_comma(bytes: &[u8], own_comma: bool) -> Option<usize>
-    ensures { MatchOption result (cut_at_commas own_comma own_comma bytes.now ≡ bytes.now ∷ []) (λ place. (place < length bytes.now) × (slice_index bytes.now place ≡ 44) × (cut_at_commas own_comma own_comma bytes.now ≡ take place bytes.now ∷ cut_at_commas own_comma own_comma (drop (place + 1) bytes.now))) }
+    ensures { let pieces = cut_at_commas own_comma own_comma in
+        MatchOption result (pieces bytes.now ≡ bytes.now ∷ []) (λ place.
+        (place < length bytes.now) × (slice_index bytes.now place ≡ 44)
+        × (pieces bytes.now ≡ take place bytes.now ∷ pieces (drop (place + 1) bytes.now))) }
 {
     let mut stays = own_comma;
     for (place, b) in bytes.iter().enumerate() {
@@ -37,7 +40,8 @@ fn cutting_comma(bytes: &[u8], own_comma: bool) -> Option<usize>
 
 // The first piece, and what stands behind the comma that ends it, if one does.
 fn cut_piece(text: &str, own_comma: bool) -> (&str, Option<&str>)
-    ensures pieces { cut_at_commas own_comma own_comma text.now ≡ result.0.now ∷ option_map_or (λ rest. cut_at_commas own_comma own_comma rest.now) result.1 [] }
+    ensures pieces { cut_at_commas own_comma own_comma text.now
+        ≡ result.0.now ∷ option_map_or (λ rest. cut_at_commas own_comma own_comma rest.now) result.1 [] }
     ensures shorter { IfSome result.1 (λ rest. length rest.now < length text.now) }
 {
     match cutting_comma(text.as_bytes(), own_comma) {
@@ -72,8 +76,10 @@ fn push_pieces(
     text: &str,
     format: Format,
 ) -> Result<(), HttpError>
-    ensures ok { OnOk result (AreItemsRead (dates_in format (cut_at_commas (has_comma_lem format) (has_comma_lem format) text.now)) seconds.old seconds.new) }
-    ensures err { IfErr result (λ e. IsRefusal e (dates_in format (cut_at_commas (has_comma_lem format) (has_comma_lem format) text.now))) }
+    ensures ok { let pieces = cut_at_commas (has_comma_lem format) (has_comma_lem format) text.now in
+        OnOk result (AreItemsRead (dates_in format pieces) seconds.old seconds.new) }
+    ensures err { let pieces = cut_at_commas (has_comma_lem format) (has_comma_lem format) text.now in
+        IfErr result (λ e. IsRefusal e (dates_in format pieces)) }
 {
     let own_comma = has_comma(format);
     let mut text = text;
@@ -94,7 +100,8 @@ pub(crate) fn push_date_list(
     text: &str,
     format: Format,
 ) -> Result<(), HttpError>
-    ensures ok { OnOk result (AreItemsRead (dates_in format (date_pieces format text.now)) seconds.old seconds.new) }
+    ensures ok { OnOk result
+        (AreItemsRead (dates_in format (date_pieces format text.now)) seconds.old seconds.new) }
     ensures err { IfErr result (λ e. IsRefusal e (dates_in format (date_pieces format text.now))) }
 {
     if text.is_empty() {

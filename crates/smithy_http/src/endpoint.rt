@@ -33,7 +33,8 @@ impl EndpointPrefix {
     /// Takes memory.
     pub fn new(alloc: Global, prefix: &str) -> Result<EndpointPrefix, HttpError>
         ensures ok { IfOk result (λ p. (p ≡ prefix.now) × IsTrue (is_endpoint_prefix prefix.now)) }
-        ensures err { IfErr result (λ e. (e ≡ HttpError.OutOfMemory) ⊎ (e ≡ HttpError.Address) × (is_endpoint_prefix prefix.now ≡ false)) }
+        ensures err { IfErr result (λ e. (e ≡ HttpError.OutOfMemory)
+            ⊎ (e ≡ HttpError.Address) × (is_endpoint_prefix prefix.now ≡ false)) }
     {
         if !is_endpoint_prefix(prefix) {
             return Err(HttpError::Address);
@@ -155,7 +156,8 @@ fn prefix_text<'p>(prefix: Option<&'p EndpointPrefix>) -> &'p str
 
 // Reads a URI.
 fn read_uri(alloc: Global, url: &str) -> Result<Uri, HttpError>
-    ensures { MatchResult result (Spells url.now) (λ e. (e ≡ HttpError.OutOfMemory) ⊎ (e ≡ HttpError.Address) × SpellsNone url.now) }
+    ensures { MatchResult result (Spells url.now) (λ e. (e ≡ HttpError.OutOfMemory)
+        ⊎ (e ≡ HttpError.Address) × SpellsNone url.now) }
 {
     match Uri::from_str(alloc, url) {
         Ok(uri) => Ok(uri),
@@ -174,7 +176,9 @@ struct Address<'u> {
 
 // The address that a URI is.
 fn address_of(uri: &Uri) -> Option<Address<'_>>
-    ensures { MatchOption result ((uri_scheme uri.now ≡ None) ⊎ (uri_authority uri.now ≡ None)) (λ a. (uri_scheme uri.now ≡ Some a.scheme.now) × (uri_authority uri.now ≡ Some a.authority.now) × (uri_path uri.now ≡ a.path.now)) }
+    ensures { MatchOption result ((uri_scheme uri.now ≡ None) ⊎ (uri_authority uri.now ≡ None)) (λ a.
+        (uri_scheme uri.now ≡ Some a.scheme.now)
+        × (uri_authority uri.now ≡ Some a.authority.now) × (uri_path uri.now ≡ a.path.now)) }
 {
     let scheme = uri.scheme_str()?;
     let authority = uri.authority()?;
@@ -192,7 +196,11 @@ fn join(
     prefix: &str,
     target: &str,
 ) -> Result<Text, OutOfMemory>
-    ensures { IfOk result (λ joined. joined ≡ joined_target (record { scheme = address.now.scheme.now; authority = address.now.authority.now; path = address.now.path.now }) prefix.now target.now) }
+    ensures { IfOk result (λ joined. joined ≡ joined_target (record {
+      scheme = address.now.scheme.now;
+      authority = address.now.authority.now;
+      path = address.now.path.now;
+    }) prefix.now target.now) }
 {
     let mut joined = address.scheme.to_ascii_lowercase(alloc)?;
     joined.push_str("://")?;

@@ -24,9 +24,12 @@ use std::alloc::Global;
 /// it has no end, `List(Trailing)` where another byte than a comma follows a closing quote. Takes memory;
 /// `OutOfMemory` where it is not there.
 pub fn tokens(alloc: Global, headers: &Headers, name: &str) -> Result<Words, HttpError>
-    ensures spelled { IfOk result (λ words. SpellInOrder (values_at (str_to_ascii_lowercase name.now) headers.now) words) }
-    ensures value { IfOk result (λ words. tokens_of (values_at (str_to_ascii_lowercase name.now) headers.now) ≡ Ok words) }
-    ensures err { IfErr result (λ e. IsRefusal e (tokens_of (values_at (str_to_ascii_lowercase name.now) headers.now))) }
+    ensures spelled { IfOk result (λ words.
+        SpellInOrder (values_at (str_to_ascii_lowercase name.now) headers.now) words) }
+    ensures value { IfOk result (λ words.
+        tokens_of (values_at (str_to_ascii_lowercase name.now) headers.now) ≡ Ok words) }
+    ensures err { IfErr result (λ e.
+        IsRefusal e (tokens_of (values_at (str_to_ascii_lowercase name.now) headers.now))) }
 {
     let lower = lower_name(alloc, name)?;
     let mut words = Words::new(alloc);
@@ -60,8 +63,10 @@ pub fn dates(
     name: &str,
     format: Format,
 ) -> Result<Longs, HttpError>
-    ensures value { IfOk result (λ seconds. dates_of format (values_at (str_to_ascii_lowercase name.now) headers.now) ≡ Ok seconds) }
-    ensures err { IfErr result (λ e. IsRefusal e (dates_of format (values_at (str_to_ascii_lowercase name.now) headers.now))) }
+    ensures value { IfOk result (λ seconds.
+        dates_of format (values_at (str_to_ascii_lowercase name.now) headers.now) ≡ Ok seconds) }
+    ensures err { IfErr result (λ e.
+        IsRefusal e (dates_of format (values_at (str_to_ascii_lowercase name.now) headers.now))) }
 {
     let lower = lower_name(alloc, name)?;
     let mut seconds = Longs::new(alloc);
@@ -80,8 +85,10 @@ pub fn dates(
 /// `NotUtf8` where the first value is not UTF-8, or the first is and a second is not; `List(TooMany)` where both
 /// are. Takes memory; `OutOfMemory` where it is not there.
 pub fn one_text(alloc: Global, headers: &Headers, name: &str) -> Result<Option<Text>, HttpError>
-    ensures value { IfOk result (λ text. one_text_of (values_at (str_to_ascii_lowercase name.now) headers.now) ≡ Ok text) }
-    ensures err { IfErr result (λ e. IsRefusal e (one_text_of (values_at (str_to_ascii_lowercase name.now) headers.now))) }
+    ensures value { IfOk result (λ text.
+        one_text_of (values_at (str_to_ascii_lowercase name.now) headers.now) ≡ Ok text) }
+    ensures err { IfErr result (λ e.
+        IsRefusal e (one_text_of (values_at (str_to_ascii_lowercase name.now) headers.now))) }
 {
     let lower = lower_name(alloc, name)?;
     match only_text(headers.get_all_bytes(lower.as_str()))? {
@@ -93,14 +100,16 @@ pub fn one_text(alloc: Global, headers: &Headers, name: &str) -> Result<Option<T
 // A name in lower case, so that no search is needed for it.
 fn lower_name(alloc: Global, name: &str) -> Result<String, OutOfMemory>
     ensures lower { IfOk result (λ lower. string_bytes lower ≡ str_to_ascii_lowercase name.now) }
-    ensures twice { IfOk result (λ lower. str_to_ascii_lowercase (string_bytes lower) ≡ str_to_ascii_lowercase name.now) }
+    ensures twice { IfOk result (λ lower.
+        str_to_ascii_lowercase (string_bytes lower) ≡ str_to_ascii_lowercase name.now) }
 {
     Ok(name.to_ascii_lowercase(alloc)?)
 }
 
 // A value as a text.
 fn text_of(value: &[u8]) -> Result<&str, HttpError>
-    ensures { MatchResult result (λ text. value_text value.now ≡ Ok text.now) (λ e. value_text value.now ≡ Err e) }
+    ensures { MatchResult result (λ text. value_text value.now ≡ Ok text.now)
+        (λ e. value_text value.now ≡ Err e) }
 {
     match text_in(value) {
         Some(text) => Ok(text),

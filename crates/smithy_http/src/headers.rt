@@ -56,7 +56,8 @@ impl Headers {
     pub fn try_insert(&mut self, name: &str, value: &str) -> Result<(), HttpError>
         ensures ok { OnOk result (self.new ≡ put self.old (str_to_ascii_lowercase name.now, value.now)) }
         ensures name { IsErrOf result HttpError.Name ↔ (grammar.is_token name.now ≡ false) }
-        ensures value { IsErrOf result HttpError.Value ↔ (grammar.is_token name.now ≡ true) × (grammar.is_header_value value.now ≡ false) }
+        ensures value { IsErrOf result HttpError.Value ↔ (grammar.is_token name.now ≡ true)
+            × (grammar.is_header_value value.now ≡ false) }
         ensures err { OnErr result (self.new ≡ self.old) }
     {
         let pair = tested_pair(self.allocator(), name, value.as_bytes())?;
@@ -71,7 +72,8 @@ impl Headers {
     pub fn append(&mut self, name: &str, value: &[u8]) -> Result<(), HttpError>
         ensures ok { OnOk result (self.new ≡ self.old ++ (str_to_ascii_lowercase name.now, value.now) ∷ []) }
         ensures name { IsErrOf result HttpError.Name ↔ (grammar.is_token name.now ≡ false) }
-        ensures value { IsErrOf result HttpError.Value ↔ (grammar.is_token name.now ≡ true) × (grammar.is_header_value value.now ≡ false) }
+        ensures value { IsErrOf result HttpError.Value ↔ (grammar.is_token name.now ≡ true)
+            × (grammar.is_header_value value.now ≡ false) }
         ensures err { OnErr result (self.new ≡ self.old) }
     {
         let pair = tested_pair(self.allocator(), name, value)?;

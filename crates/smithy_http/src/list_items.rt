@@ -10,7 +10,8 @@ use std::alloc::Global;
 
 // What stands behind a blank at the front.
 fn behind_blank(text: &str) -> Option<&str>
-    ensures { MatchOption result (behind_blanks_lem text.now ≡ text.now) (λ rest. (length rest.now < length text.now) × (behind_blanks_lem rest.now ≡ behind_blanks_lem text.now)) }
+    ensures { MatchOption result (behind_blanks_lem text.now ≡ text.now) (λ rest.
+        (length rest.now < length text.now) × (behind_blanks_lem rest.now ≡ behind_blanks_lem text.now)) }
 {
     match text.strip_prefix(' ') {
         Some(rest) => Some(rest),
@@ -32,7 +33,9 @@ fn behind_blanks(text: &str) -> &str
 // Adds a character from between quotes, or leaves a `\` out. Gives whether the next one is paired with that `\`.
 fn push_char(text: &mut String, paired: bool, c: char) -> Result<bool, OutOfMemory>
     requires { paired ≡ false → c ≢ 34 }
-    ensures { IfOk result (λ next. (rest : List ℕ) → option_map (with_text (string_bytes text.new)) (quoted_text next rest) ≡ option_map (with_text (string_bytes text.old)) (quoted_text paired (encode_utf8 c ++ rest))) }
+    ensures { IfOk result (λ next. (rest : List ℕ) →
+        option_map (with_text (string_bytes text.new)) (quoted_text next rest)
+        ≡ option_map (with_text (string_bytes text.old)) (quoted_text paired (encode_utf8 c ++ rest))) }
 {
     if !paired && c == '\\' {
         return Ok(true);
@@ -45,7 +48,8 @@ fn push_char(text: &mut String, paired: bool, c: char) -> Result<bool, OutOfMemo
 fn read_quoted<'t>(text: &mut String, inner: &'t str) -> Result<&'t str, HttpError>
     requires { string_bytes text.old ≡ [] }
     ensures ok { IfOk result (λ rest. quoted_text false inner.now ≡ Some (string_bytes text.new, rest.now)) }
-    ensures err { IfErr result (λ e. (e ≡ HttpError.OutOfMemory) ⊎ ((e ≡ HttpError.List ListFault.Unended) × (quoted_text false inner.now ≡ None))) }
+    ensures err { IfErr result (λ e. (e ≡ HttpError.OutOfMemory)
+        ⊎ ((e ≡ HttpError.List ListFault.Unended) × (quoted_text false inner.now ≡ None))) }
 {
     let mut chars = inner.chars();
     let mut paired = false;
@@ -60,7 +64,8 @@ fn read_quoted<'t>(text: &mut String, inner: &'t str) -> Result<&'t str, HttpErr
 
 // What stands behind the comma after a quoted text, or nothing at the end.
 fn behind_comma(text: &str) -> Result<&str, HttpError>
-    ensures { MatchResult result (λ rest. behind_comma_lem text.now ≡ Ok rest.now) (λ e. (e ≡ HttpError.List ListFault.Trailing) × (behind_comma_lem text.now ≡ Err ListFault.Trailing)) }
+    ensures { MatchResult result (λ rest. behind_comma_lem text.now ≡ Ok rest.now)
+        (λ e. (e ≡ HttpError.List ListFault.Trailing) × (behind_comma_lem text.now ≡ Err ListFault.Trailing)) }
 {
     if text.is_empty() {
         return Ok(text);

@@ -31,7 +31,8 @@ const FEW_PAIRS: usize = 16;
 pub(crate) fn tested_pair(alloc: Global, name: &str, value: &[u8]) -> Result<Pair, HttpError>
     ensures ok { IfOk result (λ p. pair_of p ≡ (str_to_ascii_lowercase name.now, value.now)) }
     ensures name { IsErrOf result HttpError.Name ↔ (grammar.is_token name.now ≡ false) }
-    ensures value { IsErrOf result HttpError.Value ↔ (grammar.is_token name.now ≡ true) × (grammar.is_header_value value.now ≡ false) }
+    ensures value { IsErrOf result HttpError.Value ↔ (grammar.is_token name.now ≡ true)
+        × (grammar.is_header_value value.now ≡ false) }
 {
     if !is_token(name) {
         return Err(HttpError::Name);
@@ -116,7 +117,8 @@ fn find(pairs: &[Pair], places: &Option<Places>, name: &str) -> Option<usize>
 // The part with the pairs of a name: the one pair, where each name stands once, or all from the first on.
 pub(crate) fn named_part<'p>(pairs: &'p [Pair], places: &Option<Places>, name: &str) -> &'p [Pair]
     requires { ForSome places.now (λ m. IsIndex m (map name_of pairs.now)) }
-    ensures { values_at (str_to_ascii_lowercase name.now) (map pair_of result.now) ≡ values_at (str_to_ascii_lowercase name.now) (map pair_of pairs.now) }
+    ensures { values_at (str_to_ascii_lowercase name.now) (map pair_of result.now)
+        ≡ values_at (str_to_ascii_lowercase name.now) (map pair_of pairs.now) }
 {
     let Some(place) = find(pairs, places, name) else {
         return &[];
@@ -129,7 +131,9 @@ pub(crate) fn named_part<'p>(pairs: &'p [Pair], places: &Option<Places>, name: &
 
 // The first value of a name in any case, and the pairs behind it.
 pub(crate) fn next_value<'p>(pairs: &'p [Pair], name: &str) -> Option<(&'p [u8], &'p [Pair])>
-    ensures { MatchOption result (values_at (str_to_ascii_lowercase name.now) (map pair_of pairs.now) ≡ []) (λ found. values_at (str_to_ascii_lowercase name.now) (map pair_of pairs.now) ≡ found.0.now ∷ values_at (str_to_ascii_lowercase name.now) (map pair_of found.1.now)) }
+    ensures { let values = values_at (str_to_ascii_lowercase name.now) in
+        MatchOption result (values (map pair_of pairs.now) ≡ []) (λ found.
+        values (map pair_of pairs.now) ≡ found.0.now ∷ values (map pair_of found.1.now)) }
 {
     let place = first_place_of(pairs, name)?;
     Some((pairs[place].value.as_slice(), &pairs[place + 1..]))
@@ -146,7 +150,8 @@ fn drop_all_named(pairs: &mut Vec<Pair>, name: &str)
 #[tactic(auto, using(crate::proofs::PutLemmas::removing))]
 pub(crate) fn remove_named(pairs: &mut Vec<Pair>, places: &mut Option<Places>, name: &str)
     requires { ForSome places.old (λ m. IsIndex m (map name_of pairs.old.items)) }
-    ensures pairs { map pair_of pairs.new.items ≡ without (str_to_ascii_lowercase name.now) (map pair_of pairs.old.items) }
+    ensures pairs { map pair_of pairs.new.items
+        ≡ without (str_to_ascii_lowercase name.now) (map pair_of pairs.old.items) }
     ensures index { ForSome places.new (λ m. IsIndex m (map name_of pairs.new.items)) }
 {
     match find(pairs, places, name) {
@@ -297,7 +302,8 @@ pub(crate) fn put_pair(
     pair: Pair,
 ) -> Result<(), OutOfMemory>
     requires { ForSome places.old (λ m. IsIndex m (map name_of pairs.old.items)) }
-    ensures ok { OnOk result (map pair_of pairs.new.items ≡ put (map pair_of pairs.old.items) (pair_of pair)) }
+    ensures ok { OnOk result
+        (map pair_of pairs.new.items ≡ put (map pair_of pairs.old.items) (pair_of pair)) }
     ensures err { OnErr result (map pair_of pairs.new.items ≡ map pair_of pairs.old.items) }
     ensures index { ForSome places.new (λ m. IsIndex m (map name_of pairs.new.items)) }
 {

@@ -55,7 +55,8 @@ fn push_paired(list: &mut String, text: &str) -> Result<(), OutOfMemory>
 
 // Adds a character, with a `\` before a `"` or `\`.
 fn push_paired_char(list: &mut String, c: char) -> Result<(), OutOfMemory>
-    ensures ok { OnOk result (string_bytes list.new ≡ string_bytes list.old ++ flat_map paired (encode_utf8 c)) }
+    ensures ok { OnOk result
+        (string_bytes list.new ≡ string_bytes list.old ++ flat_map paired (encode_utf8 c)) }
     ensures err { OnErr result ((part : List ℕ) × (string_bytes list.new ≡ string_bytes list.old ++ part)) }
 {
     list.push_str(mark_before(c))?;

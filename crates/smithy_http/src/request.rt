@@ -34,7 +34,8 @@ impl Model for Request {
 impl Request {
     /// The request `GET /` with this body and no headers. Takes memory.
     pub fn new(alloc: Global, body: Blob) -> Result<Request, OutOfMemory>
-        ensures { IfOk result (λ r. r ≡ record { method = codes "GET"; target = codes "/"; headers = []; body = body }) }
+        ensures { IfOk result (λ r.
+            r ≡ record { method = codes "GET"; target = codes "/"; headers = []; body = body }) }
     {
         Ok(Request {
             method: Text::from_str(alloc, "GET")?,
@@ -53,7 +54,8 @@ impl Request {
         body: Blob,
     ) -> Result<Request, HttpError>
         requires { IsTrue (is_token method) }
-        ensures ok { IfOk result (λ r. r ≡ record { method = method; target = target; headers = headers; body = body }) }
+        ensures ok { IfOk result (λ r.
+            r ≡ record { method = method; target = target; headers = headers; body = body }) }
         ensures target { IsErrOf result HttpError.Target ↔ (is_legal_target target ≡ false) }
         ensures err { IfErr result (λ e. e ≡ HttpError.Target) }
     {

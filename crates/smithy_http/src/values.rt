@@ -97,7 +97,8 @@ impl<'h> Iterator for GetAll<'h> {
 
 // The next value that is UTF-8.
 fn next_text<'h>(values: &mut GetAllBytes<'h>) -> Option<&'h str>
-    ensures { MatchOption result ((texts_in values.old ≡ []) × (texts_in values.new ≡ [])) (λ text. texts_in values.old ≡ text.now ∷ texts_in values.new) }
+    ensures { MatchOption result ((texts_in values.old ≡ []) × (texts_in values.new ≡ []))
+        (λ text. texts_in values.old ≡ text.now ∷ texts_in values.new) }
 {
     while let Some(value) = values.next() {
         if let Some(text) = text_in(value) {

@@ -32,7 +32,12 @@ impl<'a> ShapeId<'a> {
         requires spelled { fqn.now ≡ namespace.now ++ 35 ∷ shape_name.now }
         requires no_hash { has_hash namespace.now ≡ false }
         requires no_dollar { has_dollar shape_name.now ≡ false }
-        ensures { parts_of result ≡ record { full_name = fqn.now; namespace = namespace.now; shape_name = shape_name.now; member_name = None } }
+        ensures { parts_of result ≡ record {
+          full_name = fqn.now;
+          namespace = namespace.now;
+          shape_name = shape_name.now;
+          member_name = None;
+        } }
     {
         ShapeId {
             full_name: fqn,
@@ -52,7 +57,12 @@ impl<'a> ShapeId<'a> {
         requires spelled { fqn.now ≡ namespace.now ++ 35 ∷ (shape_name.now ++ 36 ∷ member_name.now) }
         requires no_hash { has_hash namespace.now ≡ false }
         requires no_dollar { has_dollar shape_name.now ≡ false }
-        ensures { parts_of result ≡ record { full_name = fqn.now; namespace = namespace.now; shape_name = shape_name.now; member_name = Some member_name.now } }
+        ensures { parts_of result ≡ record {
+          full_name = fqn.now;
+          namespace = namespace.now;
+          shape_name = shape_name.now;
+          member_name = Some member_name.now;
+        } }
     {
         ShapeId {
             full_name: fqn,

@@ -71,7 +71,13 @@ impl Model for MemorySource {
 
     ghost Value = { SourceState };
 
-    ghost view = { λ a. record { left = drop a.done a.bytes; piece = a.piece; failing = a.failing; calls = a.calls; faults = a.failed } };
+    ghost view = { λ a. record {
+      left = drop a.done a.bytes;
+      piece = a.piece;
+      failing = a.failing;
+      calls = a.calls;
+      faults = a.failed;
+    } };
 
     ghost invariant = { λ a. (a.done ≤ length a.bytes) × (0 < a.piece) × (a.calls ≤ 9223372036854775807) };
 }
@@ -142,7 +148,8 @@ fn is_listed(failing: &Longs, call: u64) -> bool
 fn next_bytes(bytes: &[u8], done: usize, buf: &mut [u8]) -> usize
     requires { done ≤ length bytes.now }
     ensures count { result ≡ min (length buf.old) (length bytes.now - done) }
-    ensures given { Gave (Some (drop done bytes.now)) (take result buf.new) (Some (drop (done + result) bytes.now)) }
+    ensures given { Gave (Some (drop done bytes.now)) (take result buf.new)
+        (Some (drop (done + result) bytes.now)) }
     ensures end { 0 < length buf.old → EndsAt result (Some (drop done bytes.now)) }
 {
     let n = buf.len().min(bytes.len() - done);
@@ -174,7 +181,8 @@ impl Model for SureSink {
 
     ghost view = { λ a. record { written = a.bytes.items; room = a.room; faults = a.failed } };
 
-    ghost invariant = { λ a. (vec_len a.bytes ≤ a.room) × (a.room ≤ vec_capacity a.bytes) × (vec_len a.bytes < a.room → a.failed ≡ 0) };
+    ghost invariant = { λ a. (vec_len a.bytes ≤ a.room) × (a.room ≤ vec_capacity a.bytes)
+        × (vec_len a.bytes < a.room → a.failed ≡ 0) };
 }
 
 impl SureSink {
@@ -210,9 +218,12 @@ impl Sink for SureSink {
     /// Takes as many bytes of the piece as still fit. `Failed` comes exactly where a piece that isn't empty comes when the room
     /// is full.
     fn write(&mut self, bytes: &[u8]) -> Result<usize, Failed>
-        ensures fails { IsErr result ↔ IsTrue (is_over_full self.old.room (length self.old.written) (length bytes.now)) }
-        ensures amount { IfOk result (λ n. n ≡ min (length bytes.now) (self.old.room - length self.old.written)) }
-        ensures ok { IfOk result (λ n. self.new ≡ record self.old { written = self.old.written ++ take n bytes.now }) }
+        ensures fails { IsErr result
+            ↔ IsTrue (is_over_full self.old.room (length self.old.written) (length bytes.now)) }
+        ensures amount { IfOk result (λ n.
+            n ≡ min (length bytes.now) (self.old.room - length self.old.written)) }
+        ensures ok { IfOk result (λ n.
+            self.new ≡ record self.old { written = self.old.written ++ take n bytes.now }) }
         ensures err { OnErr result (self.new ≡ record self.old { faults = next_count self.old.faults }) }
         ensures count { self.old.faults ≤ self.new.faults }
         ensures some { IfOk result (λ n. 0 < length bytes.now → 0 < n) }
@@ -244,9 +255,17 @@ impl Model for MemorySink {
 
     ghost Value = { SinkState };
 
-    ghost view = { λ a. record { written = a.bytes.items; room = a.room; piece = a.piece; failing = a.failing; calls = a.calls; faults = a.failed } };
+    ghost view = { λ a. record {
+      written = a.bytes.items;
+      room = a.room;
+      piece = a.piece;
+      failing = a.failing;
+      calls = a.calls;
+      faults = a.failed;
+    } };
 
-    ghost invariant = { λ a. (vec_len a.bytes ≤ a.room) × (a.room ≤ vec_capacity a.bytes) × (0 < a.piece) × (a.calls ≤ 9223372036854775807) };
+    ghost invariant = { λ a. (vec_len a.bytes ≤ a.room) × (a.room ≤ vec_capacity a.bytes)
+        × (0 < a.piece) × (a.calls ≤ 9223372036854775807) };
 }
 
 impl MemorySink {
@@ -260,7 +279,14 @@ impl MemorySink {
         failing: Longs,
     ) -> Result<MemorySink, OutOfMemory>
         requires { 0 < piece }
-        ensures { IfOk result (λ s. s ≡ record { written = []; room = room; piece = piece; failing = failing; calls = 0; faults = 0 }) }
+        ensures { IfOk result (λ s. s ≡ record {
+          written = [];
+          room = room;
+          piece = piece;
+          failing = failing;
+          calls = 0;
+          faults = 0;
+        }) }
     {
         let bytes = Vec::with_capacity(alloc, room)?;
         Ok(MemorySink {

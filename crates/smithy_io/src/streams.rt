@@ -40,7 +40,8 @@ impl From<OutOfMemory> for ReadError {
 pub fn read_all<S: Source>(alloc: Global, source: &mut S) -> Result<Vec<u8>, ReadError>
     ensures whole { IfOk result (λ bytes. IsWhole (S.left source.old) bytes.items (S.left source.new)) }
     ensures short { IfOk result (λ bytes. length bytes.items ≤ max_job_len) }
-    ensures too_long { result ≡ Err ReadError.TooLong → IsTooLong max_job_len (S.left source.old) (S.left source.new) }
+    ensures too_long { result ≡ Err ReadError.TooLong →
+        IsTooLong max_job_len (S.left source.old) (S.left source.new) }
     ensures failed { result ≡ Err ReadError.Failed → Rose (S.faults source.old) (S.faults source.new) }
     ensures count { S.faults source.old ≤ S.faults source.new }
 {

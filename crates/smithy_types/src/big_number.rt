@@ -53,7 +53,8 @@ impl BigInteger {
     pub fn parse(alloc: Global, text: &str) -> Result<BigInteger, TypesError>
         ensures text { IfOk result (λ n. n ≡ text.now) }
         ensures malformed { IsErrOf result TypesError.Malformed ↔ (grammar text.now ≡ false) }
-        ensures too_wide { IsErrOf result TypesError.TooWide ↔ ((grammar text.now ≡ true) × (narrow text.now ≡ false)) }
+        ensures too_wide { IsErrOf result TypesError.TooWide
+            ↔ ((grammar text.now ≡ true) × (narrow text.now ≡ false)) }
         ensures refusals { IfErr result (λ e. e ≢ TypesError.DateRange) }
     {
         let bytes = text.as_bytes();
@@ -125,7 +126,8 @@ impl BigDecimal {
     pub fn parse(alloc: Global, text: &str) -> Result<BigDecimal, TypesError>
         ensures text { IfOk result (λ n. n ≡ text.now) }
         ensures malformed { IsErrOf result TypesError.Malformed ↔ (grammar text.now ≡ false) }
-        ensures too_wide { IsErrOf result TypesError.TooWide ↔ ((grammar text.now ≡ true) × (narrow text.now ≡ false)) }
+        ensures too_wide { IsErrOf result TypesError.TooWide
+            ↔ ((grammar text.now ≡ true) × (narrow text.now ≡ false)) }
         ensures refusals { IfErr result (λ e. e ≢ TypesError.DateRange) }
     {
         let bytes = text.as_bytes();

@@ -57,7 +57,8 @@ fn push_clock(text: &mut String, seconds: u32) -> Result<(), AllocError>
 
 /// Adds a date as `YYYY-MM-DD`.
 fn push_date(text: &mut String, date: &CalendarDate) -> Result<(), AllocError>
-    ensures { OnOk result (string_bytes text.new ≡ string_bytes text.old ++ full_date_text date.now.year date.now.month date.now.day) }
+    ensures { OnOk result (string_bytes text.new ≡ string_bytes text.old
+        ++ full_date_text date.now.year date.now.month date.now.day) }
 {
     let (year, month, day) = (date.year, date.month, date.day);
     write!(text, "{year:04}-{month:02}-{day:02}")
@@ -66,7 +67,8 @@ fn push_date(text: &mut String, date: &CalendarDate) -> Result<(), AllocError>
 /// Adds a date as `09 Jan 2018`.
 fn push_short_date(text: &mut String, date: &CalendarDate) -> Result<(), AllocError>
     requires { IsInRange 1 12 date.now.month }
-    ensures { OnOk result (string_bytes text.new ≡ string_bytes text.old ++ short_date_text date.now.year date.now.month date.now.day) }
+    ensures { OnOk result (string_bytes text.new ≡ string_bytes text.old
+        ++ short_date_text date.now.year date.now.month date.now.day) }
 {
     let (year, month, day) = (date.year, month_name(date.month), date.day);
     write!(text, "{day:02} {month} {year:04}")

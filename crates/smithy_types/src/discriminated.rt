@@ -24,7 +24,11 @@ impl<S: DocumentSettings> Model for DiscriminatedDocument<S> {
 
     ghost coded = { code_by (Tree × (Option (List ℕ) × S)) (coded× coded_document (coded× (coded_option (coded_list coded_ℕ)) S.code)) (λ d. (d.document, (d.discriminator, d.settings))) (λ p. record { document = p.0; discriminator = p.1.0; settings = p.1.1 }) (λ _. refl) };
 
-    ghost view = { λ a. record { document = document_view a.document; discriminator = a.name; settings = a.settings } };
+    ghost view = { λ a. record {
+      document = document_view a.document;
+      discriminator = a.name;
+      settings = a.settings;
+    } };
 }
 
 impl<S: DocumentSettings> DiscriminatedDocument<S> {

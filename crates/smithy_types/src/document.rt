@@ -121,7 +121,8 @@ impl Documents {
 
     /// The document at a place, counted from 0.
     pub fn get(&self, place: usize) -> Option<&Document>
-        ensures { option_map (λ d. view d.now) result ≡ slice_get (list_of_items (items_view self.now)) place }
+        ensures { option_map (λ d. view d.now) result
+            ≡ slice_get (list_of_items (items_view self.now)) place }
     {
         self.items.get(place)
     }
@@ -164,14 +165,16 @@ impl Members {
 
     /// The document at a key.
     pub fn get(&self, key: &str) -> Option<&Document>
-        ensures { option_map (λ d. view d.now) result ≡ lookup (same_text key.now) (list_of_members (members_view self.now)) }
+        ensures { option_map (λ d. view d.now) result
+            ≡ lookup (same_text key.now) (list_of_members (members_view self.now)) }
     {
         self.entries.get(key)
     }
 
     /// The key at a place in byte order, counted from 0; none behind the last. It walks to the place: to go over all members, use `iter`.
     pub fn key_at(&self, place: usize) -> Option<&str>
-        ensures { option_map (λ k. k.now) result ≡ option_map (λ m. m.0) (slice_get (list_of_members (members_view self.now)) place) }
+        ensures { option_map (λ k. k.now) result
+            ≡ option_map (λ m. m.0) (slice_get (list_of_members (members_view self.now)) place) }
     {
         match self.entries.keys().nth(place) {
             Some(key) => Some(key.as_str()),
@@ -181,7 +184,8 @@ impl Members {
 
     /// The document at a place in byte order of the keys, counted from 0; none behind the last. It walks to the place, as `key_at` does.
     pub fn value_at(&self, place: usize) -> Option<&Document>
-        ensures { option_map (λ d. view d.now) result ≡ option_map (λ m. m.1) (slice_get (list_of_members (members_view self.now)) place) }
+        ensures { option_map (λ d. view d.now) result
+            ≡ option_map (λ m. m.1) (slice_get (list_of_members (members_view self.now)) place) }
     {
         self.entries.values().nth(place)
     }

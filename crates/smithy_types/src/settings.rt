@@ -34,7 +34,8 @@ pub trait DocumentSettings {
         alloc: Global,
         number: Number,
     ) -> Result<DateTime, DocumentError>
-        ensures { (result ≡ Err refusal.OutOfMemory) ⊎ gives_number_timestamp self.now (number_view number) result };
+        ensures { (result ≡ Err refusal.OutOfMemory)
+            ⊎ gives_number_timestamp self.now (number_view number) result };
 
     /// The point in time that a text stands for.
     fn coerce_string_to_timestamp(

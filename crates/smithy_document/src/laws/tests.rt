@@ -26,7 +26,8 @@ fn read_back(
 ) -> Result<ShapeValue, SerdeError>
     requires canonical { IsTrue (is_canonical (view document.now)) }
     requires defined { HasNode table.now node.0 }
-    ensures { (n : _) (v : _) → at_place table.now node.0 ≡ Some n → Follows n v → document_of v ≡ Ok (view document.now)
+    ensures { (n : _) (v : _) → at_place table.now node.0 ≡ Some n →
+        Follows n v → document_of v ≡ Ok (view document.now)
         → Gives (value_in table.now) (Some (Ok (normal_form n v))) result }
 {
     let Some(schema) = table.get(node) else {
