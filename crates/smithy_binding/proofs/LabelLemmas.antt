@@ -10,22 +10,22 @@ use Rattle.std.specs.Ordering.{nat_cmp}
 use Rattle.std.specs.Str.{bytes_eq}
 use Rattle.smithy_types.specs.Texts.{found, same_text}
 use Rattle.smithy_binding.specs.declared.labels.Label.{Label}
-use Rattle.smithy_binding.specs.LabelTexts.{text_under}
+use Rattle.smithy_binding.specs.LabelTexts.{text_in_map}
 use Rattle.smithy_binding.specs.Seen.{label_pair}
 
 -- the label at p goes in before those behind it
 pub text-more : (labels : List Label) (p q : ℕ) (label : Label) (old new : BTreeMap (Bor (List ℕ)) (Bor (List ℕ))) (text : Bor (List ℕ)) → p < length labels → q ≡ p + 1
     → label ≡ get_or labels p label → text.now ≡ cow_str_bytes label.text
     → UpdatesBy (λ x y. slice_cmp nat_cmp x.now y.now) (λ k. slice_cmp nat_cmp label.name.now k.now) old new (Some text)
-    → ((name : List ℕ) → text_under old name ≡ found name (map label_pair (drop q labels)))
-    → (name : List ℕ) → text_under new name ≡ found name (map label_pair (drop p labels))
-unfolding text_under
+    → ((name : List ℕ) → text_in_map old name ≡ found name (map label_pair (drop q labels)))
+    → (name : List ℕ) → text_in_map new name ≡ found name (map label_pair (drop p labels))
+unfolding text_in_map
 text-more labels p q label old new text l e at same updates before name =
     rw (drop_more labels p label l, ← at, ← e)
     (ap (λ (o : Option (Bor (List ℕ))). option_map (λ t. t.now) o) (btree_map_updates_str label.name.now old new (Some text) updates name)
     ∙ go (bytes_eq label.name.now name) (before name))
   where
-    go : (is_first : Bool) → text_under old name ≡ found name (map label_pair (drop q labels))
+    go : (is_first : Bool) → text_in_map old name ≡ found name (map label_pair (drop q labels))
         → option_map (λ t. t.now) (cond is_first (Some text) (get_by (λ k. slice_cmp nat_cmp name k.now) old))
         ≡ option_map (λ p. p.1) (cond is_first (Some (label_pair label)) (find (λ p. same_text p.0 name) (map label_pair (drop q labels))))
     go true rest = ap (λ (t : List ℕ). Some t) same

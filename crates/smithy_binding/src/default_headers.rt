@@ -1,5 +1,5 @@
 // The headers that a request has by default.
-ghost use Rattle.std.specs.Prelude.{◌≡◌, IsTrue, OnOk, is_some, codes, decimal};
+ghost use Rattle.std.specs.Prelude.{◌≡◌, ◌++◌, ◌∷◌, [], IsTrue, OnOk, is_some, codes, decimal};
 ghost use Rattle.std.specs.Str.{str_to_ascii_lowercase};
 ghost use Rattle.smithy_types.specs.Grammars.{is_token, is_header_value};
 ghost use Rattle.smithy_types.specs.Texts.{found};
@@ -23,21 +23,13 @@ fn has_name(headers: &Headers, name: &str) -> bool
     false
 }
 
-// Adds a header behind the others, where it is wanted and no such name stands.
-fn add_default(
-    headers: &mut Headers,
-    is_wanted: bool,
-    name: &str,
-    value: &str,
-) -> Result<(), OutOfMemory>
+// Adds a header behind the others.
+fn append(headers: &mut Headers, name: &str, value: &str) -> Result<(), OutOfMemory>
     requires token { IsTrue (is_token name.now) }
     requires lower { str_to_ascii_lowercase name.now ≡ name.now }
     requires value { IsTrue (is_header_value value.now) }
-    ensures { OnOk result (headers.new ≡ with_default is_wanted name.now value.now headers.old) }
+    ensures { OnOk result (headers.new ≡ headers.old ++ (name.now, value.now) ∷ []) }
 {
-    if !is_wanted || has_name(headers, name) {
-        return Ok(());
-    }
     match headers.append(name, value.as_bytes()) {
         Ok(()) => Ok(()),
         Err(HttpError::Name) => unreachable!(),
@@ -46,7 +38,23 @@ fn add_default(
     }
 }
 
-// Adds the length.
+// Adds the content type, where it is wanted and none stands.
+fn add_content_type(
+    headers: &mut Headers,
+    is_wanted: bool,
+    content_type: &str,
+) -> Result<(), OutOfMemory>
+    requires { IsTrue (is_header_value content_type.now) }
+    ensures { OnOk result
+        (headers.new ≡ with_default is_wanted (codes "content-type") content_type.now headers.old) }
+{
+    if !is_wanted || has_name(headers, "content-type") {
+        return Ok(());
+    }
+    append(headers, "content-type", content_type)
+}
+
+// Adds the length, where it is wanted and none stands.
 fn add_length(
     alloc: Global,
     headers: &mut Headers,
@@ -56,11 +64,11 @@ fn add_length(
     ensures { OnOk result
         (headers.new ≡ with_default is_wanted (codes "content-length") (decimal length) headers.old) }
 {
-    if !is_wanted {
+    if !is_wanted || has_name(headers, "content-length") {
         return Ok(());
     }
     let text = format!(in alloc; "{length}")?;
-    add_default(headers, is_wanted, "content-length", text.as_str())
+    append(headers, "content-length", text.as_str())
 }
 
 /// Adds the content type where the body is the codec's (RFC 7231, section 3.1.1.5), and the length where it is or has
@@ -78,7 +86,7 @@ pub fn add_defaults(
         (headers.new ≡ with_defaults content_type.now is_codec length (omit_of omit) headers.old) }
 {
     let wants_type = is_codec && !omit.content_type;
-    add_default(headers, wants_type, "content-type", content_type)?;
+    add_content_type(headers, wants_type, content_type)?;
     let wants_length = (length != 0 || is_codec) && !omit.content_length;
     add_length(alloc, headers, wants_length, length)
 }

@@ -2,7 +2,7 @@
 ghost use Rattle.std.specs.Prelude.{◌≡◌, IfOk, map, option_map};
 ghost use Rattle.smithy_types.specs.Texts.{found};
 ghost use Rattle.smithy_binding.specs.Seen.{label_pair};
-ghost use Rattle.smithy_binding.specs.LabelTexts.{text_under};
+ghost use Rattle.smithy_binding.specs.LabelTexts.{text_in_map, text_under};
 
 use std::alloc::{AllocError, Global};
 use std::borrow::CowStr;
@@ -15,16 +15,23 @@ pub struct Label<'t, 'w> {
     pub text: CowStr<'w, Global>,
 }
 
-/// The text of each label by its name.
-pub type LabelTexts<'l> = BTreeMap<&'l str, &'l str>;
+// So many labels are searched through where they stand: that costs less than a map.
+const FEW_LABELS: usize = 8;
 
-/// The text of the first label of each name. Takes memory, linear in the number of labels.
-#[tactic(auto, unfolding(crate::specs::LabelTexts::text_under))]
-pub fn texts_by_name<'l>(
+/// The texts of labels by their names: few labels as they stand, or a map of many.
+#[derive(Drop)]
+pub enum LabelTexts<'l> {
+    Few(&'l [Label<'l, 'l>]),
+    Many(BTreeMap<&'l str, &'l str>),
+}
+
+// The texts in a map, where of each name the first label's text stays.
+#[tactic(auto, unfolding(crate::specs::LabelTexts::text_in_map))]
+fn texts_in_map<'l>(
     alloc: Global,
     labels: &'l [Label<'l, 'l>],
-) -> Result<LabelTexts<'l>, AllocError>
-    ensures { IfOk result (λ m. text_under m ≡ (λ name. found name (map label_pair labels.now))) }
+) -> Result<BTreeMap<&'l str, &'l str>, AllocError>
+    ensures { IfOk result (λ m. text_in_map m ≡ (λ name. found name (map label_pair labels.now))) }
 {
     let mut texts = BTreeMap::new(alloc);
     let mut i = labels.len();
@@ -36,10 +43,38 @@ pub fn texts_by_name<'l>(
     Ok(texts)
 }
 
+/// The text of the first label of each name. Takes memory for more than eight labels, linear in their number.
+pub fn texts_by_name<'l>(
+    alloc: Global,
+    labels: &'l [Label<'l, 'l>],
+) -> Result<LabelTexts<'l>, AllocError>
+    ensures { IfOk result (λ m. text_under m ≡ (λ name. found name (map label_pair labels.now))) }
+{
+    if labels.len() <= FEW_LABELS {
+        return Ok(LabelTexts::Few(labels));
+    }
+    Ok(LabelTexts::Many(texts_in_map(alloc, labels)?))
+}
+
+// The text of the first label of a name.
+fn first_text<'l>(labels: &'l [Label<'l, 'l>], name: &str) -> Option<&'l str>
+    ensures { option_map (λ t. t.now) result ≡ found name.now (map label_pair labels.now) }
+{
+    for label in labels {
+        if label.name == name {
+            return Some(label.text.as_str());
+        }
+    }
+    None
+}
+
 /// The text under a name.
-#[tactic(auto, unfolding(crate::specs::LabelTexts::text_under))]
+#[tactic(auto, unfolding(crate::specs::LabelTexts::text_in_map))]
 pub fn text_of_label<'l>(texts: &LabelTexts<'l>, name: &'l str) -> Option<&'l str>
     ensures { option_map (λ t. t.now) result ≡ text_under texts.now name.now }
 {
-    texts.get(&name).copied()
+    match texts {
+        LabelTexts::Few(labels) => first_text(*labels, name),
+        LabelTexts::Many(texts) => texts.get(&name).copied(),
+    }
 }

@@ -76,13 +76,14 @@ fn fill_by<'l>(
     alloc: Global,
     template: &'l str,
     texts: &LabelTexts<'l>,
+    room: usize,
 ) -> Result<String, SerdeError>
     ensures ok { IfOk result
         (λ t. filled_by (text_under texts.now) (pieces template.now) ≡ Ok (string_bytes t)) }
     ensures err { IfErr result
         (IsTold (hole_fault (filled_by (text_under texts.now) (pieces template.now)))) }
 {
-    let mut out = String::new(alloc);
+    let mut out = String::with_capacity(alloc, room)?;
     let mut rest = template;
     while let Some((hole, behind)) = cut_hole(rest) {
         out.push_str(hole.literal)?;
@@ -98,6 +99,7 @@ fn fill<'l>(
     alloc: Global,
     template: &'l str,
     labels: &'l [Label<'l, 'l>],
+    room: usize,
 ) -> Result<String, SerdeError>
     ensures ok { IfOk result
         (λ t. filled (pieces template.now) (map label_pair labels.now) ≡ Ok (string_bytes t)) }
@@ -105,7 +107,7 @@ fn fill<'l>(
         (IsTold (hole_fault (filled (pieces template.now) (map label_pair labels.now)))) }
 {
     let texts = texts_by_name(alloc, labels)?;
-    fill_by(alloc, template, &texts)
+    fill_by(alloc, template, &texts, room)
 }
 
 /// Adds a pair behind a `&`, both sides escaped (Smithy, HTTP protocol bindings, httpQuery).
@@ -164,7 +166,8 @@ pub fn whole_target<'l>(
     ensures err { IfErr result
         (IsTold (hole_fault (target_with template.now (map label_pair labels.now) query.now))) }
 {
-    let mut target = fill(alloc, template, labels)?;
+    let room = template.len() + query.len();
+    let mut target = fill(alloc, template, labels, room)?;
     push_query(&mut target, query)?;
     Ok(target)
 }

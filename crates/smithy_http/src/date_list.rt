@@ -1,7 +1,7 @@
 // The dates of a list of dates, read where they stand (RFC 7231, section 7.1.1.1).
 ghost use Rattle.std.specs.Prelude.{◌≡◌, ◌∷◌, ◌++◌, ◌+◌, ◌<◌, [], ℤ, take, drop, length, slice_index, MatchOption, IfSome, IfErr, OnOk};
 ghost use Rattle.std.specs.Option.{option_map_or};
-ghost use Rattle.smithy_http.specs.DateLists.{cut_at_commas, has_comma as has_comma_lem, date_pieces, dates_in, date_in};
+ghost use Rattle.smithy_http.specs.DateLists.{cut_at_commas, has_comma, date_pieces, dates_in, date_in};
 ghost use Rattle.smithy_http.specs.HeaderValues.{IsRefusal};
 ghost use Rattle.smithy_http.specs.ItemReading.{AreItemsRead, IsDateRead};
 
@@ -11,7 +11,7 @@ use std::alloc::Global;
 
 // Whether a date of the format has a comma.
 fn has_comma(format: Format) -> bool
-    ensures { result ≡ has_comma_lem format }
+    ensures { result ≡ has_comma format }
 {
     match format {
         Format::HttpDate => true,
@@ -76,9 +76,9 @@ fn push_pieces(
     text: &str,
     format: Format,
 ) -> Result<(), HttpError>
-    ensures ok { let pieces = cut_at_commas (has_comma_lem format) (has_comma_lem format) text.now in
+    ensures ok { let pieces = cut_at_commas (has_comma format) (has_comma format) text.now in
         OnOk result (AreItemsRead (dates_in format pieces) seconds.old seconds.new) }
-    ensures err { let pieces = cut_at_commas (has_comma_lem format) (has_comma_lem format) text.now in
+    ensures err { let pieces = cut_at_commas (has_comma format) (has_comma format) text.now in
         IfErr result (λ e. IsRefusal e (dates_in format pieces)) }
 {
     let own_comma = has_comma(format);

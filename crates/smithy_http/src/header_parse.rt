@@ -3,7 +3,7 @@ ghost use Rattle.std.specs.Prelude.{◌≡◌, Ok, Err, IfOk, IfErr, OnOk, Match
 ghost use Rattle.std.specs.Str.{str_to_ascii_lowercase, trim};
 ghost use Rattle.smithy_http.specs.DateLists.{value_dates, dates_of};
 ghost use Rattle.smithy_http.specs.Facts.{values_at};
-ghost use Rattle.smithy_http.specs.HeaderValues.{IsRefusal, IsListRefusal, SpellInOrder, value_text, value_texts, tokens_of, one_text_of, refusal_of_second as refusal_of_second_lem};
+ghost use Rattle.smithy_http.specs.HeaderValues.{IsRefusal, IsListRefusal, SpellInOrder, value_text, value_texts, tokens_of, one_text_of, refusal_of_second};
 ghost use Rattle.smithy_http.specs.ItemReading.{AreItemsRead};
 ghost use Rattle.smithy_http.specs.ListTexts.{list_texts};
 
@@ -185,7 +185,7 @@ fn only_text<'h>(values: GetAllBytes<'h>) -> Result<Option<&'h str>, HttpError>
 
 // The refusal of a second value.
 fn refusal_of_second(second: &[u8]) -> HttpError
-    ensures { result ≡ refusal_of_second_lem second.now }
+    ensures { result ≡ refusal_of_second second.now }
 {
     match text_in(second) {
         Some(_) => HttpError::List(ListFault::TooMany),

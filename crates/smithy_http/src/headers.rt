@@ -1,5 +1,6 @@
 // Header fields.
 ghost use Rattle.std.specs.Prelude.{◌≡◌, ◌∷◌, ◌++◌, [], map, false, true, ◌↔◌, IfOk, OnOk, OnErr, IsErrOf};
+ghost use Rattle.std.specs.Cow.{cow_str_bytes};
 ghost use Rattle.std.specs.Option.{option_copied};
 ghost use Rattle.std.specs.Str.{str_to_ascii_lowercase};
 ghost use Rattle.smithy_types.specs.Grammars as grammar;
@@ -11,10 +12,12 @@ ghost use Rattle.smithy_http.specs.Pairs.{pair_of};
 use crate::error::HttpError;
 use crate::pairs::{
     Pair, Places, add_pair, copy_pair, named_part, next_value, put_pair, remove_named, tested_pair,
+    tested_text_pair,
 };
 use crate::values::{GetAll, GetAllBytes, text_in};
 use smithy_types::OutOfMemory;
 use std::alloc::Global;
+use std::borrow::CowStr;
 use std::marker::Model;
 
 /// Header fields, seen as the list of their pairs of a lower-case name and value bytes, in order.
@@ -61,6 +64,20 @@ impl Headers {
         ensures err { OnErr result (self.new ≡ self.old) }
     {
         let pair = tested_pair(self.allocator(), name, value.as_bytes())?;
+        put_pair(&mut self.pairs, &mut self.places, pair)?;
+        Ok(())
+    }
+
+    /// `try_insert` with a text as the value, of which no copy is made where it is owned.
+    pub fn insert_text(&mut self, name: &str, value: CowStr<'_, Global>) -> Result<(), HttpError>
+        ensures ok { OnOk result
+            (self.new ≡ put self.old (str_to_ascii_lowercase name.now, cow_str_bytes value.entry)) }
+        ensures name { IsErrOf result HttpError.Name ↔ (grammar.is_token name.now ≡ false) }
+        ensures value { IsErrOf result HttpError.Value ↔ (grammar.is_token name.now ≡ true)
+            × (grammar.is_header_value (cow_str_bytes value.entry) ≡ false) }
+        ensures err { OnErr result (self.new ≡ self.old) }
+    {
+        let pair = tested_text_pair(self.allocator(), name, value)?;
         put_pair(&mut self.pairs, &mut self.places, pair)?;
         Ok(())
     }

@@ -2,7 +2,7 @@
 ghost use Rattle.std.specs.Prelude.{◌≡◌, ◌≢◌, ◌⊎◌, ◌<◌, ◌++◌, [], List, ℕ, false, Some, None, Ok, Err, length, option_map, string_bytes, encode_utf8, MatchOption, MatchResult, IfOk, IfErr, OnOk};
 ghost use Rattle.smithy_http.specs.HeaderValues.{IsListRefusal};
 ghost use Rattle.smithy_http.specs.ItemReading.{IsItemRead, AreItemsRead, with_text};
-ghost use Rattle.smithy_http.specs.ListTexts.{behind_blanks as behind_blanks_lem, behind_comma as behind_comma_lem, quoted_text, quoted_item, bare_item as bare_item_lem, first_item, list_texts};
+ghost use Rattle.smithy_http.specs.ListTexts.{behind_blanks, behind_comma, quoted_text, quoted_item, bare_item, first_item, list_texts};
 
 use crate::error::{HttpError, ListFault};
 use smithy_types::{OutOfMemory, Words};
@@ -10,8 +10,8 @@ use std::alloc::Global;
 
 // What stands behind a blank at the front.
 fn behind_blank(text: &str) -> Option<&str>
-    ensures { MatchOption result (behind_blanks_lem text.now ≡ text.now) (λ rest.
-        (length rest.now < length text.now) × (behind_blanks_lem rest.now ≡ behind_blanks_lem text.now)) }
+    ensures { MatchOption result (behind_blanks text.now ≡ text.now) (λ rest.
+        (length rest.now < length text.now) × (behind_blanks rest.now ≡ behind_blanks text.now)) }
 {
     match text.strip_prefix(' ') {
         Some(rest) => Some(rest),
@@ -21,7 +21,7 @@ fn behind_blank(text: &str) -> Option<&str>
 
 // What stands behind the blanks at the front.
 fn behind_blanks(text: &str) -> &str
-    ensures { result.now ≡ behind_blanks_lem text.now }
+    ensures { result.now ≡ behind_blanks text.now }
 {
     let mut rest = text;
     while let Some(behind) = behind_blank(rest) {
@@ -64,8 +64,8 @@ fn read_quoted<'t>(text: &mut String, inner: &'t str) -> Result<&'t str, HttpErr
 
 // What stands behind the comma after a quoted text, or nothing at the end.
 fn behind_comma(text: &str) -> Result<&str, HttpError>
-    ensures { MatchResult result (λ rest. behind_comma_lem text.now ≡ Ok rest.now)
-        (λ e. (e ≡ HttpError.List ListFault.Trailing) × (behind_comma_lem text.now ≡ Err ListFault.Trailing)) }
+    ensures { MatchResult result (λ rest. behind_comma text.now ≡ Ok rest.now)
+        (λ e. (e ≡ HttpError.List ListFault.Trailing) × (behind_comma text.now ≡ Err ListFault.Trailing)) }
 {
     if text.is_empty() {
         return Ok(text);
@@ -90,8 +90,8 @@ fn push_quoted<'t>(alloc: Global, words: &mut Words, inner: &'t str) -> Result<&
 
 // The text of an item that is not quoted, and what stands behind its comma.
 fn bare_item(item: &str) -> (&str, &str)
-    ensures text { result.0.now ≡ (bare_item_lem item.now).0 }
-    ensures rest { result.1.now ≡ (bare_item_lem item.now).1 }
+    ensures text { result.0.now ≡ (bare_item item.now).0 }
+    ensures rest { result.1.now ≡ (bare_item item.now).1 }
 {
     match item.split_once(',') {
         Some((text, rest)) => (text.trim(), rest),
@@ -101,7 +101,7 @@ fn bare_item(item: &str) -> (&str, &str)
 
 // Adds the text of an item that is not quoted, and gives what stands behind it.
 fn push_bare<'t>(words: &mut Words, item: &'t str) -> Result<&'t str, OutOfMemory>
-    ensures { IfOk result (λ rest. IsItemRead (Ok (bare_item_lem item.now)) words.old words.new rest.now) }
+    ensures { IfOk result (λ rest. IsItemRead (Ok (bare_item item.now)) words.old words.new rest.now) }
 {
     let (text, rest) = bare_item(item);
     words.push(text)?;

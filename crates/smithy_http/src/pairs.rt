@@ -1,6 +1,7 @@
 // Pairs of a name and a value, in order, and the place of each name among them.
 ghost use Rattle.std.specs.Prelude.{◌≡◌, ◌∷◌, ◌++◌, [], map, position, string_bytes, false, true, ◌↔◌, IfOk, OnOk, OnErr, IsErrOf, MatchOption, vec_capacity};
 ghost use Rattle.std.specs.Bool.{OnTrue};
+ghost use Rattle.std.specs.Cow.{cow_str_bytes};
 ghost use Rattle.std.specs.Option.{ForSome};
 ghost use Rattle.std.specs.Str.{str_to_ascii_lowercase};
 ghost use Rattle.smithy_types.specs.Grammars as grammar;
@@ -12,6 +13,7 @@ ghost use Rattle.smithy_http.specs.Pairs.{pair_of, name_of, is_named, named_othe
 use crate::error::HttpError;
 use smithy_types::{Blob, OutOfMemory, is_header_value, is_token};
 use std::alloc::Global;
+use std::borrow::CowStr;
 use std::collections::BTreeMap;
 
 // A field, its name in lower case.
@@ -27,9 +29,11 @@ pub(crate) type Places = BTreeMap<String, usize>;
 // So many pairs have no map of their places: to search through them costs less than to copy each name into a map.
 const FEW_PAIRS: usize = 16;
 
-// The pair of a name in lower case and a value, once both are tested.
-pub(crate) fn tested_pair(alloc: Global, name: &str, value: &[u8]) -> Result<Pair, HttpError>
-    ensures ok { IfOk result (λ p. pair_of p ≡ (str_to_ascii_lowercase name.now, value.now)) }
+// Room for so many pairs is made with the first.
+const FIRST_ROOM: usize = 8;
+
+// Whether a field may have this name and this value.
+fn test_pair(name: &str, value: &[u8]) -> Result<(), HttpError>
     ensures name { IsErrOf result HttpError.Name ↔ (grammar.is_token name.now ≡ false) }
     ensures value { IsErrOf result HttpError.Value ↔ (grammar.is_token name.now ≡ true)
         × (grammar.is_header_value value.now ≡ false) }
@@ -40,11 +44,47 @@ pub(crate) fn tested_pair(alloc: Global, name: &str, value: &[u8]) -> Result<Pai
     if !is_header_value(value) {
         return Err(HttpError::Value);
     }
+    Ok(())
+}
+
+// A name in lower case.
+fn in_lower_case(alloc: Global, name: &str) -> Result<String, OutOfMemory>
+    ensures { IfOk result (λ n. string_bytes n ≡ str_to_ascii_lowercase name.now) }
+{
     let mut lower = String::from_str(alloc, name)?;
     lower.make_ascii_lowercase();
+    Ok(lower)
+}
+
+// The pair of a name in lower case and a value, once both are tested.
+pub(crate) fn tested_pair(alloc: Global, name: &str, value: &[u8]) -> Result<Pair, HttpError>
+    ensures ok { IfOk result (λ p. pair_of p ≡ (str_to_ascii_lowercase name.now, value.now)) }
+    ensures name { IsErrOf result HttpError.Name ↔ (grammar.is_token name.now ≡ false) }
+    ensures value { IsErrOf result HttpError.Value ↔ (grammar.is_token name.now ≡ true)
+        × (grammar.is_header_value value.now ≡ false) }
+{
+    test_pair(name, value)?;
     Ok(Pair {
-        name: lower,
+        name: in_lower_case(alloc, name)?,
         value: Blob::new(alloc, value)?,
+    })
+}
+
+// The same with a text as the value, of which no copy is made where it is owned.
+pub(crate) fn tested_text_pair(
+    alloc: Global,
+    name: &str,
+    value: CowStr<'_, Global>,
+) -> Result<Pair, HttpError>
+    ensures ok { IfOk result (λ p. pair_of p ≡ (str_to_ascii_lowercase name.now, cow_str_bytes value.entry)) }
+    ensures name { IsErrOf result HttpError.Name ↔ (grammar.is_token name.now ≡ false) }
+    ensures value { IsErrOf result HttpError.Value ↔ (grammar.is_token name.now ≡ true)
+        × (grammar.is_header_value (cow_str_bytes value.entry) ≡ false) }
+{
+    test_pair(name, value.as_str().as_bytes())?;
+    Ok(Pair {
+        name: in_lower_case(alloc, name)?,
+        value: Blob::from_vec(value.into_owned(alloc)?.into_bytes()),
     })
 }
 
@@ -135,7 +175,7 @@ pub(crate) fn next_value<'p>(pairs: &'p [Pair], name: &str) -> Option<(&'p [u8],
         MatchOption result (values (map pair_of pairs.now) ≡ []) (λ found.
         values (map pair_of pairs.now) ≡ found.0.now ∷ values (map pair_of found.1.now)) }
 {
-    let place = first_place_of(pairs, name)?;
+    let place = find(pairs, &None, name)?;
     Some((pairs[place].value.as_slice(), &pairs[place + 1..]))
 }
 
@@ -287,7 +327,7 @@ fn push_new(
     ensures err { OnErr result (pairs.new.items ≡ pairs.old.items) }
     ensures index { ForSome places.new (λ m. IsIndex m (map name_of pairs.new.items)) }
 {
-    pairs.reserve(1)?;
+    pairs.reserve(if pairs.is_empty() { FIRST_ROOM } else { 1 })?;
     keep_places(*pairs.allocator(), places, pairs)?;
     add_place(*pairs.allocator(), places, pairs, pair.name.as_str())?;
     pairs.push(pair).unwrap();

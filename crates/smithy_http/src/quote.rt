@@ -2,7 +2,7 @@
 ghost use Rattle.std.specs.Prelude.{◌≡◌, ◌++◌, List, ℕ, IfOk, OnOk, OnErr, flat_map, encode_utf8, string_bytes};
 ghost use Rattle.std.specs.List.{list_any};
 ghost use Rattle.std.specs.Str.{chars};
-ghost use Rattle.smithy_http.specs.Quoting.{begins_with_white_space as begins_lem, ends_with_white_space as ends_lem, is_delimiter as delimiter_lem, needs_quotes as needs_quotes_lem, mark_before as mark_before_lem, paired, quoted, list_item};
+ghost use Rattle.smithy_http.specs.Quoting.{begins_with_white_space, ends_with_white_space, is_delimiter, needs_quotes, mark_before, paired, quoted, list_item};
 
 use smithy_types::{OutOfMemory, Text};
 use std::alloc::Global;
@@ -66,7 +66,7 @@ fn push_paired_char(list: &mut String, c: char) -> Result<(), OutOfMemory>
 
 // What stands before a character between quotes.
 fn mark_before(c: char) -> &'static str
-    ensures { result.now ≡ mark_before_lem c }
+    ensures { result.now ≡ mark_before c }
 {
     match c {
         '"' | '\\' => "\\",
@@ -76,13 +76,13 @@ fn mark_before(c: char) -> &'static str
 
 // Whether the text has to stand in quotes.
 fn needs_quotes(text: &str) -> bool
-    ensures { result ≡ needs_quotes_lem text.now }
+    ensures { result ≡ needs_quotes text.now }
 {
     begins_with_white_space(text) || ends_with_white_space(text) || has_delimiter(text.as_bytes())
 }
 
 fn begins_with_white_space(text: &str) -> bool
-    ensures { result ≡ begins_lem (chars text.now) }
+    ensures { result ≡ begins_with_white_space (chars text.now) }
 {
     match text.chars().next() {
         Some(c) => c.is_whitespace(),
@@ -91,7 +91,7 @@ fn begins_with_white_space(text: &str) -> bool
 }
 
 fn ends_with_white_space(text: &str) -> bool
-    ensures { result ≡ ends_lem (chars text.now) }
+    ensures { result ≡ ends_with_white_space (chars text.now) }
 {
     match text.chars().next_back() {
         Some(c) => c.is_whitespace(),
@@ -101,7 +101,7 @@ fn ends_with_white_space(text: &str) -> bool
 
 // Whether some byte is `"`, `,`, `(` or `)`.
 fn has_delimiter(bytes: &[u8]) -> bool
-    ensures { result ≡ list_any delimiter_lem bytes.now }
+    ensures { result ≡ list_any is_delimiter bytes.now }
 {
     for b in bytes {
         if is_delimiter(*b) {
@@ -112,7 +112,7 @@ fn has_delimiter(bytes: &[u8]) -> bool
 }
 
 fn is_delimiter(b: u8) -> bool
-    ensures { result ≡ delimiter_lem b }
+    ensures { result ≡ is_delimiter b }
 {
     matches!(b, b'"' | b',' | b'(' | b')')
 }

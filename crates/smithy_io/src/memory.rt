@@ -1,7 +1,7 @@
 // Sources and sinks in memory.
 ghost use Rattle.std.specs.Prelude.{◌≡◌, ◌+◌, ◌-◌, ◌<◌, ◌≤◌, ◌↔◌, ◌++◌, [], min, length, take, drop, Some, IsTrue, IsOk, IsErr, IfOk, OnErr, vec_len, vec_capacity};
 ghost use Rattle.smithy_io.specs.Causes.{Rose, next_count};
-ghost use Rattle.smithy_io.specs.Memory.{next_call as next_call_lem, is_listed as is_listed_lem, SourceState, SinkState, SureSinkState, fails_to_give, given_count, gave, failed_to_give, fails_to_take, taken_count, took, failed_to_take, is_over_full};
+ghost use Rattle.smithy_io.specs.Memory.{next_call, is_listed, SourceState, SinkState, SureSinkState, fails_to_give, given_count, gave, failed_to_give, fails_to_take, taken_count, took, failed_to_take, is_over_full};
 ghost use Rattle.smithy_io.specs.Streams.{Gave, EndsAt, Keeps, Gained, IsFull};
 
 use crate::sink::Sink;
@@ -131,7 +131,7 @@ impl Source for MemorySource {
 // The number of the next call.
 fn next_call(calls: u64) -> u64
     requires { calls ≤ 9223372036854775807 }
-    ensures { result ≡ next_call_lem calls }
+    ensures { result ≡ next_call calls }
 {
     (calls + 1).min(i64::MAX as u64)
 }
@@ -139,7 +139,7 @@ fn next_call(calls: u64) -> u64
 // Whether the call of this number is to fail.
 fn is_listed(failing: &Longs, call: u64) -> bool
     requires { call ≤ 9223372036854775807 }
-    ensures { result ≡ is_listed_lem failing.now call }
+    ensures { result ≡ is_listed failing.now call }
 {
     failing.as_slice().contains(&(call as i64))
 }

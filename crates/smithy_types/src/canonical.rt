@@ -1,6 +1,6 @@
 // Documents in which each number has one form.
 ghost use Rattle.std.specs.Prelude.{◌≡◌};
-ghost use Rattle.smithy_types.specs.Documents.{is_canonical as canonical_lem, are_canonical_items, are_canonical_members};
+ghost use Rattle.smithy_types.specs.Documents.{is_canonical, are_canonical_items, are_canonical_members};
 ghost use Rattle.smithy_types.specs.DocumentView.{view, items_view, members_view};
 
 use crate::document::{Document, Documents, Members};
@@ -9,7 +9,7 @@ use crate::number::Number;
 impl Document {
     /// Whether each `NegInt` in the document is negative. Takes no memory.
     pub fn is_canonical(&self) -> bool
-        ensures { result ≡ canonical_lem (view self.now) }
+        ensures { result ≡ is_canonical (view self.now) }
     {
         is_canonical(self)
     }
@@ -17,7 +17,7 @@ impl Document {
 
 #[cycle(canonical)]
 fn is_canonical(document: &Document) -> bool
-    ensures { result ≡ canonical_lem (view document.now) }
+    ensures { result ≡ is_canonical (view document.now) }
 {
     match document {
         Document::Number(Number::NegInt(value)) => *value < 0,

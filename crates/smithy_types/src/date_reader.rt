@@ -3,7 +3,7 @@ ghost use Rattle.std.specs.Prelude.{◌≡◌, ◌+◌, ◌*◌, ◌<◌, ◌≤
 ghost use Rattle.std.specs.List.{list_all};
 ghost use Rattle.jiff_core.specs.Calendar.{IsEpochDay};
 ghost use Rattle.smithy_types.specs.BigNumbers.{is_digit};
-ghost use Rattle.smithy_types.specs.TimestampReading.{epoch_seconds_of, calendar_time_of, full_date_of, short_date_of, clock_of, is_weekday_name, has_short_date_form as short_date_form_lem, is_zone as zone_lem, is_zero_fraction as zero_fraction_lem, fits_picture as fits_picture_lem, has_picture as picture_lem, number_at as number_at_lem, month_number as month_number_lem, day_number as day_number_lem};
+ghost use Rattle.smithy_types.specs.TimestampReading.{epoch_seconds_of, calendar_time_of, full_date_of, short_date_of, clock_of, is_weekday_name, has_short_date_form, is_zone, is_zero_fraction, fits_picture, has_picture, number_at, month_number, day_number};
 
 use crate::date_text::{month_name, weekday_name};
 use crate::number_text::is_ascii_digit;
@@ -85,7 +85,7 @@ fn read_short_date(text: &[u8]) -> Option<i32>
 #[tactic(auto, unfolding(crate::specs::TimestampReading::has_short_date_form))]
 fn has_short_date_form(text: &[u8]) -> bool
     requires { length text.now ≡ 17 }
-    ensures { result ≡ short_date_form_lem text.now }
+    ensures { result ≡ has_short_date_form text.now }
 {
     let weekday = is_weekday(&text[..3]);
     let day = has_picture(b", 00 ", &text[3..8]);
@@ -117,7 +117,7 @@ fn day_number(year: u16, month: u8, day: u8) -> Option<i32>
     requires year { year < 10000 }
     requires month { month < 100 }
     requires day { day < 100 }
-    ensures { result ≡ day_number_lem year month day }
+    ensures { result ≡ day_number year month day }
 {
     if year == 0 {
         return None;
@@ -130,7 +130,7 @@ fn day_number(year: u16, month: u8, day: u8) -> Option<i32>
 
 #[tactic(auto, unfolding(crate::specs::TimestampReading::month_number))]
 fn month_number(name: &[u8]) -> Option<u8>
-    ensures value { result ≡ month_number_lem name.now }
+    ensures value { result ≡ month_number name.now }
     ensures bound { IfSome result (λ month. month ≤ 12) }
 {
     for month in 1..13 {
@@ -155,14 +155,14 @@ fn is_weekday(name: &[u8]) -> bool
 
 #[tactic(auto, unfolding(crate::specs::TimestampReading::is_zone))]
 fn is_zone(text: &[u8], zone: &[u8]) -> bool
-    ensures { result ≡ zone_lem zone.now text.now }
+    ensures { result ≡ is_zone zone.now text.now }
 {
     let (fraction, end) = text.split_at(text.len().saturating_sub(zone.len()));
     is_zero_fraction(fraction) && end == zone
 }
 
 fn is_zero_fraction(text: &[u8]) -> bool
-    ensures { result ≡ zero_fraction_lem text.now }
+    ensures { result ≡ is_zero_fraction text.now }
 {
     match text.split_first() {
         None => true,
@@ -184,7 +184,7 @@ fn are_zeros(text: &[u8]) -> bool
 // Whether the text has a digit where the picture has a 0, and elsewhere the picture's byte.
 #[tactic(auto, unfolding(crate::specs::TimestampReading::has_picture))]
 fn has_picture(picture: &[u8], text: &[u8]) -> bool
-    ensures { result ≡ picture_lem picture.now text.now }
+    ensures { result ≡ has_picture picture.now text.now }
 {
     if picture.len() != text.len() {
         return false;
@@ -198,7 +198,7 @@ fn has_picture(picture: &[u8], text: &[u8]) -> bool
 }
 
 fn fits_picture(picture: u8, b: u8) -> bool
-    ensures { result ≡ fits_picture_lem picture b }
+    ensures { result ≡ fits_picture picture b }
 {
     if picture == b'0' {
         is_ascii_digit(b)
@@ -212,7 +212,7 @@ fn two_digits(text: &[u8], place: usize) -> u8
     requires room { place + 2 ≤ length text.now }
     requires first { IsTrue (is_digit (slice_index text.now place)) }
     requires second { IsTrue (is_digit (slice_index text.now (place + 1))) }
-    ensures value { result ≡ number_at_lem place 2 text.now }
+    ensures value { result ≡ number_at place 2 text.now }
     ensures bound { result < 100 }
 {
     (text[place] - b'0') * 10 + (text[place + 1] - b'0')
@@ -225,7 +225,7 @@ fn four_digits(text: &[u8], place: usize) -> u16
     requires second { IsTrue (is_digit (slice_index text.now (place + 1))) }
     requires third { IsTrue (is_digit (slice_index text.now (place + 2))) }
     requires fourth { IsTrue (is_digit (slice_index text.now (place + 3))) }
-    ensures value { result ≡ number_at_lem place 4 text.now }
+    ensures value { result ≡ number_at place 4 text.now }
     ensures bound { result < 10000 }
 {
     u16::from(two_digits(text, place)) * 100 + u16::from(two_digits(text, place + 2))

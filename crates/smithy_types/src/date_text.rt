@@ -8,6 +8,11 @@ use std::alloc::{AllocError, Global};
 
 const SECONDS_IN_DAY: u64 = 86_400;
 
+// The lengths of the two texts.
+const DATE_TIME_LEN: usize = 20;
+
+const HTTP_DATE_LEN: usize = 29;
+
 /// The English name of a day of the week in three letters, where day 0 is a Monday.
 pub(crate) fn weekday_name(day: u32) -> &'static str
     ensures { result.now ≡ weekday_name day }
@@ -80,7 +85,7 @@ pub(crate) fn date_time_text(alloc: Global, seconds: u64) -> Result<String, Allo
     ensures { IfOk result (λ t. string_bytes t ≡ date_time_text seconds) }
 {
     let date = date_on((seconds / SECONDS_IN_DAY) as u32);
-    let mut text = String::new(alloc);
+    let mut text = String::with_capacity(alloc, DATE_TIME_LEN)?;
     push_date(&mut text, &date)?;
     text.push_str("T")?;
     push_clock(&mut text, (seconds % SECONDS_IN_DAY) as u32)?;
@@ -94,7 +99,8 @@ pub(crate) fn http_date_text(alloc: Global, seconds: u64) -> Result<String, Allo
     ensures { IfOk result (λ t. string_bytes t ≡ http_date_text seconds) }
 {
     let day = (seconds / SECONDS_IN_DAY) as u32;
-    let mut text = String::from_str(alloc, weekday_name(day))?;
+    let mut text = String::with_capacity(alloc, HTTP_DATE_LEN)?;
+    text.push_str(weekday_name(day))?;
     text.push_str(", ")?;
     push_short_date(&mut text, &date_on(day))?;
     text.push_str(" ")?;

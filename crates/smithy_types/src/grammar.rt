@@ -2,7 +2,7 @@
 ghost use Rattle.std.specs.Prelude.{◌≡◌, ◌≤◌, ◌+◌, ◌==◌, drop, length, position};
 ghost use Rattle.std.specs.List.{list_all, before_first, after_first, position_or_len};
 ghost use Rattle.smithy_types.specs.ByteClasses.{bytes_of, flag_of};
-ghost use Rattle.smithy_types.specs.Grammars.{is_token as token_lem, is_header_value as header_value_lem, is_path as path_lem, scheme_len, is_authority_and_path as authority_lem, is_stem as stem_lem, is_target as target_lem, is_legal_target};
+ghost use Rattle.smithy_types.specs.Grammars.{is_token, is_header_value, is_path, scheme_len, is_authority_and_path, is_stem, is_target, is_legal_target};
 
 /// The most bytes that a request target may have.
 pub const MAX_TARGET_LEN: usize = 65_534;
@@ -20,7 +20,7 @@ enum ByteClass {
 /// Whether the text is a token (RFC 7230, section 3.2.6), as header names and methods are: not empty, and of ASCII letters, digits
 /// and ``!#$%&'*+-.^_`|~`` only. Takes no memory.
 pub fn is_token(text: &str) -> bool
-    ensures { result ≡ token_lem text.now }
+    ensures { result ≡ is_token text.now }
 {
     !text.is_empty() && are_all(ByteClass::Token, text.as_bytes())
 }
@@ -28,7 +28,7 @@ pub fn is_token(text: &str) -> bool
 /// Whether the bytes may stand as a header's value (RFC 7230, section 3.2): tabs, 0x20 to 0x7E and 0x80 to 0xFF, in any number.
 /// Takes no memory.
 pub fn is_header_value(bytes: &[u8]) -> bool
-    ensures { result ≡ header_value_lem bytes.now }
+    ensures { result ≡ is_header_value bytes.now }
 {
     are_all(ByteClass::HeaderValue, bytes)
 }
@@ -86,13 +86,13 @@ fn are_all(class: ByteClass, bytes: &[u8]) -> bool
 }
 
 fn is_target(target: &[u8]) -> bool
-    ensures { result ≡ target_lem target.now }
+    ensures { result ≡ is_target target.now }
 {
     is_stem(before(target, b'?')) && are_all(ByteClass::Query, after(target, b'?'))
 }
 
 fn is_stem(stem: &[u8]) -> bool
-    ensures { result ≡ stem_lem stem.now }
+    ensures { result ≡ is_stem stem.now }
 {
     if is_path(stem) {
         return true;
@@ -102,13 +102,13 @@ fn is_stem(stem: &[u8]) -> bool
 }
 
 fn is_path(text: &[u8]) -> bool
-    ensures { result ≡ path_lem text.now }
+    ensures { result ≡ is_path text.now }
 {
     text.starts_with(b"/") && are_all(ByteClass::Path, text)
 }
 
 fn is_authority_and_path(text: &[u8]) -> bool
-    ensures { result ≡ authority_lem text.now }
+    ensures { result ≡ is_authority_and_path text.now }
 {
     let authority = before(text, b'/');
     !authority.is_empty()

@@ -3,7 +3,7 @@ ghost use Rattle.std.specs.Prelude.{◌≡◌, ◌+◌, ◌^◌, ◌<◌, ◌≤
 ghost use Rattle.std.specs.List.{list_all, position_or_len, before_first, after_first};
 ghost use Rattle.std.specs.Option.{SomeIff};
 ghost use Rattle.std.specs.Str.Parse.{digits_value_after};
-ghost use Rattle.smithy_types.specs.BigNumbers.{is_digit, is_exponent_mark, unsigned as unsigned_lem, are_digits as are_digits_lem, is_signed_digits as signed_digits_lem, is_exponent as exponent_lem, is_mantissa as mantissa_lem, mantissa_of, exponent_of, is_big_decimal as big_decimal_lem, coefficient as coefficient_lem, coefficient_in, has_narrow_coefficient as narrow_lem};
+ghost use Rattle.smithy_types.specs.BigNumbers.{is_digit, is_exponent_mark, unsigned, are_digits, is_signed_digits, is_exponent, is_mantissa, mantissa_of, exponent_of, is_big_decimal, coefficient, coefficient_in, has_narrow_coefficient};
 
 use crate::grammar::{after, before};
 
@@ -12,14 +12,14 @@ const LIMIT: u128 = 170_141_183_460_469_231_731_687_303_715_884_105_728;
 
 /// Whether the bytes are an optional sign and digits.
 pub(crate) fn is_signed_digits(text: &[u8]) -> bool
-    ensures { result ≡ signed_digits_lem text.now }
+    ensures { result ≡ is_signed_digits text.now }
 {
     are_digits(unsigned(text))
 }
 
 /// Whether the bytes are an optional sign, a mantissa and an exponent.
 pub(crate) fn is_big_decimal(text: &[u8]) -> bool
-    ensures { result ≡ big_decimal_lem text.now }
+    ensures { result ≡ is_big_decimal text.now }
 {
     let (mantissa, exponent) = mantissa_and_exponent(text);
     is_mantissa(mantissa) && is_exponent(exponent)
@@ -27,8 +27,8 @@ pub(crate) fn is_big_decimal(text: &[u8]) -> bool
 
 /// Whether the coefficient with its sign is -2^127 to 2^127 - 1.
 pub(crate) fn has_narrow_coefficient(text: &[u8]) -> bool
-    requires { IsTrue (mantissa_lem (mantissa_of text.now)) }
-    ensures { result ≡ narrow_lem text.now }
+    requires { IsTrue (is_mantissa (mantissa_of text.now)) }
+    ensures { result ≡ has_narrow_coefficient text.now }
 {
     let (mantissa, _) = mantissa_and_exponent(text);
     let Some(value) = coefficient(mantissa) else {
@@ -42,7 +42,7 @@ pub(crate) fn has_narrow_coefficient(text: &[u8]) -> bool
 }
 
 fn unsigned(text: &[u8]) -> &[u8]
-    ensures { result.now ≡ unsigned_lem text.now }
+    ensures { result.now ≡ unsigned text.now }
 {
     match text.split_first() {
         Some((b'+' | b'-', number)) => number,
@@ -51,7 +51,7 @@ fn unsigned(text: &[u8]) -> &[u8]
 }
 
 fn are_digits(text: &[u8]) -> bool
-    ensures { result ≡ are_digits_lem text.now }
+    ensures { result ≡ are_digits text.now }
 {
     !text.is_empty() && are_all_digits(text)
 }
@@ -74,14 +74,14 @@ pub(crate) fn is_ascii_digit(b: u8) -> bool
 }
 
 fn is_mantissa(text: &[u8]) -> bool
-    ensures { result ≡ mantissa_lem text.now }
+    ensures { result ≡ is_mantissa text.now }
 {
     let (whole, part) = (before(text, b'.'), after(text, b'.'));
     are_all_digits(whole) && are_all_digits(part) && !(whole.is_empty() && part.is_empty())
 }
 
 fn is_exponent(text: &[u8]) -> bool
-    ensures { result ≡ exponent_lem text.now }
+    ensures { result ≡ is_exponent text.now }
 {
     match text.split_first() {
         None => true,
@@ -116,7 +116,7 @@ fn first_mark(number: &[u8]) -> Option<usize>
 
 // The number of a mantissa's digits, if it fits.
 fn coefficient(mantissa: &[u8]) -> Option<u128>
-    requires { IsTrue (mantissa_lem mantissa.now) }
+    requires { IsTrue (is_mantissa mantissa.now) }
     ensures { SomeIff result (coefficient_in mantissa.now < 2 ^ 128) (coefficient_in mantissa.now) }
 {
     let whole = read_on(0, before(mantissa, b'.'))?;

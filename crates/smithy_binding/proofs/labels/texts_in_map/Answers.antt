@@ -1,14 +1,14 @@
 use Rattle.std.proofs.Common.{◌≡◌, ◌-◌, ℕ, List, map, arith}
 use Rattle.smithy_types.specs.Texts.{found}
-use Rattle.smithy_binding.specs.LabelTexts.{text_under}
+use Rattle.smithy_binding.specs.LabelTexts.{text_in_map}
 use Rattle.smithy_binding.specs.Seen.{label_pair}
 use Rattle.smithy_binding.proofs.LabelLemmas.{text-more}
-use Rattle.smithy_binding.proofs.labels.texts_by_name.Goals as goal
+use Rattle.smithy_binding.proofs.labels.texts_in_map.Goals as goal
 
 pub returns : goal.returns
 returns c =
     let first : c.loop-i.i ≡ 0 = omega arith in
-    let all : (name : List ℕ) → text_under c.loop-i.texts name ≡ found name (map label_pair c.args.labels.now) = λ name. rw first at (c.loop-i.invariant.found name) in
+    let all : (name : List ℕ) → text_in_map c.loop-i.texts name ≡ found name (map label_pair c.args.labels.now) = λ name. rw first at (c.loop-i.invariant.found name) in
     λ j name. all name j
 
 pub loop-i-preserved : goal.loop-i-preserved

@@ -1,13 +1,13 @@
 use Rattle.std.proofs.Common.{◌≡◌, ◌≤◌, ℕ, List, length, map, drop}
 use Rattle.smithy_types.specs.Texts.{found}
-use Rattle.smithy_binding.specs.LabelTexts.{text_under}
+use Rattle.smithy_binding.specs.LabelTexts.{text_in_map}
 use Rattle.smithy_binding.specs.Seen.{label_pair}
-use Rattle.smithy_binding.proofs.labels.texts_by_name.Given as goal
+use Rattle.smithy_binding.proofs.labels.texts_in_map.Given as goal
 
 abbrev pub invariant-loop-i : goal.invariant-loop-i
 invariant-loop-i l = record {
   within : l.i ≤ length l.labels;
-  found : (name : List ℕ) → text_under l.texts name ≡ found name (map label_pair (drop l.i l.labels));
+  found : (name : List ℕ) → text_in_map l.texts name ≡ found name (map label_pair (drop l.i l.labels));
 }
 
 abbrev pub decreases-loop-i : goal.decreases-loop-i
