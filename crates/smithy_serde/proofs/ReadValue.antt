@@ -41,7 +41,7 @@ use Rattle.smithy_serde.specs.ReadCalls.{AtHand, Reads, Gives, read_at, scalar_o
 use Rattle.smithy_serde.specs.ReadsBy.{ReadsBy}
 use Rattle.smithy_serde.specs.ValueRead.{all_read, write_by, entry_by, IsPlaced, joined, value_by_kind, value_read, list_by, map_by, value_of_list, value_of_map, value_of_structure}
 use Rattle.smithy_serde.specs.ValueReading.{structure_of, gives_structure}
-use Rattle.smithy_serde.proofs.ReadCollect.{handed_built, handed_built_of}
+use Rattle.smithy_serde.proofs.ReadCollect.{handed_built, handed_built_of, given_ok, given_err}
 use Rattle.smithy_serde.proofs.ReadLevels.{value_once, Each}
 use Rattle.smithy_serde.proofs.WritesLemmas.{appended-no_writes, appended_assoc}
 
@@ -67,6 +67,9 @@ pub record AtNode (n : Schema) (held : Option Held) (k : ShapeType) (null reads 
   pub same : k ≡ n.node.kind
   pub told : IfSome held (λ h. null ≡ is_null_held h)
   pub is : reads ≡ (null && not (same_kind k kind.Document))
+
+pub at_node : {n : Schema} {held : Option Held} {k : ShapeType} {null reads : Bool} → k ≡ n.node.kind → IfSome held (λ h. null ≡ is_null_held h) → reads ≡ (null && not (same_kind k kind.Document)) → AtNode n held k null reads
+at_node same told is = record { same = same; told = told; is = is }
 
 planned : (n : Schema) (h : Held) (k : ShapeType) (null reads : Bool) → AtNode n (Some h) k null reads → reads ≡ false → value_read n h ≡ value_by_kind value_read k n h
 planned n h k null reads a other =
@@ -108,29 +111,15 @@ pub record IsRead {B : Type 0} (add : Writes → B → Writes) (total : List B �
   pub is : read ≡ then_give all total
   pub built : Built add all no_writes new answer
 
-given_ok : {A B : Type 0} (f : A → Value) (add : Writes → B → Writes) (total : List B → Value) (r : Result (List B) SerdeError) (new : Writes) (v : A)
-    → Built add r no_writes new (Ok tt) → ((bs : List B) → new ≡ all_added add no_writes bs → f v ≡ total bs) → Gives f (Some (then_give r total)) (Ok v)
-given_ok f add total (Ok bs) new v (inl b) is = is bs b.1
-given_ok f add total (Ok bs) new v (inr bad) is = cc
-given_ok f add total (Err x) new v (inl bad) is = cc
-given_ok f add total (Err x) new v (inr bad) is = cc
-
-given_err : {A B : Type 0} (f : A → Value) (add : Writes → B → Writes) (total : List B → Value) (r : Result (List B) SerdeError) (new : Writes) (e : SerdeError)
-    → Built add r no_writes new (Err e) → Gives f (Some (then_give r total)) (Err e)
-given_err f add total (Ok bs) new e (inl b) = let bad : Err e ≡ Ok tt = b.0 in cc
-given_err f add total (Ok bs) new e (inr m) = cc
-given_err f add total (Err x) new e (inl same) = inl cc
-given_err f add total (Err x) new e (inr m) = inr cc
-
 pub read_ok : {A B : Type 0} (f : A → Value) (add : Writes → B → Writes) (total : List B → Value) (read : Held → Result Value SerdeError) (held : Option Held) (new : Writes) (v : A)
     → IfSome held (λ h. IsRead add total (read h) new (Ok tt)) → ((bs : List B) → new ≡ all_added add no_writes bs → f v ≡ total bs) → Gives f (option_map read held) (Ok v)
 read_ok f add total read None new v r is = tt
-read_ok f add total read (Some h) new v r is = rw r.is (given_ok f add total r.all new v r.built is)
+read_ok f add total read (Some h) new v r is = rw r.is (given_ok f add total no_writes r.all new v r.built is)
 
 pub read_err : {A B : Type 0} (f : A → Value) (add : Writes → B → Writes) (total : List B → Value) (read : Held → Result Value SerdeError) (held : Option Held) (new : Writes) (e : SerdeError)
     → IfSome held (λ h. IsRead add total (read h) new (Err e)) → Gives f (option_map read held) (Err e)
 read_err f add total read None new e r = tt
-read_err f add total read (Some h) new e r = rw r.is (given_err f add total r.all new e r.built)
+read_err f add total read (Some h) new e r = rw r.is (given_err f add total no_writes r.all new e r.built)
 
 -- what was handed out, where the value at hand is told
 handed_of : {S : Type 0} (takes : S → Slot → Held → S → Answer → Type 0) (g : _) (n : Schema) (h : Held) (listing : Option Listing) (s t : S) (answer : Answer) → listing ≡ Some (contents g n h)
@@ -205,21 +194,8 @@ all_placed n (d ∷ ds) = one_placed n d (flat_map (known n) ds) (all_placed n d
 
 fields_placed : (n : Schema) (h : Held) → IfOk (fields n h) (Each (λ (x : Schema × Held). IsPlaced n.table x.0))
 unfolding fields
-fields_placed n (held.header name values) = tt
-fields_placed n (held.element text) = tt
-fields_placed n (held.date seconds) = tt
-fields_placed n (held.prefixed entries) = tt
-fields_placed n (held.status n_2) = tt
-fields_placed n (held.raw bytes) = tt
-fields_placed n (held.document doc.null) = tt
-fields_placed n (held.document (doc.boolean b)) = tt
-fields_placed n (held.document (doc.number z)) = tt
-fields_placed n (held.document (doc.string s)) = tt
-fields_placed n (held.document (doc.array ds)) = tt
 fields_placed n (held.document (doc.object ms)) = all_placed n (list_of_members ms)
-fields_placed n (held.input text is_read) = tt
-fields_placed n (held.item text) = tt
-fields_placed n (held.refused e) = tt
+fields_placed n _ = tt
 
 -- what is built of members that all stand in the table
 members_built : (n : Schema) (h : Held) (s t : StructBuilder) (answer : Answer) → s.table.now ≡ n.table
@@ -418,12 +394,12 @@ opened_ok : (held : Option Held) (n : Schema) (now sorted new : Writes) (v : Str
     → members_of v ≡ sorted → sorted ≡ in_index_order now → now ≡ new → IfSome held (λ h. Gives structure_of (Some (value_of_structure value_read (shape n) h)) (Ok v))
 opened_ok None n now sorted new v r is order same = tt
 opened_ok (Some h) n now sorted new v r is order same =
-    rw r.is (given_ok structure_of add_write structure_total r.all new v r.built (is_structure new now sorted (structure_of v) (ap value.structure is) order same))
+    rw r.is (given_ok structure_of add_write structure_total no_writes r.all new v r.built (is_structure new now sorted (structure_of v) (ap value.structure is) order same))
 
 opened_err : (held : Option Held) (n : Schema) (new : Writes) (e : SerdeError) → IfSome held (λ h. IsRead add_write structure_total (value_of_structure value_read (shape n) h) new (Err e))
     → IfSome held (λ h. Gives structure_of (Some (value_of_structure value_read (shape n) h)) (Err e))
 opened_err None n new e r = tt
-opened_err (Some h) n new e r = rw r.is (given_err structure_of add_write structure_total r.all new e r.built)
+opened_err (Some h) n new e r = rw r.is (given_err structure_of add_write structure_total no_writes r.all new e r.built)
 
 by_node : (held : Option Held) (r : ValueReader) (n : Schema) (answer : Result StructValue SerdeError) → Some n ≡ at_place r.table.now r.schema.0
     → IfSome held (λ h. Gives structure_of (Some (value_of_structure value_read (shape n) h)) answer) → IfSome held (λ h. gives_structure r h answer)
