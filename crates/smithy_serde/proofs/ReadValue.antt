@@ -43,6 +43,7 @@ use Rattle.smithy_serde.specs.ValueRead.{all_read, write_by, entry_by, IsPlaced,
 use Rattle.smithy_serde.specs.ValueReading.{structure_of, gives_structure}
 use Rattle.smithy_serde.proofs.ReadCollect.{handed_built, handed_built_of, given_ok, given_err}
 use Rattle.smithy_serde.proofs.ReadLevels.{value_once, Each}
+use Rattle.smithy_serde.proofs.StoredLemmas.{group_value, group_defined}
 use Rattle.smithy_serde.proofs.WritesLemmas.{appended-no_writes, appended_assoc}
 
 -- want of memory may come anywhere
@@ -247,33 +248,9 @@ null_is : (t : Table) → value_in t stored.Null ≡ value.scalar value.null
 unfolding value_in
 null_is t = refl
 
-list_is : (t : Table) (ws : WriteList) → value_in t (stored.List ws) ≡ value.list (writes_in t ws)
-unfolding value_in
-list_is t ws = refl
-
-map_is : (t : Table) (ws : WriteList) → value_in t (stored.Map ws) ≡ value.map (writes_in t ws)
-unfolding value_in
-map_is t ws = refl
-
-structure_is : (t : Table) (ws : WriteList) → value_in t (stored.Struct ws) ≡ value.structure (writes_in t ws)
-unfolding value_in
-structure_is t ws = refl
-
 null_defined : (t : Table) → IsDefined t stored.Null
 unfolding IsDefined
 null_defined t = tt
-
-list_defined : (t : Table) (ws : WriteList) → AreDefined t ws → IsDefined t (stored.List ws)
-unfolding IsDefined
-list_defined t ws d = d
-
-map_defined : (t : Table) (ws : WriteList) → AreDefined t ws → IsDefined t (stored.Map ws)
-unfolding IsDefined
-map_defined t ws d = d
-
-structure_defined : (t : Table) (ws : WriteList) → AreDefined t ws → IsDefined t (stored.Struct ws)
-unfolding IsDefined
-structure_defined t ws d = d
 
 pub value_null : (t : Table) (place : ℕ) (n : Schema) (k : ShapeType) (null reads : Bool) (old : AtHand) → Some n ≡ at_place t place → AtNode n old.held k null reads → reads ≡ true → ReadsValue t place old old (Ok stored.Null)
 value_null t place n k null reads old there a so = record {
@@ -322,8 +299,8 @@ pub list_value : (n m : Schema) (b c : ListBuilder) (old new : AtHand) → Build
 list_value n m b c old new all there none defined = record {
   gives = read_ok (value_in b.table.now) add_write list_total (value_of_list value_read n m) old.held (writes_in c.table.now c.writes) (stored.List c.writes)
       (list_read old.held n m b.element.0 b c old new (Ok tt) refl there refl none all)
-      (is_list _ (writes_in b.table.now c.writes) _ (list_is b.table.now c.writes) (ap (λ u. writes_in u c.writes) (sym (ap (λ p. p.0) all.kept))));
-  defined = list_defined b.table.now c.writes defined;
+      (is_list _ (writes_in b.table.now c.writes) _ (group_value b.table.now group.List c.writes) (ap (λ u. writes_in u c.writes) (sym (ap (λ p. p.0) all.kept))));
+  defined = group_defined b.table.now group.List c.writes defined;
   leaves = all.leaves.opened;
 }
 
@@ -340,8 +317,8 @@ pub map_value : (n k m : Schema) (b c : MapBuilder) (old new : AtHand) → Build
 map_value n k m b c old new all there there_2 none defined = record {
   gives = read_ok (value_in b.table.now) add_entry map_total (value_of_map value_read n k m) old.held (writes_in c.table.now c.writes) (stored.Map c.writes)
       (map_read old.held n k m b.key.0 b.value.0 b c old new (Ok tt) refl there there_2 refl refl none all)
-      (is_map _ (writes_in b.table.now c.writes) _ (map_is b.table.now c.writes) (ap (λ u. writes_in u c.writes) (sym (ap (λ p. p.0) all.kept))));
-  defined = map_defined b.table.now c.writes defined;
+      (is_map _ (writes_in b.table.now c.writes) _ (group_value b.table.now group.Map c.writes) (ap (λ u. writes_in u c.writes) (sym (ap (λ p. p.0) all.kept))));
+  defined = group_defined b.table.now group.Map c.writes defined;
   leaves = all.leaves.opened;
 }
 
@@ -358,8 +335,8 @@ pub structure_value : (n : Schema) (b c : StructBuilder) (sorted : WriteList) (o
 structure_value n b c sorted old new all table none order defined = record {
   gives = read_ok (value_in b.table.now) add_write structure_total (value_of_structure value_read (shape n)) old.held (writes_in c.table.now c.writes) (stored.Struct sorted)
       (structure_read old.held n b c old new (Ok tt) refl table none all)
-      (is_structure _ (writes_in b.table.now c.writes) (writes_in b.table.now sorted) _ (structure_is b.table.now sorted) order (ap (λ u. writes_in u c.writes) (sym all.kept)));
-  defined = structure_defined b.table.now sorted defined;
+      (is_structure _ (writes_in b.table.now c.writes) (writes_in b.table.now sorted) _ (group_value b.table.now group.Structure sorted) order (ap (λ u. writes_in u c.writes) (sym all.kept)));
+  defined = group_defined b.table.now group.Structure sorted defined;
   leaves = all.leaves.opened;
 }
 
