@@ -367,26 +367,15 @@ pub has_node_at : (t : Table) (place : ℕ) (n m : Schema) (i : ℕ) → Some n 
 has_node_at t place n m i there is = subst (λ (o : Option Schema). IsSome o) (sym (placed_here t place n m i there is)) refl
 
 -- a structure read at the top, where the null is refused
-opened_ok : (held : Option Held) (n : Schema) (now sorted new : Writes) (v : StructValue) → IfSome held (λ h. IsRead add_write structure_total (value_of_structure value_read (shape n) h) new (Ok tt))
-    → members_of v ≡ sorted → sorted ≡ in_index_order now → now ≡ new → IfSome held (λ h. Gives structure_of (Some (value_of_structure value_read (shape n) h)) (Ok v))
-opened_ok None n now sorted new v r is order same = tt
-opened_ok (Some h) n now sorted new v r is order same =
-    rw r.is (given_ok structure_of add_write structure_total no_writes r.all new v r.built (is_structure new now sorted (structure_of v) (ap value.structure is) order same))
-
-opened_err : (held : Option Held) (n : Schema) (new : Writes) (e : SerdeError) → IfSome held (λ h. IsRead add_write structure_total (value_of_structure value_read (shape n) h) new (Err e))
-    → IfSome held (λ h. Gives structure_of (Some (value_of_structure value_read (shape n) h)) (Err e))
-opened_err None n new e r = tt
-opened_err (Some h) n new e r = rw r.is (given_err structure_of add_write structure_total no_writes r.all new e r.built)
-
 by_node : (held : Option Held) (r : ValueReader) (n : Schema) (answer : Result StructValue SerdeError) → Some n ≡ at_place r.table.now r.schema.0
-    → IfSome held (λ h. Gives structure_of (Some (value_of_structure value_read (shape n) h)) answer) → IfSome held (λ h. gives_structure r h answer)
+    → Gives structure_of (option_map (value_of_structure value_read (shape n)) held) answer → IfSome held (λ h. gives_structure r h answer)
 by_node None r n answer there g = tt
 by_node (Some h) r n answer there g = at_the_place (λ m. Gives structure_of (Some (value_of_structure value_read (shape m) h)) answer) r.table.now r.schema.0 n there g
 
 pub reader_err : (r : ValueReader) (n : Schema) (s t : StructBuilder) (e : SerdeError) (old new : AtHand) → Some n ≡ at_place r.table.now r.schema.0 → BuildsStructure (shape n) s t old new (Err e)
     → s.table.now ≡ r.table.now → writes_in s.table.now s.writes ≡ no_writes → ReadsBy (gives_structure r) old new (Err e)
 reader_err r n s t e old new there all table none = record {
-  gives = by_node old.held r n (Err e) there (opened_err old.held n (writes_in t.table.now t.writes) e (structure_read old.held n s t old new (Err e) refl (table ∙ sym (at_place_table r.table.now r.schema.0 n (sym there))) none all));
+  gives = by_node old.held r n (Err e) there (read_err structure_of add_write structure_total (value_of_structure value_read (shape n)) old.held (writes_in t.table.now t.writes) e (structure_read old.held n s t old new (Err e) refl (table ∙ sym (at_place_table r.table.now r.schema.0 n (sym there))) none all));
   leaves = all.leaves;
 }
 
@@ -394,9 +383,9 @@ pub reader_ok : (r : ValueReader) (n : Schema) (s t : StructBuilder) (sorted : W
     → s.table.now ≡ r.table.now → writes_in s.table.now s.writes ≡ no_writes → writes_in r.table.now sorted ≡ in_index_order (writes_in r.table.now t.writes)
     → members_of v ≡ writes_in r.table.now sorted → ReadsBy (gives_structure r) old new (Ok v)
 reader_ok r n s t sorted v old new there all table none order is = record {
-  gives = by_node old.held r n (Ok v) there (opened_ok old.held n (writes_in r.table.now t.writes) (writes_in r.table.now sorted) (writes_in t.table.now t.writes) v
+  gives = by_node old.held r n (Ok v) there (read_ok structure_of add_write structure_total (value_of_structure value_read (shape n)) old.held (writes_in t.table.now t.writes) v
       (structure_read old.held n s t old new (Ok tt) refl (table ∙ sym (at_place_table r.table.now r.schema.0 n (sym there))) none all)
-      is order (ap (λ u. writes_in u t.writes) (sym (all.kept ∙ table))));
+      (is_structure (writes_in t.table.now t.writes) (writes_in r.table.now t.writes) (writes_in r.table.now sorted) (structure_of v) (ap value.structure is) order (ap (λ u. writes_in u t.writes) (sym (all.kept ∙ table)))));
   leaves = all.leaves.opened;
 }
 
