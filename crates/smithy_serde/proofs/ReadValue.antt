@@ -1,5 +1,5 @@
 -- What is read by a node, by the plan of its kind.
-use Rattle.std.proofs.Common.{◌≡◌, ℕ, Bool, true, false, List, [], ◌∷◌, Option, Some, None, Result, Ok, Err, inl, inr, refl, ap, sym, subst, ◌∙◌}
+use Rattle.std.proofs.Common.{◌≡◌, ℕ, Bool, true, false, List, [], ◌∷◌, Option, Some, None, Result, Ok, Err, inr, refl, ap, sym, subst, ◌∙◌}
 use Rattle.std.specs.Prelude.{IfSome, IfOk, IsSome, option_map, option_and_then, unwrap_or, slice_get, flat_map, ◌++◌, not, ◌&&◌}
 use Rattle.std.specs.Option.{option_map_or}
 use Rattle.smithy_types.specs.Documents as doc
