@@ -45,6 +45,7 @@ map_snoc : {A B : Type 0} (f : A → B) (xs : List A) (x : A) → map f (xs ++ x
 map_snoc f [] x = refl
 map_snoc f (y ∷ xs) x = ap (λ l. f y ∷ l) (map_snoc f xs x)
 
+-- an element came to hand
 handed : (now mid : AtHand) (came : Bool) → came ≡ true → NextElement now mid (Ok came) → Advanced None at_element now mid
 handed now mid came is next = subst (λ b. NextElement now mid (Ok b)) is next
 
@@ -70,10 +71,11 @@ module _ {A : Type 0} (f : A → Scalar) (k : ScalarKind) (node : Schema) (befor
       → ReadsEach f k node before after (Err e)
   each_stopped xs now mid after e w a t = each_err f k node (map f xs) before after e (stopped none_kept [] (map f xs) (map f xs) at_element e before now mid after (λ _. refl) w a t)
 
-  -- an element that came to hand was read and added, was refused, or was read and found no room
+  -- it is read by the prelude's node
   read_here : {R : Result A SerdeError} (n : Schema) (mid after : AtHand) → n ≡ prelude_of k → Reads f k n mid after R → Reads f k (prelude_of k) mid after R
   read_here {R} n mid after at r = subst (λ m. Reads f k m mid after R) at r
 
+  -- it was read and added, was refused, or was read and found no room
   pub each_added : (xs ys : List A) (y a : A) (now mid after : AtHand) (came : Bool) (n : Schema) → ReadingEach f k node xs before now → came ≡ true → n ≡ prelude_of k → Reads f k n mid after (Ok a) → NextElement now mid (Ok came)
       → ys ≡ xs ++ y ∷ [] → f y ≡ f a → ReadingEach f k node ys before after
   each_added xs ys y a now mid after came n w is at read next e same =

@@ -112,6 +112,10 @@ pub record IsRead {B : Type 0} (add : Writes → B → Writes) (total : List B �
   pub is : read ≡ then_give all total
   pub built : Built add all no_writes new answer
 
+is_read : {B : Type 0} (add : Writes → B → Writes) (total : List B → Value) (all : Result (List B) SerdeError) (old new : Writes) (answer : Answer) → old ≡ no_writes → Built add all old new answer
+    → IsRead add total (then_give all total) new answer
+is_read add total all old new answer none built = record { all = all; is = refl; built = subst (λ ws. Built add all ws new answer) none built }
+
 pub read_ok : {A B : Type 0} (f : A → Value) (add : Writes → B → Writes) (total : List B → Value) (read : Held → Result Value SerdeError) (held : Option Held) (new : Writes) (v : A)
     → IfSome held (λ h. IsRead add total (read h) new (Ok tt)) → ((bs : List B) → new ≡ all_added add no_writes bs → f v ≡ total bs) → Gives f (option_map read held) (Ok v)
 read_ok f add total read None new v r is = tt
@@ -141,27 +145,21 @@ list_read : (held : Option Held) (n m : Schema) (place : ℕ) (s t : ListBuilder
     → s.element.0 ≡ place → writes_in s.table.now s.writes ≡ no_writes → BuildsList n s t old new answer
     → IfSome held (λ h. IsRead add_write list_total (value_of_list value_read n m h) (writes_in t.table.now t.writes) answer)
 list_read None n m place s t old new answer is there at none all = tt
-list_read (Some h) n m place s t old new answer is there at none all = record {
-  all = then_try (elements n h) (all_read (λ x. then_give (value_read m x) (write_by m)));
-  is = refl;
-  built = subst (λ ws. Built add_write (then_try (elements n h) (all_read (λ x. then_give (value_read m x) (write_by m)))) ws (writes_in t.table.now t.writes) answer) none
-      (handed_built (at_elements TakesElement) (λ (b : ListBuilder). list_nodes b ≡ (s.table.now, place)) (λ (b : ListBuilder). writes_in b.table.now b.writes) add_write (λ x. (at_element, x)) (λ x. then_give (value_read m x) (write_by m))
-      (λ b x c y same took. (took.same ∙ same, took.adds m (subst (λ (q : Table × ℕ). at_place q.0 q.1 ≡ Some m) (sym same) there)))
-      group.List (elements n h) s t answer (ap (λ i. (s.table.now, i)) at) (handed_of (at_elements TakesElement) group.List n h (old.listing group.List n) s t answer (old.told group.List n h is) all.handed));
-}
+list_read (Some h) n m place s t old new answer is there at none all =
+    is_read add_write list_total (then_try (elements n h) (all_read (λ x. then_give (value_read m x) (write_by m)))) (writes_in s.table.now s.writes) (writes_in t.table.now t.writes) answer none
+    (handed_built (at_elements TakesElement) (λ (b : ListBuilder). list_nodes b ≡ (s.table.now, place)) (λ (b : ListBuilder). writes_in b.table.now b.writes) add_write (λ x. (at_element, x)) (λ x. then_give (value_read m x) (write_by m))
+    (λ b x c y same took. (took.same ∙ same, took.adds m (subst (λ (q : Table × ℕ). at_place q.0 q.1 ≡ Some m) (sym same) there)))
+    group.List (elements n h) s t answer (ap (λ i. (s.table.now, i)) at) (handed_of (at_elements TakesElement) group.List n h (old.listing group.List n) s t answer (old.told group.List n h is) all.handed))
 
 map_read : (held : Option Held) (n k m : Schema) (key place : ℕ) (s t : MapBuilder) (old new : AtHand) (answer : Answer) → old.held ≡ held → at_place s.table.now key ≡ Some k → at_place s.table.now place ≡ Some m
     → s.key.0 ≡ key → s.value.0 ≡ place → writes_in s.table.now s.writes ≡ no_writes → BuildsMap n s t old new answer
     → IfSome held (λ h. IsRead add_entry map_total (value_of_map value_read n k m h) (writes_in t.table.now t.writes) answer)
 map_read None n k m key place s t old new answer is there there_2 at at_2 none all = tt
-map_read (Some h) n k m key place s t old new answer is there there_2 at at_2 none all = record {
-  all = then_try (entries n h) (all_read (λ x. then_give (value_read m x.1) (entry_by k m x.0)));
-  is = refl;
-  built = subst (λ ws. Built add_entry (then_try (entries n h) (all_read (λ x. then_give (value_read m x.1) (entry_by k m x.0)))) ws (writes_in t.table.now t.writes) answer) none
-      (handed_built (at_entries TakesEntry) (λ (b : MapBuilder). map_nodes b ≡ (s.table.now, key, place)) (λ (b : MapBuilder). writes_in b.table.now b.writes) add_entry (λ (x : List ℕ × Held). (at_key x.0, x.1)) (λ x. then_give (value_read m x.1) (entry_by k m x.0))
-      (λ b x c y same took. (took.same ∙ same, took.adds k m (subst (λ (q : Table × ℕ × ℕ). at_place q.0 q.1 ≡ Some k) (sym same) there) (subst (λ (q : Table × ℕ × ℕ). at_place q.0 q.2 ≡ Some m) (sym same) there_2)))
-      group.Map (entries n h) s t answer (ap (λ i. (s.table.now, i, s.value.0)) at ∙ ap (λ i. (s.table.now, key, i)) at_2) (handed_of (at_entries TakesEntry) group.Map n h (old.listing group.Map n) s t answer (old.told group.Map n h is) all.handed));
-}
+map_read (Some h) n k m key place s t old new answer is there there_2 at at_2 none all =
+    is_read add_entry map_total (then_try (entries n h) (all_read (λ x. then_give (value_read m x.1) (entry_by k m x.0)))) (writes_in s.table.now s.writes) (writes_in t.table.now t.writes) answer none
+    (handed_built (at_entries TakesEntry) (λ (b : MapBuilder). map_nodes b ≡ (s.table.now, key, place)) (λ (b : MapBuilder). writes_in b.table.now b.writes) add_entry (λ (x : List ℕ × Held). (at_key x.0, x.1)) (λ x. then_give (value_read m x.1) (entry_by k m x.0))
+    (λ b x c y same took. (took.same ∙ same, took.adds k m (subst (λ (q : Table × ℕ × ℕ). at_place q.0 q.1 ≡ Some k) (sym same) there) (subst (λ (q : Table × ℕ × ℕ). at_place q.0 q.2 ≡ Some m) (sym same) there_2)))
+    group.Map (entries n h) s t answer (ap (λ i. (s.table.now, i, s.value.0)) at ∙ ap (λ i. (s.table.now, key, i)) at_2) (handed_of (at_entries TakesEntry) group.Map n h (old.listing group.Map n) s t answer (old.told group.Map n h is) all.handed))
 
 -- the shape of a node stands in its table
 cited_table : (n : Schema) (place : Option ℕ) (m : Schema) → cited n place ≡ Some m → m.table ≡ n.table
@@ -211,12 +209,9 @@ members_built n h s t answer table handed =
 structure_read : (held : Option Held) (n : Schema) (s t : StructBuilder) (old new : AtHand) (answer : Answer) → old.held ≡ held → s.table.now ≡ n.table → writes_in s.table.now s.writes ≡ no_writes
     → BuildsStructure (shape n) s t old new answer → IfSome held (λ h. IsRead add_write structure_total (value_of_structure value_read (shape n) h) (writes_in t.table.now t.writes) answer)
 structure_read None n s t old new answer is table none all = tt
-structure_read (Some h) n s t old new answer is table none all = record {
-  all = then_try (fields (shape n) h) (all_read (λ x. then_give (value_read x.0 x.1) (write_by x.0)));
-  is = refl;
-  built = subst (λ ws. Built add_write (then_try (fields (shape n) h) (all_read (λ x. then_give (value_read x.0 x.1) (write_by x.0)))) ws (writes_in t.table.now t.writes) answer) none
-      (members_built (shape n) h s t answer (table ∙ sym (shape_table n)) (handed_of (at_members TakesMember) group.Structure (shape n) h (old.listing group.Structure (shape n)) s t answer (old.told group.Structure (shape n) h is) all.handed));
-}
+structure_read (Some h) n s t old new answer is table none all =
+    is_read add_write structure_total (then_try (fields (shape n) h) (all_read (λ x. then_give (value_read x.0 x.1) (write_by x.0)))) (writes_in s.table.now s.writes) (writes_in t.table.now t.writes) answer none
+    (members_built (shape n) h s t answer (table ∙ sym (shape_table n)) (handed_of (at_members TakesMember) group.Structure (shape n) h (old.listing group.Structure (shape n)) s t answer (old.told group.Structure (shape n) h is) all.handed))
 
 -- all writes that were added
 added_writes : (v : Writes) (ws : List Write) → all_added add_write v ws ≡ appended v (writes_of ws)
