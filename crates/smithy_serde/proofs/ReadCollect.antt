@@ -85,17 +85,20 @@ pub handed_built : {S A B V : Type 0} (takes : S → Slot → Held → S → Ans
 handed_built takes P seen add named read step g r s t answer p h =
     handed_built_of takes P (λ _. Unit {0}) seen add named read (λ b x c a q. step b x c a) g r s t answer (each_any r) p h
 
-given_ok : {A B V : Type 0} (seen : A → V) (add : V → B → V) (none : V) (r : Result (List B) SerdeError) (a : A) → Built add r none (seen a) (Ok tt) → Gives seen (Some (then_give r (all_added add none))) (Ok a)
-given_ok seen add none (Ok bs) a (inl b) = b.1
-given_ok seen add none (Ok bs) a (inr bad) = cc
-given_ok seen add none (Err x) a (inl bad) = cc
-given_ok seen add none (Err x) a (inr bad) = cc
+-- what was built, as what it is in all
+pub given_ok : {A B V W : Type 0} (f : A → V) (add : W → B → W) (total : List B → V) (none : W) (r : Result (List B) SerdeError) (new : W) (a : A)
+    → Built add r none new (Ok tt) → ((bs : List B) → new ≡ all_added add none bs → f a ≡ total bs) → Gives f (Some (then_give r total)) (Ok a)
+given_ok f add total none (Ok bs) new a (inl b) is = is bs b.1
+given_ok f add total none (Ok bs) new a (inr bad) is = cc
+given_ok f add total none (Err x) new a (inl bad) is = cc
+given_ok f add total none (Err x) new a (inr bad) is = cc
 
-given_err : {A B V : Type 0} (seen : A → V) (add : V → B → V) (none : V) (r : Result (List B) SerdeError) (last : V) (e : SerdeError) → Built add r none last (Err e) → Gives seen (Some (then_give r (all_added add none))) (Err e)
-given_err seen add none (Ok bs) last e (inl b) = let bad : Err e ≡ Ok tt = b.0 in cc
-given_err seen add none (Ok bs) last e (inr m) = cc
-given_err seen add none (Err x) last e (inl same) = inl cc
-given_err seen add none (Err x) last e (inr m) = inr cc
+pub given_err : {A B V W : Type 0} (f : A → V) (add : W → B → W) (total : List B → V) (none : W) (r : Result (List B) SerdeError) (new : W) (e : SerdeError)
+    → Built add r none new (Err e) → Gives f (Some (then_give r total)) (Err e)
+given_err f add total none (Ok bs) new e (inl b) = let bad : Err e ≡ Ok tt = b.0 in cc
+given_err f add total none (Ok bs) new e (inr m) = cc
+given_err f add total none (Err x) new e (inl same) = inl cc
+given_err f add total none (Err x) new e (inr m) = inr cc
 
 -- what is read of the items of the value at hand and added up, from none on
 module _ {I B V A : Type 0} (takes : V → Slot → Held → V → Answer → Type 0) (g : Group) (node : Schema) (items : Held → Result (List I) SerdeError) (named : I → Slot × Held) (read : I → Result B SerdeError) (add : V → B → V) (none : V) (seen : A → V)
@@ -110,11 +113,11 @@ module _ {I B V A : Type 0} (takes : V → Slot → Held → V → Answer → Ty
 
   ok_at : (held : Option Held) (a : A) → before.held ≡ held → AllHanded takes g (before.listing g node) none (seen a) (Ok tt) → Gives seen (option_map added_up held) (Ok a)
   ok_at None a told all = tt
-  ok_at (Some h) a told all = given_ok seen add none (then_try (items h) (all_read read)) a (items_built h (seen a) (Ok tt) told all)
+  ok_at (Some h) a told all = given_ok seen add (all_added add none) none (then_try (items h) (all_read read)) (seen a) a (items_built h (seen a) (Ok tt) told all) (λ bs e. e)
 
   err_at : (held : Option Held) (last : V) (e : SerdeError) → before.held ≡ held → AllHanded takes g (before.listing g node) none last (Err e) → Gives seen (option_map added_up held) (Err e)
   err_at None last e told all = tt
-  err_at (Some h) last e told all = given_err seen add none (then_try (items h) (all_read read)) last e (items_built h last (Err e) told all)
+  err_at (Some h) last e told all = given_err seen add (all_added add none) none (then_try (items h) (all_read read)) last e (items_built h last (Err e) told all)
 
   pub items_ok : (a : A) → AllHanded takes g (before.listing g node) none (seen a) (Ok tt) → Gives seen (option_map added_up before.held) (Ok a)
   items_ok a all = ok_at before.held a refl all

@@ -64,38 +64,15 @@ elements_below node (held.header name values) =
     if_below (has_dates node) (λ r. IfOk r (Each (λ x. levels_of x < 1))) _ _
     (give_below 1 (λ seconds. held.date seconds) _ (λ x. omega arith))
     (give_below 1 (λ token. held.element token) _ (λ x. omega arith))
-elements_below node (held.element text) = tt
-elements_below node (held.date seconds) = tt
-elements_below node (held.prefixed entries) = tt
-elements_below node (held.status n) = tt
-elements_below node (held.raw bytes) = tt
-elements_below node (held.document doc.null) = tt
-elements_below node (held.document (doc.boolean b)) = tt
-elements_below node (held.document (doc.number n)) = tt
-elements_below node (held.document (doc.string s)) = tt
 elements_below node (held.document (doc.array ds)) = items_below (suc (items_nesting ds)) ds (omega arith)
-elements_below node (held.document (doc.object ms)) = tt
 elements_below node (held.input text is_read) = with_texts_below _
-elements_below node (held.item text) = tt
-elements_below node (held.refused e) = tt
+elements_below node _ = tt
 
 map_entries_below : (node : Schema) (h : Held) → IfOk (entries node h) (Each (λ (x : List ℕ × Held). levels_of x.1 < levels_of h))
 unfolding entries
-map_entries_below node (held.header name values) = tt
-map_entries_below node (held.element text) = tt
-map_entries_below node (held.date seconds) = tt
 map_entries_below node (held.prefixed ps) = each_is (λ (x : List ℕ × Held). levels_of x.1 < 2) (λ (p : Prefixed). (p.key, held.header p.name p.values)) ps (λ p. omega arith)
-map_entries_below node (held.status n) = tt
-map_entries_below node (held.raw bytes) = tt
-map_entries_below node (held.document doc.null) = tt
-map_entries_below node (held.document (doc.boolean b)) = tt
-map_entries_below node (held.document (doc.number n)) = tt
-map_entries_below node (held.document (doc.string s)) = tt
-map_entries_below node (held.document (doc.array ds)) = tt
 map_entries_below node (held.document (doc.object ms)) = entries_below (suc (members_nesting ms)) ms (omega arith)
-map_entries_below node (held.input text is_read) = tt
-map_entries_below node (held.item text) = tt
-map_entries_below node (held.refused e) = tt
+map_entries_below node _ = tt
 
 known_below : (n : ℕ) (found : Option Schema) (d : Document) (rest : List (Schema × Held)) → nesting d < n → Each (λ (x : Schema × Held). levels_of x.1 < n) rest
     → Each (λ (x : Schema × Held). levels_of x.1 < n) (option_map_or (λ m. (m, held.document d) ∷ []) found [] ++ rest)
@@ -108,21 +85,8 @@ fields_of_below node n (member k d ms) h = known_below n (member_named node k) d
 
 fields_below : (node : Schema) (h : Held) → IfOk (fields node h) (Each (λ (x : Schema × Held). levels_of x.1 < levels_of h))
 unfolding fields
-fields_below node (held.header name values) = tt
-fields_below node (held.element text) = tt
-fields_below node (held.date seconds) = tt
-fields_below node (held.prefixed entries) = tt
-fields_below node (held.status n) = tt
-fields_below node (held.raw bytes) = tt
-fields_below node (held.document doc.null) = tt
-fields_below node (held.document (doc.boolean b)) = tt
-fields_below node (held.document (doc.number n)) = tt
-fields_below node (held.document (doc.string s)) = tt
-fields_below node (held.document (doc.array ds)) = tt
 fields_below node (held.document (doc.object ms)) = fields_of_below node (suc (members_nesting ms)) ms (omega arith)
-fields_below node (held.input text is_read) = tt
-fields_below node (held.item text) = tt
-fields_below node (held.refused e) = tt
+fields_below node _ = tt
 
 -- reads of one level that agree on what has fewer levels
 module _ (f g : Schema → Held → Result Value SerdeError) (h : Held) (same : (m : Schema) (x : Held) → levels_of x < levels_of h → f m x ≡ g m x) where
@@ -151,20 +115,7 @@ module _ (f g : Schema → Held → Result Value SerdeError) (h : Held) (same : 
   kind_same kind.Map node = map_same node (key_of node) (value_of node)
   kind_same kind.Structure node = structure_same (shape node)
   kind_same kind.Union node = structure_same (shape node)
-  kind_same kind.Boolean node = refl
-  kind_same kind.Byte node = refl
-  kind_same kind.Short node = refl
-  kind_same kind.Integer node = refl
-  kind_same kind.Long node = refl
-  kind_same kind.Float node = refl
-  kind_same kind.Double node = refl
-  kind_same kind.BigInteger node = refl
-  kind_same kind.BigDecimal node = refl
-  kind_same kind.String node = refl
-  kind_same kind.Blob node = refl
-  kind_same kind.Timestamp node = refl
-  kind_same kind.Document node = refl
-  kind_same kind.Member node = refl
+  kind_same _ node = refl
 
   with_same : (node : Schema) → value_with f node h ≡ value_with g node h
   with_same node = ap (λ r. if is_null_held h && not (same_kind node.node.kind kind.Document) then Ok (value.scalar value.null) else r) (kind_same node.node.kind node)

@@ -1,5 +1,5 @@
 -- A list that is read element by element, over the loop that walks it.
-use Rattle.std.proofs.Common.{◌≡◌, List, [], ◌∷◌, ◌++◌, map, Option, Some, None, Result, Ok, Err, refl, ap, sym, subst, ◌∙◌, append_assoc, append-nil}
+use Rattle.std.proofs.Common.{◌≡◌, Bool, true, List, [], ◌∷◌, ◌++◌, map, Option, Some, None, Result, Ok, Err, refl, ap, sym, subst, ◌∙◌, append_assoc, append-nil}
 use Rattle.std.specs.Prelude.{IfSome, option_map}
 use Rattle.smithy_types.specs.Results.{then_try, then_give}
 use Rattle.smithy_schema.specs.Nodes.{Schema}
@@ -14,7 +14,7 @@ use Rattle.smithy_serde.specs.Held.{Held}
 use Rattle.smithy_serde.specs.HeldReads.{read_scalar, elements}
 use Rattle.smithy_serde.specs.Listings.{at_element}
 use Rattle.smithy_serde.specs.ListReads.{prelude_of, with_scalar, CollectsScalar, each_at, ReadsEach}
-use Rattle.smithy_serde.specs.ReadCalls.{AtHand, Gives, Reads, type_of, Opened, NotOpened, Advanced, Closed, Halted}
+use Rattle.smithy_serde.specs.ReadCalls.{AtHand, Gives, Reads, type_of, Opened, NotOpened, Advanced, Closed, Halted, NextElement}
 use Rattle.smithy_serde.specs.ValueRead.{all_read}
 use Rattle.smithy_serde.proofs.ReadCollect.{items_ok, items_err, one_given, one_refused, one_dropped, if_told, gives_at}
 use Rattle.smithy_serde.proofs.ReadWalk.{Walking, not_opened, begins, halted, ends, taken, stopped}
@@ -45,6 +45,10 @@ map_snoc : {A B : Type 0} (f : A → B) (xs : List A) (x : A) → map f (xs ++ x
 map_snoc f [] x = refl
 map_snoc f (y ∷ xs) x = ap (λ l. f y ∷ l) (map_snoc f xs x)
 
+-- an element came to hand
+handed : (now mid : AtHand) (came : Bool) → came ≡ true → NextElement now mid (Ok came) → Advanced None at_element now mid
+handed now mid came is next = subst (λ b. NextElement now mid (Ok b)) is next
+
 module _ {A : Type 0} (f : A → Scalar) (k : ScalarKind) (node : Schema) (before : AtHand) where
   pub each_not_opened : (now : AtHand) (e : SerdeError) → NotOpened group.List node before now e → ReadsEach f k node before now (Err e)
   each_not_opened now e n = each_err f k node [] before now e (not_opened {takes = at_elements (CollectsScalar k)} none_kept [] before now e n)
@@ -67,28 +71,36 @@ module _ {A : Type 0} (f : A → Scalar) (k : ScalarKind) (node : Schema) (befor
       → ReadsEach f k node before after (Err e)
   each_stopped xs now mid after e w a t = each_err f k node (map f xs) before after e (stopped none_kept [] (map f xs) (map f xs) at_element e before now mid after (λ _. refl) w a t)
 
-  -- an element was read and added, was refused, or was read and found no room
-  pub each_added : (xs ys : List A) (y a : A) (now mid after : AtHand) → ReadingEach f k node xs before now → Advanced None at_element now mid → Reads f k (prelude_of k) mid after (Ok a) → ys ≡ xs ++ y ∷ [] → f y ≡ f a
-      → ReadingEach f k node ys before after
-  each_added xs ys y a now mid after w adv r e same =
-      taken none_kept [] (map f xs) (map f ys) at_element before now mid after w adv record {
+  -- it is read by the prelude's node
+  read_here : {R : Result A SerdeError} (n : Schema) (mid after : AtHand) → n ≡ prelude_of k → Reads f k n mid after R → Reads f k (prelude_of k) mid after R
+  read_here {R} n mid after at r = subst (λ m. Reads f k m mid after R) at r
+
+  -- it was read and added, was refused, or was read and found no room
+  pub each_added : (xs ys : List A) (y a : A) (now mid after : AtHand) (came : Bool) (n : Schema) → ReadingEach f k node xs before now → came ≡ true → n ≡ prelude_of k → Reads f k n mid after (Ok a) → NextElement now mid (Ok came)
+      → ys ≡ xs ++ y ∷ [] → f y ≡ f a → ReadingEach f k node ys before after
+  each_added xs ys y a now mid after came n w is at read next e same =
+      let r = read_here n mid after at read in
+      taken none_kept [] (map f xs) (map f ys) at_element before now mid after w (handed now mid came is next) record {
         taken = subst (λ l. IfSome mid.held (λ h. CollectsScalar k (map f xs) h l (Ok tt))) (sym (ap (map f) e ∙ map_snoc f xs y ∙ ap (with_scalar (map f xs)) same))
             (if_told (λ h. CollectsScalar k (map f xs) h (with_scalar (map f xs) (f a)) (Ok tt)) mid.held (λ h is. one_given with_scalar f (read_scalar (type_of k) (prelude_of k) h) (map f xs) a (gives_at f k mid.held h (Ok a) is r.gives)));
         kept = tt;
         leaves = r.opened;
       }
 
-  pub each_refused : (xs : List A) (now mid after : AtHand) (e : SerdeError) → ReadingEach f k node xs before now → Advanced None at_element now mid → Reads {A = A} f k (prelude_of k) mid after (Err e) → ReadsEach f k node before after (Err e)
-  each_refused xs now mid after e w adv r =
-      each_stopped xs now mid after e w adv record {
+  pub each_refused : (xs : List A) (now mid after : AtHand) (came : Bool) (n : Schema) (e : SerdeError) → ReadingEach f k node xs before now → came ≡ true → n ≡ prelude_of k → Reads {A = A} f k n mid after (Err e) → NextElement now mid (Ok came)
+      → ReadsEach f k node before after (Err e)
+  each_refused xs now mid after came n e w is at read next =
+      let r = read_here n mid after at read in
+      each_stopped xs now mid after e w (handed now mid came is next) record {
         taken = if_told (λ h. CollectsScalar k (map f xs) h (map f xs) (Err e)) mid.held (λ h is. one_refused with_scalar f (read_scalar (type_of k) (prelude_of k) h) (map f xs) e (gives_at f k mid.held h (Err e) is r.gives));
         kept = tt;
         leaves = ([], r.opened);
       }
 
-  pub each_dropped : (xs : List A) (a : A) (now mid after : AtHand) (e : SerdeError) → ReadingEach f k node xs before now → Advanced None at_element now mid → Reads f k (prelude_of k) mid after (Ok a) → e ≡ OutOfMemory → ReadsEach f k node before after (Err e)
-  each_dropped xs a now mid after e w adv r m =
-      each_stopped xs now mid after e w adv record {
+  pub each_dropped : (xs : List A) (a : A) (now mid after : AtHand) (came : Bool) (n : Schema) (e : SerdeError) → ReadingEach f k node xs before now → came ≡ true → Reads f k n mid after (Ok a) → NextElement now mid (Ok came)
+      → e ≡ OutOfMemory → ReadsEach f k node before after (Err e)
+  each_dropped xs a now mid after came n e w is r next m =
+      each_stopped xs now mid after e w (handed now mid came is next) record {
         taken = if_told (λ h. CollectsScalar k (map f xs) h (map f xs) (Err e)) mid.held (λ h is. one_dropped with_scalar (read_scalar (type_of k) (prelude_of k) h) (map f xs) e m);
         kept = tt;
         leaves = ([], r.opened);

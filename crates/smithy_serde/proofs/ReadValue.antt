@@ -1,5 +1,5 @@
 -- What is read by a node, by the plan of its kind.
-use Rattle.std.proofs.Common.{◌≡◌, ℕ, Bool, true, false, List, [], ◌∷◌, Option, Some, None, Result, Ok, Err, inl, inr, refl, ap, sym, subst, ◌∙◌}
+use Rattle.std.proofs.Common.{◌≡◌, ℕ, Bool, true, false, List, [], ◌∷◌, Option, Some, None, Result, Ok, Err, inr, refl, ap, sym, subst, ◌∙◌}
 use Rattle.std.specs.Prelude.{IfSome, IfOk, IsSome, option_map, option_and_then, unwrap_or, slice_get, flat_map, ◌++◌, not, ◌&&◌}
 use Rattle.std.specs.Option.{option_map_or}
 use Rattle.smithy_types.specs.Documents as doc
@@ -41,8 +41,9 @@ use Rattle.smithy_serde.specs.ReadCalls.{AtHand, Reads, Gives, read_at, scalar_o
 use Rattle.smithy_serde.specs.ReadsBy.{ReadsBy}
 use Rattle.smithy_serde.specs.ValueRead.{all_read, write_by, entry_by, IsPlaced, joined, value_by_kind, value_read, list_by, map_by, value_of_list, value_of_map, value_of_structure}
 use Rattle.smithy_serde.specs.ValueReading.{structure_of, gives_structure}
-use Rattle.smithy_serde.proofs.ReadCollect.{handed_built, handed_built_of}
+use Rattle.smithy_serde.proofs.ReadCollect.{handed_built, handed_built_of, given_ok, given_err}
 use Rattle.smithy_serde.proofs.ReadLevels.{value_once, Each}
+use Rattle.smithy_serde.proofs.StoredLemmas.{group_value, group_defined}
 use Rattle.smithy_serde.proofs.WritesLemmas.{appended-no_writes, appended_assoc}
 
 -- want of memory may come anywhere
@@ -67,6 +68,9 @@ pub record AtNode (n : Schema) (held : Option Held) (k : ShapeType) (null reads 
   pub same : k ≡ n.node.kind
   pub told : IfSome held (λ h. null ≡ is_null_held h)
   pub is : reads ≡ (null && not (same_kind k kind.Document))
+
+pub at_node : {n : Schema} {held : Option Held} {k : ShapeType} {null reads : Bool} → k ≡ n.node.kind → IfSome held (λ h. null ≡ is_null_held h) → reads ≡ (null && not (same_kind k kind.Document)) → AtNode n held k null reads
+at_node same told is = record { same = same; told = told; is = is }
 
 planned : (n : Schema) (h : Held) (k : ShapeType) (null reads : Bool) → AtNode n (Some h) k null reads → reads ≡ false → value_read n h ≡ value_by_kind value_read k n h
 planned n h k null reads a other =
@@ -108,29 +112,19 @@ pub record IsRead {B : Type 0} (add : Writes → B → Writes) (total : List B �
   pub is : read ≡ then_give all total
   pub built : Built add all no_writes new answer
 
-given_ok : {A B : Type 0} (f : A → Value) (add : Writes → B → Writes) (total : List B → Value) (r : Result (List B) SerdeError) (new : Writes) (v : A)
-    → Built add r no_writes new (Ok tt) → ((bs : List B) → new ≡ all_added add no_writes bs → f v ≡ total bs) → Gives f (Some (then_give r total)) (Ok v)
-given_ok f add total (Ok bs) new v (inl b) is = is bs b.1
-given_ok f add total (Ok bs) new v (inr bad) is = cc
-given_ok f add total (Err x) new v (inl bad) is = cc
-given_ok f add total (Err x) new v (inr bad) is = cc
-
-given_err : {A B : Type 0} (f : A → Value) (add : Writes → B → Writes) (total : List B → Value) (r : Result (List B) SerdeError) (new : Writes) (e : SerdeError)
-    → Built add r no_writes new (Err e) → Gives f (Some (then_give r total)) (Err e)
-given_err f add total (Ok bs) new e (inl b) = let bad : Err e ≡ Ok tt = b.0 in cc
-given_err f add total (Ok bs) new e (inr m) = cc
-given_err f add total (Err x) new e (inl same) = inl cc
-given_err f add total (Err x) new e (inr m) = inr cc
+is_read : {B : Type 0} (add : Writes → B → Writes) (total : List B → Value) (all : Result (List B) SerdeError) (old new : Writes) (answer : Answer) → old ≡ no_writes → Built add all old new answer
+    → IsRead add total (then_give all total) new answer
+is_read add total all old new answer none built = record { all = all; is = refl; built = subst (λ ws. Built add all ws new answer) none built }
 
 pub read_ok : {A B : Type 0} (f : A → Value) (add : Writes → B → Writes) (total : List B → Value) (read : Held → Result Value SerdeError) (held : Option Held) (new : Writes) (v : A)
     → IfSome held (λ h. IsRead add total (read h) new (Ok tt)) → ((bs : List B) → new ≡ all_added add no_writes bs → f v ≡ total bs) → Gives f (option_map read held) (Ok v)
 read_ok f add total read None new v r is = tt
-read_ok f add total read (Some h) new v r is = rw r.is (given_ok f add total r.all new v r.built is)
+read_ok f add total read (Some h) new v r is = rw r.is (given_ok f add total no_writes r.all new v r.built is)
 
 pub read_err : {A B : Type 0} (f : A → Value) (add : Writes → B → Writes) (total : List B → Value) (read : Held → Result Value SerdeError) (held : Option Held) (new : Writes) (e : SerdeError)
     → IfSome held (λ h. IsRead add total (read h) new (Err e)) → Gives f (option_map read held) (Err e)
 read_err f add total read None new e r = tt
-read_err f add total read (Some h) new e r = rw r.is (given_err f add total r.all new e r.built)
+read_err f add total read (Some h) new e r = rw r.is (given_err f add total no_writes r.all new e r.built)
 
 -- what was handed out, where the value at hand is told
 handed_of : {S : Type 0} (takes : S → Slot → Held → S → Answer → Type 0) (g : _) (n : Schema) (h : Held) (listing : Option Listing) (s t : S) (answer : Answer) → listing ≡ Some (contents g n h)
@@ -151,27 +145,21 @@ list_read : (held : Option Held) (n m : Schema) (place : ℕ) (s t : ListBuilder
     → s.element.0 ≡ place → writes_in s.table.now s.writes ≡ no_writes → BuildsList n s t old new answer
     → IfSome held (λ h. IsRead add_write list_total (value_of_list value_read n m h) (writes_in t.table.now t.writes) answer)
 list_read None n m place s t old new answer is there at none all = tt
-list_read (Some h) n m place s t old new answer is there at none all = record {
-  all = then_try (elements n h) (all_read (λ x. then_give (value_read m x) (write_by m)));
-  is = refl;
-  built = subst (λ ws. Built add_write (then_try (elements n h) (all_read (λ x. then_give (value_read m x) (write_by m)))) ws (writes_in t.table.now t.writes) answer) none
-      (handed_built (at_elements TakesElement) (λ (b : ListBuilder). list_nodes b ≡ (s.table.now, place)) (λ (b : ListBuilder). writes_in b.table.now b.writes) add_write (λ x. (at_element, x)) (λ x. then_give (value_read m x) (write_by m))
-      (λ b x c y same took. (took.same ∙ same, took.adds m (subst (λ (q : Table × ℕ). at_place q.0 q.1 ≡ Some m) (sym same) there)))
-      group.List (elements n h) s t answer (ap (λ i. (s.table.now, i)) at) (handed_of (at_elements TakesElement) group.List n h (old.listing group.List n) s t answer (old.told group.List n h is) all.handed));
-}
+list_read (Some h) n m place s t old new answer is there at none all =
+    is_read add_write list_total (then_try (elements n h) (all_read (λ x. then_give (value_read m x) (write_by m)))) (writes_in s.table.now s.writes) (writes_in t.table.now t.writes) answer none
+    (handed_built (at_elements TakesElement) (λ (b : ListBuilder). list_nodes b ≡ (s.table.now, place)) (λ (b : ListBuilder). writes_in b.table.now b.writes) add_write (λ x. (at_element, x)) (λ x. then_give (value_read m x) (write_by m))
+    (λ b x c y same took. (took.same ∙ same, took.adds m (subst (λ (q : Table × ℕ). at_place q.0 q.1 ≡ Some m) (sym same) there)))
+    group.List (elements n h) s t answer (ap (λ i. (s.table.now, i)) at) (handed_of (at_elements TakesElement) group.List n h (old.listing group.List n) s t answer (old.told group.List n h is) all.handed))
 
 map_read : (held : Option Held) (n k m : Schema) (key place : ℕ) (s t : MapBuilder) (old new : AtHand) (answer : Answer) → old.held ≡ held → at_place s.table.now key ≡ Some k → at_place s.table.now place ≡ Some m
     → s.key.0 ≡ key → s.value.0 ≡ place → writes_in s.table.now s.writes ≡ no_writes → BuildsMap n s t old new answer
     → IfSome held (λ h. IsRead add_entry map_total (value_of_map value_read n k m h) (writes_in t.table.now t.writes) answer)
 map_read None n k m key place s t old new answer is there there_2 at at_2 none all = tt
-map_read (Some h) n k m key place s t old new answer is there there_2 at at_2 none all = record {
-  all = then_try (entries n h) (all_read (λ x. then_give (value_read m x.1) (entry_by k m x.0)));
-  is = refl;
-  built = subst (λ ws. Built add_entry (then_try (entries n h) (all_read (λ x. then_give (value_read m x.1) (entry_by k m x.0)))) ws (writes_in t.table.now t.writes) answer) none
-      (handed_built (at_entries TakesEntry) (λ (b : MapBuilder). map_nodes b ≡ (s.table.now, key, place)) (λ (b : MapBuilder). writes_in b.table.now b.writes) add_entry (λ (x : List ℕ × Held). (at_key x.0, x.1)) (λ x. then_give (value_read m x.1) (entry_by k m x.0))
-      (λ b x c y same took. (took.same ∙ same, took.adds k m (subst (λ (q : Table × ℕ × ℕ). at_place q.0 q.1 ≡ Some k) (sym same) there) (subst (λ (q : Table × ℕ × ℕ). at_place q.0 q.2 ≡ Some m) (sym same) there_2)))
-      group.Map (entries n h) s t answer (ap (λ i. (s.table.now, i, s.value.0)) at ∙ ap (λ i. (s.table.now, key, i)) at_2) (handed_of (at_entries TakesEntry) group.Map n h (old.listing group.Map n) s t answer (old.told group.Map n h is) all.handed));
-}
+map_read (Some h) n k m key place s t old new answer is there there_2 at at_2 none all =
+    is_read add_entry map_total (then_try (entries n h) (all_read (λ x. then_give (value_read m x.1) (entry_by k m x.0)))) (writes_in s.table.now s.writes) (writes_in t.table.now t.writes) answer none
+    (handed_built (at_entries TakesEntry) (λ (b : MapBuilder). map_nodes b ≡ (s.table.now, key, place)) (λ (b : MapBuilder). writes_in b.table.now b.writes) add_entry (λ (x : List ℕ × Held). (at_key x.0, x.1)) (λ x. then_give (value_read m x.1) (entry_by k m x.0))
+    (λ b x c y same took. (took.same ∙ same, took.adds k m (subst (λ (q : Table × ℕ × ℕ). at_place q.0 q.1 ≡ Some k) (sym same) there) (subst (λ (q : Table × ℕ × ℕ). at_place q.0 q.2 ≡ Some m) (sym same) there_2)))
+    group.Map (entries n h) s t answer (ap (λ i. (s.table.now, i, s.value.0)) at ∙ ap (λ i. (s.table.now, key, i)) at_2) (handed_of (at_entries TakesEntry) group.Map n h (old.listing group.Map n) s t answer (old.told group.Map n h is) all.handed))
 
 -- the shape of a node stands in its table
 cited_table : (n : Schema) (place : Option ℕ) (m : Schema) → cited n place ≡ Some m → m.table ≡ n.table
@@ -205,21 +193,8 @@ all_placed n (d ∷ ds) = one_placed n d (flat_map (known n) ds) (all_placed n d
 
 fields_placed : (n : Schema) (h : Held) → IfOk (fields n h) (Each (λ (x : Schema × Held). IsPlaced n.table x.0))
 unfolding fields
-fields_placed n (held.header name values) = tt
-fields_placed n (held.element text) = tt
-fields_placed n (held.date seconds) = tt
-fields_placed n (held.prefixed entries) = tt
-fields_placed n (held.status n_2) = tt
-fields_placed n (held.raw bytes) = tt
-fields_placed n (held.document doc.null) = tt
-fields_placed n (held.document (doc.boolean b)) = tt
-fields_placed n (held.document (doc.number z)) = tt
-fields_placed n (held.document (doc.string s)) = tt
-fields_placed n (held.document (doc.array ds)) = tt
 fields_placed n (held.document (doc.object ms)) = all_placed n (list_of_members ms)
-fields_placed n (held.input text is_read) = tt
-fields_placed n (held.item text) = tt
-fields_placed n (held.refused e) = tt
+fields_placed n _ = tt
 
 -- what is built of members that all stand in the table
 members_built : (n : Schema) (h : Held) (s t : StructBuilder) (answer : Answer) → s.table.now ≡ n.table
@@ -234,12 +209,9 @@ members_built n h s t answer table handed =
 structure_read : (held : Option Held) (n : Schema) (s t : StructBuilder) (old new : AtHand) (answer : Answer) → old.held ≡ held → s.table.now ≡ n.table → writes_in s.table.now s.writes ≡ no_writes
     → BuildsStructure (shape n) s t old new answer → IfSome held (λ h. IsRead add_write structure_total (value_of_structure value_read (shape n) h) (writes_in t.table.now t.writes) answer)
 structure_read None n s t old new answer is table none all = tt
-structure_read (Some h) n s t old new answer is table none all = record {
-  all = then_try (fields (shape n) h) (all_read (λ x. then_give (value_read x.0 x.1) (write_by x.0)));
-  is = refl;
-  built = subst (λ ws. Built add_write (then_try (fields (shape n) h) (all_read (λ x. then_give (value_read x.0 x.1) (write_by x.0)))) ws (writes_in t.table.now t.writes) answer) none
-      (members_built (shape n) h s t answer (table ∙ sym (shape_table n)) (handed_of (at_members TakesMember) group.Structure (shape n) h (old.listing group.Structure (shape n)) s t answer (old.told group.Structure (shape n) h is) all.handed));
-}
+structure_read (Some h) n s t old new answer is table none all =
+    is_read add_write structure_total (then_try (fields (shape n) h) (all_read (λ x. then_give (value_read x.0 x.1) (write_by x.0)))) (writes_in s.table.now s.writes) (writes_in t.table.now t.writes) answer none
+    (members_built (shape n) h s t answer (table ∙ sym (shape_table n)) (handed_of (at_members TakesMember) group.Structure (shape n) h (old.listing group.Structure (shape n)) s t answer (old.told group.Structure (shape n) h is) all.handed))
 
 -- all writes that were added
 added_writes : (v : Writes) (ws : List Write) → all_added add_write v ws ≡ appended v (writes_of ws)
@@ -271,33 +243,9 @@ null_is : (t : Table) → value_in t stored.Null ≡ value.scalar value.null
 unfolding value_in
 null_is t = refl
 
-list_is : (t : Table) (ws : WriteList) → value_in t (stored.List ws) ≡ value.list (writes_in t ws)
-unfolding value_in
-list_is t ws = refl
-
-map_is : (t : Table) (ws : WriteList) → value_in t (stored.Map ws) ≡ value.map (writes_in t ws)
-unfolding value_in
-map_is t ws = refl
-
-structure_is : (t : Table) (ws : WriteList) → value_in t (stored.Struct ws) ≡ value.structure (writes_in t ws)
-unfolding value_in
-structure_is t ws = refl
-
 null_defined : (t : Table) → IsDefined t stored.Null
 unfolding IsDefined
 null_defined t = tt
-
-list_defined : (t : Table) (ws : WriteList) → AreDefined t ws → IsDefined t (stored.List ws)
-unfolding IsDefined
-list_defined t ws d = d
-
-map_defined : (t : Table) (ws : WriteList) → AreDefined t ws → IsDefined t (stored.Map ws)
-unfolding IsDefined
-map_defined t ws d = d
-
-structure_defined : (t : Table) (ws : WriteList) → AreDefined t ws → IsDefined t (stored.Struct ws)
-unfolding IsDefined
-structure_defined t ws d = d
 
 pub value_null : (t : Table) (place : ℕ) (n : Schema) (k : ShapeType) (null reads : Bool) (old : AtHand) → Some n ≡ at_place t place → AtNode n old.held k null reads → reads ≡ true → ReadsValue t place old old (Ok stored.Null)
 value_null t place n k null reads old there a so = record {
@@ -346,8 +294,8 @@ pub list_value : (n m : Schema) (b c : ListBuilder) (old new : AtHand) → Build
 list_value n m b c old new all there none defined = record {
   gives = read_ok (value_in b.table.now) add_write list_total (value_of_list value_read n m) old.held (writes_in c.table.now c.writes) (stored.List c.writes)
       (list_read old.held n m b.element.0 b c old new (Ok tt) refl there refl none all)
-      (is_list _ (writes_in b.table.now c.writes) _ (list_is b.table.now c.writes) (ap (λ u. writes_in u c.writes) (sym (ap (λ p. p.0) all.kept))));
-  defined = list_defined b.table.now c.writes defined;
+      (is_list _ (writes_in b.table.now c.writes) _ (group_value b.table.now group.List c.writes) (ap (λ u. writes_in u c.writes) (sym (ap (λ p. p.0) all.kept))));
+  defined = group_defined b.table.now group.List c.writes defined;
   leaves = all.leaves.opened;
 }
 
@@ -364,8 +312,8 @@ pub map_value : (n k m : Schema) (b c : MapBuilder) (old new : AtHand) → Build
 map_value n k m b c old new all there there_2 none defined = record {
   gives = read_ok (value_in b.table.now) add_entry map_total (value_of_map value_read n k m) old.held (writes_in c.table.now c.writes) (stored.Map c.writes)
       (map_read old.held n k m b.key.0 b.value.0 b c old new (Ok tt) refl there there_2 refl refl none all)
-      (is_map _ (writes_in b.table.now c.writes) _ (map_is b.table.now c.writes) (ap (λ u. writes_in u c.writes) (sym (ap (λ p. p.0) all.kept))));
-  defined = map_defined b.table.now c.writes defined;
+      (is_map _ (writes_in b.table.now c.writes) _ (group_value b.table.now group.Map c.writes) (ap (λ u. writes_in u c.writes) (sym (ap (λ p. p.0) all.kept))));
+  defined = group_defined b.table.now group.Map c.writes defined;
   leaves = all.leaves.opened;
 }
 
@@ -382,8 +330,8 @@ pub structure_value : (n : Schema) (b c : StructBuilder) (sorted : WriteList) (o
 structure_value n b c sorted old new all table none order defined = record {
   gives = read_ok (value_in b.table.now) add_write structure_total (value_of_structure value_read (shape n)) old.held (writes_in c.table.now c.writes) (stored.Struct sorted)
       (structure_read old.held n b c old new (Ok tt) refl table none all)
-      (is_structure _ (writes_in b.table.now c.writes) (writes_in b.table.now sorted) _ (structure_is b.table.now sorted) order (ap (λ u. writes_in u c.writes) (sym all.kept)));
-  defined = structure_defined b.table.now sorted defined;
+      (is_structure _ (writes_in b.table.now c.writes) (writes_in b.table.now sorted) _ (group_value b.table.now group.Structure sorted) order (ap (λ u. writes_in u c.writes) (sym all.kept)));
+  defined = group_defined b.table.now group.Structure sorted defined;
   leaves = all.leaves.opened;
 }
 
@@ -414,26 +362,15 @@ pub has_node_at : (t : Table) (place : ℕ) (n m : Schema) (i : ℕ) → Some n 
 has_node_at t place n m i there is = subst (λ (o : Option Schema). IsSome o) (sym (placed_here t place n m i there is)) refl
 
 -- a structure read at the top, where the null is refused
-opened_ok : (held : Option Held) (n : Schema) (now sorted new : Writes) (v : StructValue) → IfSome held (λ h. IsRead add_write structure_total (value_of_structure value_read (shape n) h) new (Ok tt))
-    → members_of v ≡ sorted → sorted ≡ in_index_order now → now ≡ new → IfSome held (λ h. Gives structure_of (Some (value_of_structure value_read (shape n) h)) (Ok v))
-opened_ok None n now sorted new v r is order same = tt
-opened_ok (Some h) n now sorted new v r is order same =
-    rw r.is (given_ok structure_of add_write structure_total r.all new v r.built (is_structure new now sorted (structure_of v) (ap value.structure is) order same))
-
-opened_err : (held : Option Held) (n : Schema) (new : Writes) (e : SerdeError) → IfSome held (λ h. IsRead add_write structure_total (value_of_structure value_read (shape n) h) new (Err e))
-    → IfSome held (λ h. Gives structure_of (Some (value_of_structure value_read (shape n) h)) (Err e))
-opened_err None n new e r = tt
-opened_err (Some h) n new e r = rw r.is (given_err structure_of add_write structure_total r.all new e r.built)
-
 by_node : (held : Option Held) (r : ValueReader) (n : Schema) (answer : Result StructValue SerdeError) → Some n ≡ at_place r.table.now r.schema.0
-    → IfSome held (λ h. Gives structure_of (Some (value_of_structure value_read (shape n) h)) answer) → IfSome held (λ h. gives_structure r h answer)
+    → Gives structure_of (option_map (value_of_structure value_read (shape n)) held) answer → IfSome held (λ h. gives_structure r h answer)
 by_node None r n answer there g = tt
 by_node (Some h) r n answer there g = at_the_place (λ m. Gives structure_of (Some (value_of_structure value_read (shape m) h)) answer) r.table.now r.schema.0 n there g
 
 pub reader_err : (r : ValueReader) (n : Schema) (s t : StructBuilder) (e : SerdeError) (old new : AtHand) → Some n ≡ at_place r.table.now r.schema.0 → BuildsStructure (shape n) s t old new (Err e)
     → s.table.now ≡ r.table.now → writes_in s.table.now s.writes ≡ no_writes → ReadsBy (gives_structure r) old new (Err e)
 reader_err r n s t e old new there all table none = record {
-  gives = by_node old.held r n (Err e) there (opened_err old.held n (writes_in t.table.now t.writes) e (structure_read old.held n s t old new (Err e) refl (table ∙ sym (at_place_table r.table.now r.schema.0 n (sym there))) none all));
+  gives = by_node old.held r n (Err e) there (read_err structure_of add_write structure_total (value_of_structure value_read (shape n)) old.held (writes_in t.table.now t.writes) e (structure_read old.held n s t old new (Err e) refl (table ∙ sym (at_place_table r.table.now r.schema.0 n (sym there))) none all));
   leaves = all.leaves;
 }
 
@@ -441,9 +378,9 @@ pub reader_ok : (r : ValueReader) (n : Schema) (s t : StructBuilder) (sorted : W
     → s.table.now ≡ r.table.now → writes_in s.table.now s.writes ≡ no_writes → writes_in r.table.now sorted ≡ in_index_order (writes_in r.table.now t.writes)
     → members_of v ≡ writes_in r.table.now sorted → ReadsBy (gives_structure r) old new (Ok v)
 reader_ok r n s t sorted v old new there all table none order is = record {
-  gives = by_node old.held r n (Ok v) there (opened_ok old.held n (writes_in r.table.now t.writes) (writes_in r.table.now sorted) (writes_in t.table.now t.writes) v
+  gives = by_node old.held r n (Ok v) there (read_ok structure_of add_write structure_total (value_of_structure value_read (shape n)) old.held (writes_in t.table.now t.writes) v
       (structure_read old.held n s t old new (Ok tt) refl (table ∙ sym (at_place_table r.table.now r.schema.0 n (sym there))) none all)
-      is order (ap (λ u. writes_in u t.writes) (sym (all.kept ∙ table))));
+      (is_structure (writes_in t.table.now t.writes) (writes_in r.table.now t.writes) (writes_in r.table.now sorted) (structure_of v) (ap value.structure is) order (ap (λ u. writes_in u t.writes) (sym (all.kept ∙ table)))));
   leaves = all.leaves.opened;
 }
 

@@ -4,7 +4,7 @@ use Rattle.smithy_serde.specs.Handing.{same_kept, at_elements, at_entries, at_me
 use Rattle.smithy_serde.specs.StoredValues.{AreDefined}
 use Rattle.smithy_serde.specs.ValueBuilding.{list_nodes, map_nodes, struct_table, TakesElement, TakesEntry, TakesMember}
 use Rattle.smithy_serde.proofs.BuilderItems.{element_taken, element_refused, entry_taken, entry_refused, member_taken, member_refused}
-use Rattle.smithy_serde.proofs.ReadValue.{AtNode, value_null, value_scalar, value_scalar_err, value_planned, list_value, list_value_err, map_value, map_value_err, structure_value, structure_value_err, at_place_table, placed_here, has_node_at}
+use Rattle.smithy_serde.proofs.ReadValue.{at_node, value_null, value_scalar, value_scalar_err, value_planned, list_value, list_value_err, map_value, map_value_err, structure_value, structure_value_err, at_place_table, placed_here, has_node_at}
 use Rattle.smithy_serde.proofs.ReadWalk.{not_opened, begins, halted, stopped, taken, hidden, answered}
 use Rattle.smithy_serde.proofs.value_reading.+read_value.Goals as goal
 
@@ -90,23 +90,17 @@ read_members-loop-member-preserved-in-Continue-branch-4 g t c =
 
 pub read_value-returns-then-reads_null : goal.read_value-returns-then-reads_null
 read_value-returns-then-reads_null g t c =
-    let at : AtNode (schema_of c.in-Some.schema) (g.D.ShapeDeserializer.at_hand c.args.reader.now).held c.shape_type-kind.result c.is_null.result c.reads_null.result
-    = record { same = c.shape_type-kind.ensures; told = c.is_null.ensures; is = c.reads_null.ensures } in
-    value_null c.args.table.now c.args.node.0 _ _ _ _ _ c.in-Some.ensures.node at c.if-reads_null.true
+    value_null c.args.table.now c.args.node.0 _ _ _ _ _ c.in-Some.ensures.node (at_node c.shape_type-kind.ensures c.is_null.ensures c.reads_null.ensures) c.if-reads_null.true
 
 pub read_value-returns-in_err-read-in-Scalar : goal.read_value-returns-in_err-read-in-Scalar
 read_value-returns-in_err-read-in-Scalar g t c =
-    let at : AtNode (schema_of c.in-Some.schema) (g.D.ShapeDeserializer.at_hand c.args.reader.now).held c.shape_type-kind.result c.is_null.result c.reads_null.result
-    = record { same = c.shape_type-kind.ensures; told = c.is_null.ensures; is = c.reads_null.ensures } in
     let p = rw c.in-Scalar.is at c.plan_of.ensures in
-    let whole = value_scalar_err c.args.table.now c.args.node.0 _ _ _ _ c.in-Scalar.kind _ _ _ c.in-Some.ensures.node at c.if-reads_null.false p c.in_err-read-in-Scalar.ensures in search rules
+    let whole = value_scalar_err c.args.table.now c.args.node.0 _ _ _ _ c.in-Scalar.kind _ _ _ c.in-Some.ensures.node (at_node c.shape_type-kind.ensures c.is_null.ensures c.reads_null.ensures) c.if-reads_null.false p c.in_err-read-in-Scalar.ensures in search rules
 
 pub read_value-returns-in_ok-read-in-Scalar : goal.read_value-returns-in_ok-read-in-Scalar
 read_value-returns-in_ok-read-in-Scalar g t c =
-    let at : AtNode (schema_of c.in-Some.schema) (g.D.ShapeDeserializer.at_hand c.args.reader.now).held c.shape_type-kind.result c.is_null.result c.reads_null.result
-    = record { same = c.shape_type-kind.ensures; told = c.is_null.ensures; is = c.reads_null.ensures } in
     let p = rw c.in-Scalar.is at c.plan_of.ensures in
-    value_scalar c.args.table.now c.args.node.0 _ _ _ _ c.in-Scalar.kind _ _ _ _ c.in-Some.ensures.node at c.if-reads_null.false p c.in_ok-read-in-Scalar.ensures (c.stored.ensures.value c.args.table.now) (c.stored.ensures.defined _ c.in_ok-read-in-Scalar.ensures.of_kind c.args.table.now)
+    value_scalar c.args.table.now c.args.node.0 _ _ _ _ c.in-Scalar.kind _ _ _ _ c.in-Some.ensures.node (at_node c.shape_type-kind.ensures c.is_null.ensures c.reads_null.ensures) c.if-reads_null.false p c.in_ok-read-in-Scalar.ensures (c.stored.ensures.value c.args.table.now) (c.stored.ensures.defined _ c.in_ok-read-in-Scalar.ensures.of_kind c.args.table.now)
 
 pub list_value-returns-in_err-read_elements : goal.list_value-returns-in_err-read_elements
 list_value-returns-in_err-read_elements g t c =
@@ -144,10 +138,8 @@ read_value-list_value-requires g t c =
 
 pub read_value-returns-in-List : goal.read_value-returns-in-List
 read_value-returns-in-List g t c =
-    let at : AtNode (schema_of c.in-Some.schema) (g.D.ShapeDeserializer.at_hand c.args.reader.now).held c.shape_type-kind.result c.is_null.result c.reads_null.result
-    = record { same = c.shape_type-kind.ensures; told = c.is_null.ensures; is = c.reads_null.ensures } in
     let p = rw c.in-List.is at c.plan_of.ensures in
-    value_planned c.args.table.now c.args.node.0 _ _ _ _ _ _ _ _ c.in-Some.ensures.node at c.if-reads_null.false p.2
+    value_planned c.args.table.now c.args.node.0 _ _ _ _ _ _ _ _ c.in-Some.ensures.node (at_node c.shape_type-kind.ensures c.is_null.ensures c.reads_null.ensures) c.if-reads_null.false p.2
     (c.list_value.ensures p.0 (placed_here c.args.table.now c.args.node.0 _ _ _ c.in-Some.ensures.node p.1))
 
 pub read_value-map_value-requires : goal.read_value-map_value-requires
@@ -158,10 +150,8 @@ read_value-map_value-requires g t c =
 
 pub read_value-returns-in-Map : goal.read_value-returns-in-Map
 read_value-returns-in-Map g t c =
-    let at : AtNode (schema_of c.in-Some.schema) (g.D.ShapeDeserializer.at_hand c.args.reader.now).held c.shape_type-kind.result c.is_null.result c.reads_null.result
-    = record { same = c.shape_type-kind.ensures; told = c.is_null.ensures; is = c.reads_null.ensures } in
     let p = rw c.in-Map.is at c.plan_of.ensures in
-    value_planned c.args.table.now c.args.node.0 _ _ _ _ _ _ _ _ c.in-Some.ensures.node at c.if-reads_null.false p.4
+    value_planned c.args.table.now c.args.node.0 _ _ _ _ _ _ _ _ c.in-Some.ensures.node (at_node c.shape_type-kind.ensures c.is_null.ensures c.reads_null.ensures) c.if-reads_null.false p.4
     (c.map_value.ensures p.0 p.1 (placed_here c.args.table.now c.args.node.0 _ _ _ c.in-Some.ensures.node p.2) (placed_here c.args.table.now c.args.node.0 _ _ _ c.in-Some.ensures.node p.3))
 
 pub read_value-structure_value-requires : goal.read_value-structure_value-requires
@@ -169,7 +159,5 @@ read_value-structure_value-requires g t c = let table = at_place_table c.args.ta
 
 pub read_value-returns-in-Structure : goal.read_value-returns-in-Structure
 read_value-returns-in-Structure g t c =
-    let at : AtNode (schema_of c.in-Some.schema) (g.D.ShapeDeserializer.at_hand c.args.reader.now).held c.shape_type-kind.result c.is_null.result c.reads_null.result
-    = record { same = c.shape_type-kind.ensures; told = c.is_null.ensures; is = c.reads_null.ensures } in
     let p = rw c.in-Structure.is at c.plan_of.ensures in
-    value_planned c.args.table.now c.args.node.0 _ _ _ _ _ _ _ _ c.in-Some.ensures.node at c.if-reads_null.false p c.structure_value.ensures
+    value_planned c.args.table.now c.args.node.0 _ _ _ _ _ _ _ _ c.in-Some.ensures.node (at_node c.shape_type-kind.ensures c.is_null.ensures c.reads_null.ensures) c.if-reads_null.false p c.structure_value.ensures

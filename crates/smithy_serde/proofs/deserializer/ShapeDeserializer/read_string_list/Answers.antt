@@ -15,21 +15,15 @@ returns-in_err-next_element g c = let whole = each_halted text of.String _ _ _ _
 
 pub returns-in_err-item : goal.returns-in_err-item
 returns-in_err-item g c =
-    let item = rw c.if-branch.true at c.in_ok-next_element.ensures in
-    let read = rw c.prelude-element.ensures.node at c.in_err-item.ensures in
-    let whole = each_refused text of.String _ _ _ _ _ _ _ c.loop-items.invariant item read in search rules
+    let whole = each_refused text of.String _ _ _ _ _ _ _ _ _ c.loop-items.invariant c.if-branch.true c.prelude-element.ensures.node c.in_err-item.ensures c.in_ok-next_element.ensures in search rules
 
 pub returns-in_err-push : goal.returns-in_err-push
 returns-in_err-push g c =
-    let item = rw c.if-branch.true at c.in_ok-next_element.ensures in
-    let read = rw c.prelude-element.ensures.node at c.in_ok-item.ensures in
-    let whole = each_dropped text of.String _ _ _ _ _ _ _ _ c.loop-items.invariant item read refl in search rules
+    let whole = each_dropped text of.String _ _ _ _ _ _ _ _ _ _ c.loop-items.invariant c.if-branch.true c.in_ok-item.ensures c.in_ok-next_element.ensures refl in search rules
 
 pub loop-items-preserved : goal.loop-items-preserved
 loop-items-preserved g c =
-    let item = rw c.if-branch.true at c.in_ok-next_element.ensures in
-    let read = rw c.prelude-element.ensures.node at c.in_ok-item.ensures in
-    each_added text of.String _ _ c.loop-items.items c.push.new.self _ c.in_ok-item.item _ _ _ c.loop-items.invariant item read c.in_ok-push.ensures.ok (search rules)
+    each_added text of.String _ _ c.loop-items.items c.push.new.self _ c.in_ok-item.item _ _ _ _ _ c.loop-items.invariant c.if-branch.true c.prelude-element.ensures.node c.in_ok-item.ensures c.in_ok-next_element.ensures c.in_ok-push.ensures.ok (search rules)
 
 pub returns : goal.returns
 returns g c = each_ends text of.String _ _ _ _ _ c.loop-items.invariant (rw c.if-branch.false at c.in_ok-next_element.ensures)
