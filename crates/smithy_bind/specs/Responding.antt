@@ -12,7 +12,8 @@ use Rattle.smithy_serde.specs.Held.{Held}
 use Rattle.smithy_serde.specs.Values.{Value}
 use Rattle.smithy_serde.specs.declared.error.SerdeError.{SerdeError}
 use Rattle.smithy_serde.specs.declared.error.SerdeError.TheVariants.{Custom, UnknownMember}
-use Rattle.smithy_document.specs.JsonHeld.{document_of_text, held_of}
+use Rattle.smithy_json.specs.FromText.{document_of_text}
+use Rattle.smithy_document.specs.JsonHeld.{held_of}
 use Rattle.smithy_document.specs.JsonText.{json_text}
 use Rattle.smithy_binding.specs.CheckedOutput.{checked_output}
 use Rattle.smithy_registry.specs.ErrorCodes.{sanitized}

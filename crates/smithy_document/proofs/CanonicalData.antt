@@ -11,8 +11,8 @@ use Rattle.serde_json.specs.Data.{Num, Data}
 use Rattle.smithy_types.specs.Documents as doc
 use Rattle.smithy_types.specs.Documents.{Document, Items, Members, Number, number_of, put, put_all}
 use Rattle.smithy_serde.specs.Lawful.{is_number_canonical, is_canonical, are_items_canonical, are_members_canonical}
-use Rattle.smithy_document.specs.FromData.{number_of_data, of_data, items_of_data, pairs_of_data}
-use Rattle.smithy_document.specs.JsonHeld.{document_of_text}
+use Rattle.smithy_json.specs.FromData.{number_of_data, of_data, items_of_data, pairs_of_data}
+use Rattle.smithy_json.specs.FromText.{document_of_text}
 
 pub both : (b c : Bool) → IsTrue b → IsTrue c → IsTrue (b && c)
 both b c h k = rw (h, k) refl

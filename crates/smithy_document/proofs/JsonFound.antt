@@ -11,7 +11,7 @@ use Rattle.serde_json.specs.Read.{of_json, of_items, of_members}
 use Rattle.smithy_types.specs.Documents as doc
 use Rattle.smithy_types.specs.Documents.{Document, items_snoc}
 use Rattle.smithy_types.specs.Maps.{with_value}
-use Rattle.smithy_document.specs.FromData.{of_data, items_of_data, pairs_of_data}
+use Rattle.smithy_json.specs.FromData.{of_data, items_of_data, pairs_of_data}
 use Rattle.smithy_document.specs.FromJson.{document_of_json, items_of_json, members_of_json}
 use Rattle.smithy_document.proofs.NamedPairs.{members_ordered}
 use Rattle.smithy_document.proofs.OrderedPairs.{Pairs, all_put, Ascends, all_ascend, known_by_names, look_ordered, last_ascending}

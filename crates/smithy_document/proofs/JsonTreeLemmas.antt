@@ -30,9 +30,9 @@ use Rattle.smithy_types.specs.Documents.{Document, items_snoc}
 use Rattle.smithy_types.specs.Maps.{with_value, IsOrdered}
 use Rattle.smithy_types.specs.DocumentView.{number_view}
 use Rattle.smithy_types.specs.declared.number.Number.{Number}
-use Rattle.smithy_document.specs.FromData.{number_of_data, of_data, items_of_data, pairs_of_data}
+use Rattle.smithy_json.specs.FromData.{number_of_data, of_data, items_of_data, pairs_of_data}
 use Rattle.smithy_document.specs.FromJson.{document_of_json, items_of_json, members_of_json, IsFound}
-use Rattle.smithy_document.specs.JsonHeld.{document_of_text}
+use Rattle.smithy_json.specs.FromText.{document_of_text}
 use Rattle.smithy_document.specs.JsonTree.{text_at, node_view, nodes_view, fields_view, Grows, StaysIn}
 use Rattle.smithy_document.specs.declared.json_tree.Node.{Node, Null, Bool as TheBool, Number as TheNumber, Text as TheText, Array, Object, the_lemmas}
 use Rattle.smithy_document.proofs.JsonFound.{Member, pairs_of_json, pair_found, members_found}

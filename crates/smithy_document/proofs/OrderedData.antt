@@ -13,9 +13,9 @@ use Rattle.smithy_types.specs.Documents as doc
 use Rattle.smithy_types.specs.Documents.{Document, Items, Members, put, put_all}
 use Rattle.smithy_serde.specs.Lawful.{is_canonical}
 use Rattle.smithy_serde.specs.Ranges.{is_before}
-use Rattle.smithy_document.specs.FromData.{number_of_data, of_data, items_of_data, pairs_of_data}
+use Rattle.smithy_json.specs.FromData.{number_of_data, of_data, items_of_data, pairs_of_data}
 use Rattle.smithy_document.specs.InOrder.{is_in_order, are_items_in_order, are_members_in_order, is_read}
-use Rattle.smithy_document.specs.JsonHeld.{document_of_text}
+use Rattle.smithy_json.specs.FromText.{document_of_text}
 use Rattle.smithy_document.proofs.CanonicalData.{both, text_canonical}
 
 number_ordered : (n : Option doc.Number) → IfSome (option_map doc.number n) (λ d. IsTrue (is_in_order d))

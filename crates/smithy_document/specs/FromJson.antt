@@ -6,7 +6,7 @@ use Rattle.serde_json.specs.Data as parsed
 use Rattle.serde_json.specs.Read.{of_json, of_items, of_members}
 use Rattle.smithy_types.specs.Documents as doc
 use Rattle.smithy_types.specs.Documents.{Document}
-use Rattle.smithy_document.specs.FromData.{of_data, items_of_data, pairs_of_data}
+use Rattle.smithy_json.specs.FromData.{of_data, items_of_data, pairs_of_data}
 use Rattle.smithy_document.specs.JsonTree.{StaysIn}
 
 abbrev pub document_of_json : Json → Option Document

@@ -1,17 +1,11 @@
 -- What a reader of JSON has at hand.
-use Rattle.std.specs.Prelude.{ℕ, codes, List, Option, Some, None, option_and_then, if◌then◌else◌}
-use Rattle.std.specs.Str.{is_utf8}
-use Rattle.serde_json.specs.Read.{read}
+use Rattle.std.specs.Prelude.{ℕ, codes, List, Option, Some, None}
 use Rattle.smithy_types.specs.Documents.{Document}
+use Rattle.smithy_json.specs.FromText.{document_of_text}
 use Rattle.smithy_serde.specs.Held as held
 use Rattle.smithy_serde.specs.Held.{Held}
 use Rattle.smithy_serde.specs.declared.error.SerdeError.{SerdeError}
 use Rattle.smithy_serde.specs.declared.error.SerdeError.TheVariants.{InvalidInput}
-use Rattle.smithy_document.specs.FromData.{of_data}
-
--- the document of a text, none where it is no UTF-8, no JSON (RFC 8259) or has a float in it
-unfoldable pub document_of_text : List ℕ → Option Document
-document_of_text bytes = option_and_then of_data (if is_utf8 bytes then read bytes else None)
 
 -- the refusal at each read of what is no such text
 abbrev pub not_json : SerdeError

@@ -4,20 +4,19 @@ ghost use Rattle.json.specs.Value.{value_view, items_view, members_view};
 ghost use Rattle.serde_json.specs.Read.{number_of as number_of_text, number_from};
 ghost use Rattle.smithy_types.specs.DocumentView.{number_view};
 ghost use Rattle.smithy_types.specs.Maps.{IsOrdered};
-ghost use Rattle.smithy_document.specs.FromData.{number_of_data};
+ghost use Rattle.smithy_json.specs.FromData.{number_of_data};
 ghost use Rattle.smithy_document.specs.FromJson.{document_of_json, items_of_json, members_of_json, IsFound};
 ghost use Rattle.smithy_document.specs.InOrder.{is_tree_read};
-ghost use Rattle.smithy_document.specs.JsonHeld.{document_of_text};
+ghost use Rattle.smithy_json.specs.FromText.{document_of_text};
 ghost use Rattle.smithy_document.specs.JsonTree.{node_view, nodes_view, fields_view, tree_view, Grows};
 
-use crate::json_fault::JsonFault;
-use crate::json_reading::read_document;
 use crate::json_tree::{JsonTree, Node};
 use crate::json_tree_documents::tree_of;
 use crate::text_list::TextList;
 use fast_float::Numeral;
-use json::{Error as JsonError, Reader, Scratch, Value};
+use json::{Reader, Scratch, Value};
 use simdutf8::compat::from_utf8;
+use smithy_json::{JsonError, read_document};
 use smithy_serde::SerdeError;
 use smithy_types::Number;
 use std::alloc::Global;
@@ -66,7 +65,7 @@ fn number_below_zero(numeral: &Numeral<'_>) -> Option<Number>
 // The value that stands in a text, without floats.
 #[cycle(node)]
 #[inline(always)]
-fn node_of(alloc: Global, texts: &mut TextList, value: &Value<'_>) -> Result<Node, JsonFault>
+fn node_of(alloc: Global, texts: &mut TextList, value: &Value<'_>) -> Result<Node, JsonError>
     ensures grows { Grows texts.old texts.new }
     ensures is { IfOk result
         (λ n. IsFound (document_of_json (value_view value.now)) (λ ts. node_view ts n) texts.new) }
@@ -76,7 +75,7 @@ fn node_of(alloc: Global, texts: &mut TextList, value: &Value<'_>) -> Result<Nod
         Value::Bool(truth) => Ok(Node::Bool(*truth)),
         Value::Number(text) => match number_of(*text) {
             Some(number) => Ok(Node::Number(number)),
-            None => Err(JsonFault::NoDocument),
+            None => Err(JsonError::NoDocument),
         },
         Value::String(text) => Ok(Node::Text(texts.push(*text)?)),
         Value::Array(items) => Ok(Node::Array(nodes_of(alloc, texts, items)?)),
@@ -96,7 +95,7 @@ fn nodes_of(
     alloc: Global,
     texts: &mut TextList,
     items: &Vec<Value<'_>>,
-) -> Result<Vec<Node>, JsonFault>
+) -> Result<Vec<Node>, JsonError>
     ensures grows { Grows texts.old texts.new }
     ensures are { IfOk result (λ ns. IsFound (items_of_json (items_view items.now.items))
         (λ ts. nodes_view ts ns.items) texts.new) }
@@ -131,7 +130,7 @@ fn fields_in_turn(
     alloc: Global,
     texts: &mut TextList,
     members: &Vec<(&str, Value<'_>)>,
-) -> Result<Vec<(usize, Node)>, JsonFault>
+) -> Result<Vec<(usize, Node)>, JsonError>
     requires { IsOrdered (map (λ m. (m.0.now, m.1)) members.now.items) }
     ensures grows { Grows texts.old texts.new }
     ensures are { IfOk result (λ fs. IsFound (members_of_json (members_view members.now.items))
@@ -152,7 +151,7 @@ fn fields_in_order(
     alloc: Global,
     texts: &mut TextList,
     members: &Vec<(&str, Value<'_>)>,
-) -> Result<Vec<(usize, Node)>, JsonFault>
+) -> Result<Vec<(usize, Node)>, JsonError>
     ensures grows { Grows texts.old texts.new }
     ensures are { IfOk result (λ fs. IsFound (members_of_json (members_view members.now.items))
         (λ ts. fields_view ts fs.items) texts.new) }
@@ -170,7 +169,7 @@ fn fields_in_order(
 fn listed(
     alloc: Global,
     entries: BTreeMap<&str, (usize, Node)>,
-) -> Result<Vec<(usize, Node)>, JsonFault>
+) -> Result<Vec<(usize, Node)>, JsonError>
     ensures { IfOk result (λ fs. fs.items ≡ map (λ e. e.1) entries.entry.entries) }
 {
     let mut fields = Vec::new(alloc);
@@ -183,11 +182,11 @@ fn listed(
 const MAX_DEPTH: usize = 127;
 
 // The tree of a JSON text, where it is JSON and has no float in it.
-fn plain_tree(alloc: Global, text: &[u8]) -> Result<JsonTree, JsonFault>
+fn plain_tree(alloc: Global, text: &[u8]) -> Result<JsonTree, JsonError>
     ensures { IfOk result (λ t. document_of_text text.now ≡ Some (tree_view t)) }
 {
     let Ok(text) = from_utf8(text) else {
-        return Err(JsonFault::NoDocument);
+        return Err(JsonError::NoDocument);
     };
     let mut scratch = Scratch::new(alloc);
     tree_of_text(alloc, text, &mut scratch)
@@ -195,17 +194,17 @@ fn plain_tree(alloc: Global, text: &[u8]) -> Result<JsonTree, JsonFault>
 
 // The same of a text. It is no part of its caller, so that the scratch, of some 16 KiB, is filled once.
 #[inline(never)]
-fn tree_of_text(alloc: Global, text: &str, scratch: &mut Scratch) -> Result<JsonTree, JsonFault>
+fn tree_of_text(alloc: Global, text: &str, scratch: &mut Scratch) -> Result<JsonTree, JsonError>
     ensures { IfOk result (λ t. IsUtf8 text.now → document_of_text text.now ≡ Some (tree_view t)) }
 {
     let mut reader = Reader::new(text, scratch)?;
     let value = match Value::read(alloc, &mut reader, MAX_DEPTH) {
         Ok(value) => value,
-        Err(JsonError::OutOfMemory) => return Err(JsonFault::OutOfMemory),
-        Err(_) => return Err(JsonFault::NoDocument),
+        Err(json::Error::OutOfMemory) => return Err(JsonError::OutOfMemory),
+        Err(_) => return Err(JsonError::NoDocument),
     };
     if reader.next().is_some() {
-        return Err(JsonFault::NoDocument);
+        return Err(JsonError::NoDocument);
     }
     let mut texts = TextList::with_capacity(alloc, text.len())?;
     let root = node_of(alloc, &mut texts, &value)?;
@@ -220,10 +219,11 @@ pub(crate) fn read_tree(alloc: Global, text: &[u8]) -> Result<Option<JsonTree>, 
 {
     match plain_tree(alloc, text) {
         Ok(tree) => Ok(Some(tree)),
-        Err(JsonFault::OutOfMemory) => Err(SerdeError::OutOfMemory),
-        Err(JsonFault::NoDocument) => match read_document(alloc, text)? {
-            Some(document) => Ok(Some(tree_of(alloc, &document)?)),
-            None => Ok(None),
+        Err(JsonError::OutOfMemory) => Err(SerdeError::OutOfMemory),
+        Err(JsonError::NoDocument) => match read_document(alloc, text) {
+            Ok(document) => Ok(Some(tree_of(alloc, &document)?)),
+            Err(JsonError::NoDocument) => Ok(None),
+            Err(JsonError::OutOfMemory) => Err(SerdeError::OutOfMemory),
         },
     }
 }

@@ -10,7 +10,7 @@ use Rattle.serde_json.specs.Data.{Num, Data, Items, Members}
 use Rattle.smithy_types.specs.Documents as doc
 use Rattle.smithy_types.specs.Documents.{Document, put, put_all}
 use Rattle.smithy_serde.specs.Lawful.{is_canonical, are_items_canonical, are_members_canonical}
-use Rattle.smithy_model.specs.Documents.{number_of, document_of, items_of, pairs_of}
+use Rattle.smithy_json.specs.FromData.{number_of_data, of_data, items_of_data, pairs_of_data}
 
 put-canonical : (k : List ℕ) (d : Document) (ms : doc.Members) → IsTrue (is_canonical d) → IsTrue (are_members_canonical ms) → IsTrue (are_members_canonical (put k d ms))
 put-canonical k d doc.no_members c h = rw c refl
@@ -32,7 +32,7 @@ put_all-canonical : (ps : List (List ℕ × Document)) (ms : doc.Members) → Ar
 put_all-canonical [] ms c h = h
 put_all-canonical (p ∷ ps) ms c h = put_all-canonical ps (put p.0 p.1 ms) c.1 (put-canonical p.0 p.1 ms c.0 h)
 
-number-canonical : (n : Num) → IfSome (option_map doc.number (number_of n)) (λ x. IsTrue (is_canonical x))
+number-canonical : (n : Num) → IfSome (option_map doc.number (number_of_data n)) (λ x. IsTrue (is_canonical x))
 number-canonical (json.unsigned n) = refl
 number-canonical (json.negative (pos n)) = refl
 number-canonical (json.negative (negsuc n)) = refl
@@ -59,18 +59,18 @@ pair-canonical name (Some x) None h k = tt
 pair-canonical name (Some x) (Some ps) h k = (h, k)
 
 mutual
-  pub document_of-canonical : (d : Data) → IfSome (document_of d) (λ x. IsTrue (is_canonical x))
-  document_of-canonical json.null = refl
-  document_of-canonical (json.boolean b) = refl
-  document_of-canonical (json.number n) = number-canonical n
-  document_of-canonical (json.string s) = refl
-  document_of-canonical (json.array ds) = array-canonical (items_of ds) (items_of-canonical ds)
-  document_of-canonical (json.object ms) = object-canonical (pairs_of ms) (pairs_of-canonical ms)
+  pub of_data-canonical : (d : Data) → IfSome (of_data d) (λ x. IsTrue (is_canonical x))
+  of_data-canonical json.null = refl
+  of_data-canonical (json.boolean b) = refl
+  of_data-canonical (json.number n) = number-canonical n
+  of_data-canonical (json.string s) = refl
+  of_data-canonical (json.array ds) = array-canonical (items_of_data ds) (items_of_data-canonical ds)
+  of_data-canonical (json.object ms) = object-canonical (pairs_of_data ms) (pairs_of_data-canonical ms)
 
-  items_of-canonical : (ds : Items) → IfSome (items_of ds) (λ xs. IsTrue (are_items_canonical xs))
-  items_of-canonical json.no_items = refl
-  items_of-canonical (json.item d ds) = item-canonical (document_of d) (items_of ds) (document_of-canonical d) (items_of-canonical ds)
+  items_of_data-canonical : (ds : Items) → IfSome (items_of_data ds) (λ xs. IsTrue (are_items_canonical xs))
+  items_of_data-canonical json.no_items = refl
+  items_of_data-canonical (json.item d ds) = item-canonical (of_data d) (items_of_data ds) (of_data-canonical d) (items_of_data-canonical ds)
 
-  pairs_of-canonical : (ms : Members) → IfSome (pairs_of ms) AreCanonical
-  pairs_of-canonical json.no_members = tt
-  pairs_of-canonical (json.member k d ms) = pair-canonical k (document_of d) (pairs_of ms) (document_of-canonical d) (pairs_of-canonical ms)
+  pairs_of_data-canonical : (ms : Members) → IfSome (pairs_of_data ms) AreCanonical
+  pairs_of_data-canonical json.no_members = tt
+  pairs_of_data-canonical (json.member k d ms) = pair-canonical k (of_data d) (pairs_of_data ms) (of_data-canonical d) (pairs_of_data-canonical ms)

@@ -12,7 +12,7 @@ use Rattle.serde_json.proofs.Views.{view-Array, view-Object}
 use Rattle.smithy_schema.specs.Nodes.{Schema, element_of, key_of, value_of}
 use Rattle.smithy_serde.specs.Values.{Value, scalar, Writes, no_writes, write, boolean, null, document, list, structure}
 use Rattle.smithy_serde.specs.Values as values
-use Rattle.smithy_model.specs.Documents.{document_of}
+use Rattle.smithy_json.specs.FromData.{of_data}
 use Rattle.smithy_job.specs.Scalars.{number_at, text_at}
 use Rattle.smithy_job.specs.Values.{kind_of, is_document_kind, is_structure_kind, label_at, member_at, member_label, value_in, elements_in, entries_in, members_in}
 
@@ -22,7 +22,7 @@ two : {A B C : Type 0} (f : A → B) (g : B → C) (o : Option A) → option_map
 two f g None = refl
 two f g (Some x) = refl
 
-document_value : (here : Option Schema) (d : Data) → is_document_kind (kind_of here) ≡ true → value_in here d ≡ option_map (λ x. scalar (document x)) (document_of d)
+document_value : (here : Option Schema) (d : Data) → is_document_kind (kind_of here) ≡ true → value_in here d ≡ option_map (λ x. scalar (document x)) (of_data d)
 unfolding value_in elements_in entries_in members_in
 document_value here json.null e = rw e refl
 document_value here (json.boolean b) e = rw e refl
@@ -31,8 +31,8 @@ document_value here (json.string s) e = rw e refl
 document_value here (json.array ds) e = rw e refl
 document_value here (json.object ms) e = rw e refl
 
-pub at_document : (here : Option Schema) (d : Data) → is_document_kind (kind_of here) ≡ true → value_in here d ≡ option_map scalar (option_map document (document_of d))
-at_document here d e = rw (document_value here d e) (two document scalar (document_of d))
+pub at_document : (here : Option Schema) (d : Data) → is_document_kind (kind_of here) ≡ true → value_in here d ≡ option_map scalar (option_map document (of_data d))
+at_document here d e = rw (document_value here d e) (two document scalar (of_data d))
 
 view-Null : view serde.Null ≡ json.null
 view-Null = search (rules, the_lemmas)

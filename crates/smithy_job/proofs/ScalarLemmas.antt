@@ -11,9 +11,9 @@ use Rattle.serde_json.specs.Data.{Data}
 use Rattle.smithy_serde.specs.Values.{text, big_integer, big_decimal, blob, boolean, null, document}
 use Rattle.smithy_serde.specs.StoredValues.{value_in, IsDefined}
 use Rattle.smithy_serde.specs.declared.value.ShapeValue.TheVariants as stored
-use Rattle.smithy_model.specs.Documents.{document_of}
+use Rattle.smithy_json.specs.FromData.{of_data}
 use Rattle.smithy_job.specs.Tables.{IsScalar, Has}
-use Rattle.smithy_job.proofs.CanonicalLemmas.{document_of-canonical}
+use Rattle.smithy_job.proofs.CanonicalLemmas.{of_data-canonical}
 
 pub big_is : (n t : List ℕ) → n ≡ t → IsScalar (stored.BigInteger n) (big_integer t)
 unfolding value_in IsDefined
@@ -56,6 +56,6 @@ unfolding value_in IsDefined
 boolean_is b = record { value = λ table. refl; defined = λ table. tt }
 
 -- a document that was read is canonical
-pub document_is : (d : Data) (x : Stored) → document_of d ≡ Some (document_view x) → Has (option_map document (document_of d)) (IsScalar (stored.Document x))
+pub document_is : (d : Data) (x : Stored) → of_data d ≡ Some (document_view x) → Has (option_map document (of_data d)) (IsScalar (stored.Document x))
 unfolding value_in IsDefined
-document_is d x e = rw e (record { value = λ table. refl; defined = λ table. rw e at (document_of-canonical d) })
+document_is d x e = rw e (record { value = λ table. refl; defined = λ table. rw e at (of_data-canonical d) })

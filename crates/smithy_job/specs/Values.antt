@@ -8,7 +8,7 @@ use Rattle.smithy_ids.specs.declared.shape_type.ShapeType.TheVariants as kind
 use Rattle.smithy_ids.specs.Kinds.{is_structure_or_union}
 use Rattle.smithy_schema.specs.Nodes.{Schema, shape, element_of, key_of, value_of, member_named}
 use Rattle.smithy_serde.specs.Values.{Label, label_of, boolean, document, null, Value, scalar, list, map, structure, Writes, no_writes, write}
-use Rattle.smithy_model.specs.Documents.{document_of}
+use Rattle.smithy_json.specs.FromData.{of_data}
 use Rattle.smithy_job.specs.Scalars.{number_at, text_at}
 
 abbrev pub kind_of : Option Schema → Option ShapeType
@@ -43,7 +43,7 @@ member_label (Some m) name = label_of m
 
 -- at a node of documents the document
 abbrev pub document_or : Option Schema → Data → Option Value → Option Value
-document_or here d value = if is_document_kind (kind_of here) then option_map (λ x. scalar (document x)) (document_of d) else value
+document_or here d value = if is_document_kind (kind_of here) then option_map (λ x. scalar (document x)) (of_data d) else value
 
 unfoldable mutual
   -- none where there is a float in it

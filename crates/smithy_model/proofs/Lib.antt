@@ -1,5 +1,4 @@
 pub mod Bytes
-pub mod DocumentLemmas
 pub mod Each
 pub mod FilledLemmas
 pub mod FurtherLemmas

@@ -5,7 +5,7 @@ use Rattle.serde_json.specs.Data.{Data}
 use Rattle.smithy_ids.specs.ShapeIds.{has_hash}
 use Rattle.smithy_types.specs.Maps.{with_value}
 use Rattle.smithy_schema.specs.Nodes.{TraitValue, document_trait}
-use Rattle.smithy_model.specs.Documents.{document_of}
+use Rattle.smithy_json.specs.FromData.{of_data}
 use Rattle.smithy_model.specs.Json.{members_in}
 use Rattle.smithy_model.specs.Traits.{is_named_trait}
 
@@ -21,7 +21,7 @@ is_further name = not (is_named_trait name) && has_hash name
 abbrev pub with_further : Further → List ℕ × Data → Further
 with_further traits entry =
     if is_further entry.0
-    then option_map_or (λ d. with_value entry.0 (document_trait d) traits) (document_of entry.1) traits
+    then option_map_or (λ d. with_value entry.0 (document_trait d) traits) (of_data entry.1) traits
     else traits
 
 abbrev pub further_in : Further → List (List ℕ × Data) → Further

@@ -1,4 +1,3 @@
-pub mod Documents
 pub mod Further
 pub mod GivenTraits
 pub mod Json

@@ -1,7 +1,9 @@
 // Refusals of readers.
 ghost use Rattle.std.specs.Prelude.{◌≡◌};
+ghost use Rattle.smithy_model.specs.Reads.{refusal_of_json};
 ghost use Rattle.smithy_model.specs.declared.error.JobError.TheVariants as job_error;
 
+use smithy_json::JsonError;
 use std::alloc::{AllocError, AllocFailed};
 
 /// Why a reader has no answer.
@@ -26,5 +28,16 @@ impl<T: Drop> From<AllocFailed<T>> for JobError {
 
     fn from(_: AllocFailed<T>) -> JobError {
         JobError::OutOfMemory
+    }
+}
+
+impl From<JsonError> for JobError {
+    ghost from_gives = { λ e f. f ≡ refusal_of_json e };
+
+    fn from(error: JsonError) -> JobError {
+        match error {
+            JsonError::NoDocument => JobError::NoJob,
+            JsonError::OutOfMemory => JobError::OutOfMemory,
+        }
     }
 }

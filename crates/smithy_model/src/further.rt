@@ -7,12 +7,11 @@ ghost use Rattle.smithy_model.specs.Traits.{is_flag_trait, is_named_trait};
 ghost use Rattle.smithy_model.specs.Further.{with_further, further_in, further_traits};
 ghost use Rattle.smithy_model.specs.ModelView.{traits_view};
 
-use crate::document::document_of;
-use crate::error::JobError;
 use crate::shape::ShapeTraits;
 use crate::traits::is_text_trait;
 use serde_json::{Map, Value};
 use smithy_ids::ShapeId;
+use smithy_json::{JsonError, document_of};
 use smithy_schema::{DocumentTrait, Schema, Trait, TraitMap};
 use smithy_types::OutOfMemory;
 use std::alloc::Global;
@@ -59,8 +58,8 @@ fn insert_further(
     };
     match document_of(alloc, value) {
         Ok(document) => traits.insert(Trait::Document(DocumentTrait::new(alloc, id, document)?)),
-        Err(JobError::NoJob) => Ok(()),
-        Err(JobError::OutOfMemory) => Err(OutOfMemory),
+        Err(JsonError::NoDocument) => Ok(()),
+        Err(JsonError::OutOfMemory) => Err(OutOfMemory),
     }
 }
 

@@ -1,7 +1,6 @@
 // Models: the shapes that an operation reaches, read from JSON into a table of nodes.
 #![tactic(auto)]
 
-mod document;
 mod error;
 mod further;
 mod json_value;
@@ -19,7 +18,6 @@ mod structure;
 mod table;
 mod traits;
 
-pub use document::document_of;
 pub use error::JobError;
 pub use json_value::{items_of, read_json, text_of};
 pub use model::{errors_of_operation, schema_of_operation};

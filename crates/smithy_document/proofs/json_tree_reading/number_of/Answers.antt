@@ -3,7 +3,7 @@ use Rattle.std.specs.Prelude.{IfSome}
 use Rattle.fast_float.specs.Text.{scan}
 use Rattle.serde_json.specs.Read.{number_of, number_from}
 use Rattle.smithy_types.specs.DocumentView.{number_view}
-use Rattle.smithy_document.specs.FromData.{number_of_data}
+use Rattle.smithy_json.specs.FromData.{number_of_data}
 use Rattle.smithy_document.proofs.json_tree_reading.number_of.Goals as goal
 
 pub returns-then-has_minus : goal.returns-then-has_minus

@@ -4,8 +4,8 @@ use Rattle.std.specs.Str.{IsUtf8, is_utf8}
 use Rattle.std.proofs.lemmas.Str.{IsUtf8-from_is_utf8, is_utf8-from_IsUtf8}
 use Rattle.serde_json.specs.Data.{Data}
 use Rattle.serde_json.specs.Read.{read}
-use Rattle.smithy_document.specs.FromData.{of_data}
-use Rattle.smithy_document.specs.JsonHeld.{document_of_text}
+use Rattle.smithy_json.specs.FromData.{of_data}
+use Rattle.smithy_json.specs.FromText.{document_of_text}
 
 pub text_document : (bytes : List ℕ) (d : Data) → IsUtf8 bytes → read bytes ≡ Some d → document_of_text bytes ≡ of_data d
 unfolding document_of_text

@@ -6,7 +6,7 @@ use Rattle.serde_json.specs.View.{view, items_view, members_view}
 use Rattle.serde_json.specs.declared.value.Value.{Value}
 use Rattle.smithy_types.specs.Documents as doc
 use Rattle.smithy_types.specs.Documents.{Document, Items, Members, items_snoc, put, put_all}
-use Rattle.smithy_model.specs.Documents.{document_of, items_of, pairs_of}
+use Rattle.smithy_json.specs.FromData.{of_data, items_of_data, pairs_of_data}
 
 -- items, and then others
 abbrev pub and_items : Items → Items → Items
@@ -29,18 +29,18 @@ from_none : (o : Option Items) → option_map (and_items doc.no_items) o ≡ o
 from_none None = refl
 from_none (Some ds) = refl
 
-pub items_start : (vs : List Value) → option_map (and_items doc.no_items) (items_of (items_view vs)) ≡ items_of (items_view vs)
-items_start vs = from_none (items_of (items_view vs))
+pub items_start : (vs : List Value) → option_map (and_items doc.no_items) (items_of_data (items_view vs)) ≡ items_of_data (items_view vs)
+items_start vs = from_none (items_of_data (items_view vs))
 
-pub items_more : (done : Items) (d : Document) (vs : List Value) (i : ℕ) (v : Value) (all : Option Items) → i < length vs → v ≡ get_or vs i v → document_of (view v) ≡ Some d
-    → option_map (and_items done) (items_of (items_view (drop i vs))) ≡ all → option_map (and_items (items_snoc done d)) (items_of (items_view (drop (i + 1) vs))) ≡ all
+pub items_more : (done : Items) (d : Document) (vs : List Value) (i : ℕ) (v : Value) (all : Option Items) → i < length vs → v ≡ get_or vs i v → of_data (view v) ≡ Some d
+    → option_map (and_items done) (items_of_data (items_view (drop i vs))) ≡ all → option_map (and_items (items_snoc done d)) (items_of_data (items_view (drop (i + 1) vs))) ≡ all
 items_more done d vs i v all l is e h = sym (and_all done d _) ∙ (rw (drop_more vs i v l, ← is, e) at h)
 
-pub items_none : (done : Items) (vs : List Value) (i : ℕ) (v : Value) (all : Option Items) → i < length vs → v ≡ get_or vs i v → document_of (view v) ≡ None
-    → option_map (and_items done) (items_of (items_view (drop i vs))) ≡ all → all ≡ None
+pub items_none : (done : Items) (vs : List Value) (i : ℕ) (v : Value) (all : Option Items) → i < length vs → v ≡ get_or vs i v → of_data (view v) ≡ None
+    → option_map (and_items done) (items_of_data (items_view (drop i vs))) ≡ all → all ≡ None
 items_none done vs i v all l is e h = sym (rw (drop_more vs i v l, ← is, e) at h)
 
-pub items_end : (done : Items) (vs : List Value) (i : ℕ) (all : Option Items) → length vs ≤ i → option_map (and_items done) (items_of (items_view (drop i vs))) ≡ all → all ≡ Some done
+pub items_end : (done : Items) (vs : List Value) (i : ℕ) (all : Option Items) → length vs ≤ i → option_map (and_items done) (items_of_data (items_view (drop i vs))) ≡ all → all ≡ Some done
 items_end done vs i all l h = sym (ap (λ (x : Items). Some x) (sym (and_items-none done)) ∙ (rw (drop_of_length-le vs l) at h))
 
 -- what members put into an object
@@ -51,10 +51,10 @@ put_one : (done : Members) (k : List ℕ) (d : Document) (o : Option (List (List
 put_one done k d None = refl
 put_one done k d (Some ps) = refl
 
-pub fields_more : (done : Members) (k : List ℕ) (d : Document) (e : String Global × Value) (es rest : List (String Global × Value)) (all : Option Members) → es ≡ e ∷ rest → string_bytes e.0 ≡ k → document_of (view e.1) ≡ Some d
-    → put_rest done (pairs_of (members_view es)) ≡ all → put_rest (put k d done) (pairs_of (members_view rest)) ≡ all
+pub fields_more : (done : Members) (k : List ℕ) (d : Document) (e : String Global × Value) (es rest : List (String Global × Value)) (all : Option Members) → es ≡ e ∷ rest → string_bytes e.0 ≡ k → of_data (view e.1) ≡ Some d
+    → put_rest done (pairs_of_data (members_view es)) ≡ all → put_rest (put k d done) (pairs_of_data (members_view rest)) ≡ all
 fields_more done k d e es rest all is name found h = sym (put_one done k d _) ∙ (rw (is, name, found) at h)
 
-pub fields_none : (done : Members) (e : String Global × Value) (es rest : List (String Global × Value)) (all : Option Members) → es ≡ e ∷ rest → document_of (view e.1) ≡ None
-    → put_rest done (pairs_of (members_view es)) ≡ all → all ≡ None
+pub fields_none : (done : Members) (e : String Global × Value) (es rest : List (String Global × Value)) (all : Option Members) → es ≡ e ∷ rest → of_data (view e.1) ≡ None
+    → put_rest done (pairs_of_data (members_view es)) ≡ all → all ≡ None
 fields_none done e es rest all is found h = sym (rw (is, found) at h)

@@ -1,15 +1,14 @@
-// The document of a JSON text.
-ghost use Rattle.std.specs.Prelude.{◌≡◌, IfOk, IfErr, option_map};
+// The document of a JSON value, and of a JSON text.
+ghost use Rattle.std.specs.Prelude.{◌≡◌, option_map};
 ghost use Rattle.smithy_types.specs.Documents.{members_of};
 ghost use Rattle.serde_json.specs.View.{view, items_view, members_view, number_view as json_number_view};
 ghost use Rattle.smithy_types.specs.DocumentView.{number_view, view as document_view, items_view as documents_view, members_view as fields_view};
-ghost use Rattle.smithy_document.specs.FromData.{number_of_data, of_data, items_of_data, pairs_of_data};
-ghost use Rattle.smithy_document.specs.JsonHeld.{document_of_text};
-ghost use Rattle.smithy_document.specs.JsonFaults.{Reads};
+ghost use Rattle.smithy_json.specs.FromData.{number_of_data, of_data, items_of_data, pairs_of_data};
+ghost use Rattle.smithy_json.specs.FromText.{document_of_text};
+ghost use Rattle.smithy_json.specs.Reads.{Reads};
 
-use crate::json_fault::JsonFault;
+use crate::error::JsonError;
 use serde_json::{Map, Number as JsonNumber, Value};
-use smithy_serde::SerdeError;
 use smithy_types::{Document, Documents, Members, Number, Text};
 use std::alloc::Global;
 
@@ -22,9 +21,11 @@ fn number_of(number: &JsonNumber) -> Option<Number>
     }
 }
 
-// The document that a JSON value is, which has no float in it.
+/// The document that a JSON value is. Takes memory.
+///
+/// No document where there is a float in it.
 #[cycle(document)]
-fn document_of(alloc: Global, value: &Value) -> Result<Document, JsonFault>
+pub fn document_of(alloc: Global, value: &Value) -> Result<Document, JsonError>
     ensures { Reads document_view (of_data (view value.now)) result }
 {
     match value {
@@ -32,7 +33,7 @@ fn document_of(alloc: Global, value: &Value) -> Result<Document, JsonFault>
         Value::Bool(truth) => Ok(Document::Bool(*truth)),
         Value::Number(number) => match number_of(number) {
             Some(number) => Ok(Document::Number(number)),
-            None => Err(JsonFault::NoDocument),
+            None => Err(JsonError::NoDocument),
         },
         Value::String(text) => Ok(Document::String(Text::from_str(alloc, text.as_str())?)),
         Value::Array(items) => Ok(Document::Array(documents_of(alloc, items)?)),
@@ -41,7 +42,7 @@ fn document_of(alloc: Global, value: &Value) -> Result<Document, JsonFault>
 }
 
 #[cycle(document)]
-fn documents_of(alloc: Global, items: &Vec<Value>) -> Result<Documents, JsonFault>
+fn documents_of(alloc: Global, items: &Vec<Value>) -> Result<Documents, JsonError>
     ensures { Reads documents_view (items_of_data (items_view items.now.items)) result }
 {
     let mut found = Documents::new(alloc);
@@ -52,7 +53,7 @@ fn documents_of(alloc: Global, items: &Vec<Value>) -> Result<Documents, JsonFaul
 }
 
 #[cycle(document)]
-fn fields_of(alloc: Global, members: &Map<String, Value>) -> Result<Members, JsonFault>
+fn fields_of(alloc: Global, members: &Map<String, Value>) -> Result<Members, JsonError>
     ensures { Reads fields_view
         (option_map members_of (pairs_of_data (members_view members.now.entries))) result }
 {
@@ -65,28 +66,19 @@ fn fields_of(alloc: Global, members: &Map<String, Value>) -> Result<Members, Jso
     Ok(found)
 }
 
-/// The document of a JSON text (RFC 8259) in UTF-8, none where it is no JSON or has a float in it. Takes memory.
-pub(crate) fn read_document(alloc: Global, text: &[u8]) -> Result<Option<Document>, SerdeError>
-    ensures document { IfOk result (λ o. option_map document_view o ≡ document_of_text text.now) }
-    ensures memory { IfErr result (λ e. e ≡ SerdeError.OutOfMemory) }
-{
-    match read_value(alloc, text) {
-        Ok(document) => Ok(Some(document)),
-        Err(JsonFault::NoDocument) => Ok(None),
-        Err(JsonFault::OutOfMemory) => Err(SerdeError::OutOfMemory),
-    }
-}
-
-fn read_value(alloc: Global, text: &[u8]) -> Result<Document, JsonFault>
+/// The document of a JSON text (RFC 8259). Takes memory.
+///
+/// No document where it is no JSON text in UTF-8, or has a float in it.
+pub fn read_document(alloc: Global, text: &[u8]) -> Result<Document, JsonError>
     ensures { Reads document_view (document_of_text text.now) result }
 {
     match Value::from_slice(alloc, text) {
         Ok(value) => document_of(alloc, &value),
         Err(error) => {
             if error.is_memory() {
-                Err(JsonFault::OutOfMemory)
+                Err(JsonError::OutOfMemory)
             } else {
-                Err(JsonFault::NoDocument)
+                Err(JsonError::NoDocument)
             }
         }
     }

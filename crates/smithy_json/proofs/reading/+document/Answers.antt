@@ -1,6 +1,6 @@
 use Rattle.smithy_types.specs.DocumentView.{view as document_view, items_view as documents_view}
-use Rattle.smithy_model.proofs.DocumentLemmas.{items_more, items_end}
-use Rattle.smithy_model.proofs.document.+document.Goals as goal
+use Rattle.smithy_json.proofs.DocumentLemmas.{items_more, items_end}
+use Rattle.smithy_json.proofs.reading.+document.Goals as goal
 
 pub documents_of-loop-item-preserved : goal.documents_of-loop-item-preserved
 documents_of-loop-item-preserved t c =

@@ -1,8 +1,8 @@
 use Rattle.std.proofs.Common.{sym, subst}
 use Rattle.smithy_types.specs.DocumentView.{view}
-use Rattle.smithy_document.specs.JsonFaults.{Reads}
-use Rattle.smithy_document.proofs.TextDocuments.{text_document, no_document}
-use Rattle.smithy_document.proofs.json_reading.read_value.Goals as goal
+use Rattle.smithy_json.specs.Reads.{Reads}
+use Rattle.smithy_json.proofs.TextDocuments.{text_document, no_document}
+use Rattle.smithy_json.proofs.reading.read_document.Goals as goal
 
 pub returns-in-Ok : goal.returns-in-Ok
 returns-in-Ok c = subst (λ o. Reads view o c.document_of.result) (sym (text_document _ _ c.in-Ok.ensures.ok.0 c.in-Ok.ensures.ok.1)) c.document_of.ensures

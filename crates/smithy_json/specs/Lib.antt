@@ -1,0 +1,3 @@
+pub mod FromData
+pub mod FromText
+pub mod Reads
