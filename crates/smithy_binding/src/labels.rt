@@ -18,11 +18,11 @@ pub struct Label<'t, 'w> {
 // So many labels are searched through where they stand: that costs less than a map.
 const FEW_LABELS: usize = 8;
 
-/// The texts of labels by their names: few labels as they stand, or a map of many.
+/// The texts of labels by their names: the labels, and where there are many a map of their texts.
 #[derive(Drop)]
-pub enum LabelTexts<'l> {
-    Few(&'l [Label<'l, 'l>]),
-    Many(BTreeMap<&'l str, &'l str>),
+pub struct LabelTexts<'l> {
+    pub labels: &'l [Label<'l, 'l>],
+    pub texts: Option<BTreeMap<&'l str, &'l str>>,
 }
 
 // The texts in a map, where of each name the first label's text stays.
@@ -48,12 +48,14 @@ pub fn texts_by_name<'l>(
     alloc: Global,
     labels: &'l [Label<'l, 'l>],
 ) -> Result<LabelTexts<'l>, AllocError>
-    ensures { IfOk result (λ m. text_under m ≡ (λ name. found name (map label_pair labels.now))) }
+    ensures { IfOk result (λ t. text_under t ≡ (λ name. found name (map label_pair labels.now))) }
 {
-    if labels.len() <= FEW_LABELS {
-        return Ok(LabelTexts::Few(labels));
-    }
-    Ok(LabelTexts::Many(texts_in_map(alloc, labels)?))
+    let texts = if labels.len() > FEW_LABELS {
+        Some(texts_in_map(alloc, labels)?)
+    } else {
+        None
+    };
+    Ok(LabelTexts { labels, texts })
 }
 
 // The text of the first label of a name.
@@ -73,8 +75,8 @@ fn first_text<'l>(labels: &'l [Label<'l, 'l>], name: &str) -> Option<&'l str>
 pub fn text_of_label<'l>(texts: &LabelTexts<'l>, name: &'l str) -> Option<&'l str>
     ensures { option_map (λ t. t.now) result ≡ text_under texts.now name.now }
 {
-    match texts {
-        LabelTexts::Few(labels) => first_text(*labels, name),
-        LabelTexts::Many(texts) => texts.get(&name).copied(),
+    match &texts.texts {
+        Some(texts) => texts.get(&name).copied(),
+        None => first_text(texts.labels, name),
     }
 }

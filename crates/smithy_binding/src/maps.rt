@@ -23,6 +23,7 @@ use smithy_schema::{SchemaRef, Schemas};
 use smithy_serde::{SerdeError, ShapeValue, WriteList};
 use smithy_types::OutOfMemory;
 use std::alloc::{AllocError, Global};
+use std::borrow::CowStr;
 use std::collections::BTreeMap;
 
 // The names of query members, each with the position of a member that has it.
@@ -170,7 +171,13 @@ fn put_entry(
     let mut name = String::with_capacity(alloc, prefix.len() + key.len())?;
     name.push_str(prefix)?;
     name.push_str(key)?;
-    put_header(alloc, member, headers, name.as_str(), value)
+    put_header(
+        alloc,
+        member,
+        headers,
+        name.as_str(),
+        CowStr::Borrowed(value),
+    )
 }
 
 /// Puts a header of each entry, named by the prefix and the key, in place of an earlier one with its name (Smithy, HTTP

@@ -1,5 +1,6 @@
 // A header of a member (Smithy, HTTP protocol bindings, httpHeader and httpPrefixHeaders).
 ghost use Rattle.std.specs.Prelude.{◌≡◌, ◌∷◌, [], IfOk, IfErr, OnOk, None};
+ghost use Rattle.std.specs.Cow.{cow_str_bytes};
 ghost use Rattle.std.specs.Str.{str_to_ascii_lowercase};
 ghost use Rattle.smithy_schema.specs.References.{schema_of};
 ghost use Rattle.smithy_http.specs.Headers.{put_all};
@@ -11,24 +12,25 @@ use smithy_http::{Headers, HttpError};
 use smithy_schema::SchemaRef;
 use smithy_serde::SerdeError;
 use std::alloc::Global;
+use std::borrow::CowStr;
 
-/// Puts a header of the member, in place of an earlier one with its name. `InvalidInput` where the name is no token, or
+/// Puts a header of the member, in place of an earlier one with its name; an owned text is given over. `InvalidInput` where the name is no token, or
 /// else the value has a byte that no header value has (RFC 7230, section 3.2). Takes memory.
 pub fn put_header(
     alloc: Global,
     member: SchemaRef<'_>,
     headers: &mut Headers,
     name: &str,
-    text: &str,
+    text: CowStr<'_, Global>,
 ) -> Result<(), SerdeError>
     ensures ok { IfOk result (λ _. pairs_fault (schema_of member.entry)
-        ((str_to_ascii_lowercase name.now, text.now) ∷ []) ≡ None) }
+        ((str_to_ascii_lowercase name.now, cow_str_bytes text.entry) ∷ []) ≡ None) }
     ensures put { OnOk result
-        (headers.new ≡ put_all headers.old ((str_to_ascii_lowercase name.now, text.now) ∷ [])) }
-    ensures err { IfErr result
-        (IsTold (pairs_fault (schema_of member.entry) ((str_to_ascii_lowercase name.now, text.now) ∷ []))) }
+        (headers.new ≡ put_all headers.old ((str_to_ascii_lowercase name.now, cow_str_bytes text.entry) ∷ [])) }
+    ensures err { IfErr result (IsTold (pairs_fault (schema_of member.entry)
+        ((str_to_ascii_lowercase name.now, cow_str_bytes text.entry) ∷ []))) }
 {
-    match headers.try_insert(name, text) {
+    match headers.insert_text(name, text) {
         Ok(()) => Ok(()),
         Err(HttpError::Name) => Err(wrong_header(alloc, member, "invalid header name")),
         Err(HttpError::Value) => Err(wrong_header(alloc, member, "invalid header value")),

@@ -108,7 +108,7 @@ fn defined_members<'t>(
         (λ v. (has_defined_members (schema_of schema.entry) ≡ true)
         × (shown v.items ≡ members_of (schema_of schema.entry)))) }
 {
-    let mut members = Vec::new(alloc);
+    let mut members = Vec::with_capacity(alloc, schema.members().len())?;
     for position in 0..schema.members().len() {
         let Some(member) = schema.member_schema_by_index(position) else {
             return Ok(None);

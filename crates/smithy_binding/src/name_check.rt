@@ -2,7 +2,7 @@
 ghost use Rattle.std.specs.Prelude.{◌≡◌, nat_eq, IfOk, map, option_map, string_bytes};
 ghost use Rattle.std.specs.List.{list_all, list_any, starts_with};
 ghost use Rattle.smithy_types.specs.Grammars.{is_token as token};
-ghost use Rattle.smithy_types.specs.Texts.{are_distinct as distinct};
+ghost use Rattle.smithy_types.specs.Texts.{are_distinct as distinct, is_one_of};
 ghost use Rattle.smithy_schema.specs.References.{schema_of};
 ghost use Rattle.smithy_binding.specs.declared.name_check.NameKind.TheVariants as names;
 ghost use Rattle.smithy_binding.specs.Checking.{shown, name_under as name_of_kind, names_under, texts_shown, lower_names as lowered, is_sound_prefix_of as sound_prefix, have_sound_headers as sound_headers, have_sound_names as sound_names};
@@ -46,7 +46,7 @@ pub fn names_of<'t>(
 ) -> Result<Vec<&'t str>, AllocError>
     ensures { IfOk result (λ v. texts_shown v.items ≡ names_under kind (shown members.now)) }
 {
-    let mut names = Vec::new(alloc);
+    let mut names = Vec::with_capacity(alloc, members.len())?;
     for member in members {
         if let Some(name) = name_under(*member, kind) {
             names.push(name)?;
@@ -55,10 +55,34 @@ pub fn names_of<'t>(
     Ok(names)
 }
 
+// So many names are compared with each other: that costs less than a map.
+const FEW_NAMES: usize = 16;
+
+fn is_among(name: &str, names: &[&str]) -> bool
+    ensures { result ≡ is_one_of name.now (texts_shown names.now) }
+{
+    names.iter().any(|other| name == *other)
+}
+
+// Whether no two of the names are the same, each compared with those behind it.
+fn are_few_distinct(names: &[&str]) -> bool
+    ensures { result ≡ distinct (texts_shown names.now) }
+{
+    for (place, name) in names.iter().enumerate() {
+        if is_among(*name, &names[place + 1..]) {
+            return false;
+        }
+    }
+    true
+}
+
 /// Whether no two of the names are the same. Takes memory.
 pub fn are_distinct<'t>(alloc: Global, names: &[&'t str]) -> Result<bool, AllocError>
     ensures { IfOk result (λ b. b ≡ distinct (texts_shown names.now)) }
 {
+    if names.len() <= FEW_NAMES {
+        return Ok(are_few_distinct(names));
+    }
     let mut later = BTreeMap::new(alloc);
     let mut i = names.len();
     while i > 0 {
@@ -76,7 +100,7 @@ pub fn are_distinct<'t>(alloc: Global, names: &[&'t str]) -> Result<bool, AllocE
 fn lower_names(alloc: Global, names: &[&str]) -> Result<Vec<String>, AllocError>
     ensures { IfOk result (λ v. map string_bytes v.items ≡ lowered (texts_shown names.now)) }
 {
-    let mut lower = Vec::new(alloc);
+    let mut lower = Vec::with_capacity(alloc, names.len())?;
     for name in names {
         lower.push(name.to_ascii_lowercase(alloc)?)?;
     }
@@ -86,7 +110,7 @@ fn lower_names(alloc: Global, names: &[&str]) -> Result<Vec<String>, AllocError>
 fn as_texts<'s>(alloc: Global, names: &'s [String]) -> Result<Vec<&'s str>, AllocError>
     ensures { IfOk result (λ v. texts_shown v.items ≡ map string_bytes names.now) }
 {
-    let mut texts = Vec::new(alloc);
+    let mut texts = Vec::with_capacity(alloc, names.len())?;
     for name in names {
         texts.push(name.as_str())?;
     }

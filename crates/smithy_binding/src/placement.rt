@@ -35,6 +35,7 @@ use smithy_schema::{Binding, SchemaIndex, SchemaRef, Schemas};
 use smithy_serde::{SerdeError, ShapeValue, WriteList};
 use smithy_types::OutOfMemory;
 use std::alloc::{AllocError, Global};
+use std::borrow::CowStr;
 
 /// What the writes so far have put into a request.
 #[derive(Drop)]
@@ -101,7 +102,7 @@ fn add_single<'t, 'w>(
 {
     let text = text_of(alloc, member, place_of(binding), value)?;
     match binding {
-        Binding::Header(name) => put_header(alloc, member, &mut parts.headers, name, text.as_str()),
+        Binding::Header(name) => put_header(alloc, member, &mut parts.headers, name, text),
         Binding::Query(name) => {
             push_pair(&mut parts.query, name, text.as_str())?;
             Ok(())
@@ -135,7 +136,13 @@ fn put_list(
         (IsTold (first_fault (schema_of member.entry) (list (writes_in table.now elements.now)))) }
 {
     let text = listed_text(alloc, table, element_kind(member), elements)?;
-    put_header(alloc, member, headers, name, text.as_str())
+    put_header(
+        alloc,
+        member,
+        headers,
+        name,
+        CowStr::Owned(text.into_string()),
+    )
 }
 
 // Puts the first write of a list.

@@ -48,6 +48,7 @@ impl<D: ShapeDeserializer> ShapeDeserializer for CompositeReader<D> {
 
     ghost at_hand = { seen D.at_hand };
 
+    #[inline(always)]
     fn read(
         &mut self,
         alloc: Global,
@@ -98,6 +99,7 @@ impl<D: ShapeDeserializer> ShapeDeserializer for CompositeReader<D> {
         }
     }
 
+    #[inline(always)]
     fn next_member<'s>(
         &mut self,
         alloc: Global,
@@ -181,6 +183,7 @@ impl<D: ShapeDeserializer> ShapeDeserializer for CompositeReader<D> {
         }
     }
 
+    #[inline(always)]
     fn is_null(&self) -> bool
         ensures told { TellsNull (seen D.at_hand self.now) result }
         ensures body { TellsBodyNull (stands D.at_hand self.now) result }
@@ -279,6 +282,7 @@ impl<D: ShapeDeserializer> CompositeReader<D> {
     }
 
     // The next field of the body that is no copy of a bound member.
+    #[inline(always)]
     fn next_field<'s>(
         &mut self,
         alloc: Global,

@@ -1,0 +1,12 @@
+use Rattle.std.proofs.Common.{rules, ◌≡◌, true, false}
+use Rattle.std.proofs.lemmas.Iterator.{cases_from_any, YieldsList-from_slice}
+use Rattle.smithy_types.specs.Texts.{same_text}
+use Rattle.smithy_binding.proofs.Walks.{any_item}
+use Rattle.smithy_binding.proofs.name_check.is_among.Goals as goal
+use borrow.Author.Tests.{tests}
+
+pub returns : goal.returns
+returns c =
+    let name = c.args.name.now in
+    any_item (same_text name) (λ n. n.now) c.args.names.now _
+    (cases_from_any _ _ _ (λ x. same_text name x.now ≡ true) (λ x. same_text name x.now ≡ false) c.any.ensures.ran (YieldsList-from_slice c.args.names.now cc) (λ x q k. search (rules, tests)) (λ x q k. search (rules, tests)))
