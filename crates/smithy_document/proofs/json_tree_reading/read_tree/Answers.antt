@@ -2,7 +2,7 @@ use Rattle.std.proofs.Common.{◌≡◌, Some, option_map, sym, ap, ◌∙◌}
 use Rattle.smithy_types.specs.DocumentView.{view}
 use Rattle.smithy_document.specs.JsonHeld.{document_of_text}
 use Rattle.smithy_document.specs.JsonTree.{tree_view}
-use Rattle.smithy_document.proofs.OrderedData.{text_is_read}
+use Rattle.smithy_document.proofs.ReadData.{text_is_read}
 use Rattle.smithy_document.proofs.json_tree_reading.read_tree.Goals as goal
 
 pub returns-in-Ok-clause-read : goal.returns-in-Ok-clause-read
