@@ -6,7 +6,7 @@ use Rattle.std.specs.Option.{ok_or}
 use Rattle.smithy_types.specs.Results.{then_give}
 use Rattle.smithy_types.specs.Documents as doc
 use Rattle.smithy_types.specs.Documents.{Document, Number, string_in, number_in}
-use Rattle.smithy_serde.specs.DocumentReads.{whole_text, is_negative, big_integer_of_text, big_decimal_of_text, truncated, scalar_of_document, number_text, mismatch}
+use Rattle.smithy_serde.specs.DocumentReads.{whole_text, is_negative, big_integer_of_text, big_decimal_of_text, truncated, scalar_of_document, mismatch}
 use Rattle.smithy_serde.specs.declared.error.SerdeError.{SerdeError}
 use Rattle.smithy_serde.specs.declared.error.SerdeError.TheVariants.{OutOfMemory}
 use Rattle.smithy_serde.specs.ReadCalls.{Gives}
@@ -60,30 +60,16 @@ part_too_large text e range is refusal =
 
 -- ---- a document, as what it is
 
-pub integer_of_string : (d : Document) (t : List ℕ) (r : Result (List ℕ) SerdeError) → Some t ≡ string_in d → Gives {A = List ℕ} big_integer (Some (big_integer_of_text t)) r → Gives {A = List ℕ} big_integer (Some (scalar_of_document kind.BigInteger d)) r
-integer_of_string (doc.string s) t r is given = let same : t ≡ s = cc is in subst (λ x. Gives {A = List ℕ} big_integer (Some (big_integer_of_text x)) r) same given
-integer_of_string _ t r is given = absurd (cc is)
+pub is_string : (d : Document) (t : List ℕ) → Some t ≡ string_in d → doc.string t ≡ d
+is_string (doc.string s) t is = ap doc.string (cc is)
+is_string _ t is = absurd (cc is)
 
-pub integer_of_number : (d : Document) (n : Number) (r : Result (List ℕ) SerdeError) → Some n ≡ number_in d → Gives {A = List ℕ} big_integer (Some (Ok (big_integer (number_text n)))) r → Gives {A = List ℕ} big_integer (Some (scalar_of_document kind.BigInteger d)) r
-integer_of_number (doc.number m) n r is given = let same : n ≡ m = cc is in subst (λ x. Gives {A = List ℕ} big_integer (Some (Ok (big_integer (number_text x)))) r) same given
-integer_of_number _ n r is given = absurd (cc is)
+pub is_number : (d : Document) (n : Number) → Some n ≡ number_in d → doc.number n ≡ d
+is_number (doc.number m) n is = ap doc.number (cc is)
+is_number _ n is = absurd (cc is)
 
-pub integer_of_none : (d : Document) (e : SerdeError) → string_in d ≡ None → None ≡ number_in d → IsRefusal (mismatch kind.BigInteger d) e → Gives {A = List ℕ} big_integer (Some (scalar_of_document kind.BigInteger d)) (Err e)
-integer_of_none (doc.string s) e no_text no_number refusal = absurd (cc no_text)
-integer_of_none (doc.number n) e no_text no_number refusal = absurd (cc no_number)
-integer_of_none _ e no_text no_number refusal = refusal
-
--- ---- a document, as what it is
-
-pub decimal_of_string : (d : Document) (t : List ℕ) (r : Result (List ℕ) SerdeError) → Some t ≡ string_in d → Gives {A = List ℕ} big_decimal (Some (big_decimal_of_text t)) r → Gives {A = List ℕ} big_decimal (Some (scalar_of_document kind.BigDecimal d)) r
-decimal_of_string (doc.string s) t r is given = let same : t ≡ s = cc is in subst (λ x. Gives {A = List ℕ} big_decimal (Some (big_decimal_of_text x)) r) same given
-decimal_of_string _ t r is given = absurd (cc is)
-
-pub decimal_of_number : (d : Document) (n : Number) (r : Result (List ℕ) SerdeError) → Some n ≡ number_in d → Gives {A = List ℕ} big_decimal (Some (Ok (big_decimal (number_text n)))) r → Gives {A = List ℕ} big_decimal (Some (scalar_of_document kind.BigDecimal d)) r
-decimal_of_number (doc.number m) n r is given = let same : n ≡ m = cc is in subst (λ x. Gives {A = List ℕ} big_decimal (Some (Ok (big_decimal (number_text x)))) r) same given
-decimal_of_number _ n r is given = absurd (cc is)
-
-pub decimal_of_none : (d : Document) (e : SerdeError) → string_in d ≡ None → None ≡ number_in d → IsRefusal (mismatch kind.BigDecimal d) e → Gives {A = List ℕ} big_decimal (Some (scalar_of_document kind.BigDecimal d)) (Err e)
-decimal_of_none (doc.string s) e no_text no_number refusal = absurd (cc no_text)
-decimal_of_none (doc.number n) e no_text no_number refusal = absurd (cc no_number)
-decimal_of_none _ e no_text no_number refusal = refusal
+pub is_neither : (d : Document) → string_in d ≡ None → None ≡ number_in d
+    → (scalar_of_document kind.BigInteger d ≡ Err (mismatch kind.BigInteger d)) × (scalar_of_document kind.BigDecimal d ≡ Err (mismatch kind.BigDecimal d))
+is_neither (doc.string s) no_text no_number = absurd (cc no_text)
+is_neither (doc.number n) no_text no_number = absurd (cc no_number)
+is_neither _ no_text no_number = (refl, refl)

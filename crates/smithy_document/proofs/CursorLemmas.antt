@@ -1,7 +1,8 @@
 -- How a cursor moves, as a reader is seen.
-use Rattle.std.proofs.Common.{◌≡◌, ℕ, ◌+◌, ◌-◌, ◌==◌, ◌<◌, Bool, true, false, List, [], ◌∷◌, ◌++◌, map, length, slice_get, Option, Some, None, option_map, Ok, Err, inl, inr, refl, sym, ap, ◌∙◌, subst, arith, ne_eqb}
-use Rattle.std.specs.Prelude.{flat_map, if◌then◌else◌, IfSome}
+use Rattle.std.proofs.Common.{◌≡◌, ℕ, ◌+◌, ◌-◌, ◌<◌, Bool, true, false, List, [], ◌∷◌, ◌++◌, map, length, slice_get, Option, Some, None, option_map, Ok, Err, inl, inr, refl, sym, ap, ◌∙◌, subst, arith}
+use Rattle.std.specs.Prelude.{flat_map, IfSome}
 use Rattle.std.specs.Option.{option_map_or, unwrap_or}
+use Rattle.std.proofs.lemmas.List.Sums.{fold_push}
 use Rattle.smithy_types.specs.Documents as doc
 use Rattle.smithy_types.specs.Documents.{Document, list_of_items, nesting}
 use Rattle.smithy_schema.specs.Nodes.{Schema}
@@ -23,7 +24,8 @@ use Rattle.smithy_document.specs.CursorView.{place_list, document_in, name_in, o
 use Rattle.smithy_document.specs.OpenDocuments as walk
 use Rattle.smithy_document.specs.OpenDocuments.{Part, nameless, parts_of, opens_as, kind_of_group, handed_out, told_out, frame_of, reading}
 use Rattle.smithy_document.specs.Paths.{Names, name_at, part_in, rest_in, step_in, at_path, opened_at, opened_along, last_name}
-use Rattle.smithy_document.proofs.PathLemmas.{path_last, along_last, rest_first, rest_none, part_within, last_place}
+use Rattle.smithy_document.proofs.PathLemmas.{rest_first, rest_none, part_within, last_place}
+use Rattle.smithy_document.proofs.WayLemmas.{opened_last, last_is}
 
 -- ---- opening
 
@@ -68,7 +70,7 @@ is_opened tells g node root old new names opens all pushed =
     let d = document_in root old in
     let whole : opened_at d p ≡ record { form = g; container = d; rest = parts_of d } = ap (λ rest. record { form = g; container = d; rest = rest }) all in
     opened_here tells g node d (document_in root new) (opened_in root old) (opened_in root new) opens
-    (ap (opened_along root) pushed ∙ along_last root (place_list old) p ∙ ap (λ x. x ∷ opened_along root (place_list old)) whole)
+    (ap (opened_along root) pushed ∙ opened_last step_in opened_at root (place_list old) p ∙ ap (λ x. x ∷ opened_along root (place_list old)) whole)
 
 refused_listing : (g : Group) (node : Schema) (d : Document) (e : SerdeError) → opens_as g d ≡ false → e ≡ mismatch (kind_of_group g) d → IsRefusedAt (contents g node (held.document d)) e
 unfolding elements entries fields
@@ -101,10 +103,8 @@ starved tells g node root old new e same memory = record { opened = ap (λ ps. m
 -- ---- a part
 
 last_of : (d : Document) (p : Place) (part : Document) → part_in d p.names p.next ≡ Some part → step_in d (record p { next = p.next + 1 }) ≡ part
-last_of d p part h = go (p.next + 1 == 0) (ne_eqb (p.next + 1) 0 (λ e. omega arith)) (p.next + 1 - 1) (omega arith)
-  where
-    go : (b : Bool) → b ≡ false → (i : ℕ) → i ≡ p.next → (if b then d else unwrap_or (part_in d p.names i) d) ≡ part
-    go b first i same = rw (first, same, h) refl
+last_of d p part h =
+    last_is (part_in d p.names) (p.next + 1) d (omega arith) ∙ ap (λ i. unwrap_or (part_in d p.names i) d) (let same : p.next + 1 - 1 ≡ p.next = omega arith in same) ∙ ap (λ o. unwrap_or o d) h
 
 pub steps : (root : Document) (ps : List Place) (p : Place) (part : Document) → part_in (at_path root ps) p.names p.next ≡ Some part
     → StepsTo (name_at p.names p.next) (opened_along root (ps ++ p ∷ [])) (at_path root (ps ++ record p { next = p.next + 1 } ∷ [])) (opened_along root (ps ++ record p { next = p.next + 1 } ∷ []))
@@ -112,13 +112,13 @@ steps root ps p part h =
     let q : Place = record p { next = p.next + 1 } in
     let d = at_path root ps in
     let more : List Part = rest_in d p.names (p.next + 1) in
-    let comes : at_path root (ps ++ q ∷ []) ≡ part = path_last root ps q ∙ last_of d p part h in
+    let comes : at_path root (ps ++ q ∷ []) ≡ part = fold_push step_in root ps q ∙ last_of d p part h in
     record {
       top = opened_at d p;
       below = opened_along root ps;
       more = more;
-      was = along_last root ps p;
-      now_is = along_last root ps q;
+      was = opened_last step_in opened_at root ps p;
+      now_is = opened_last step_in opened_at root ps q;
       part = rest_first d p.names p.next part h ∙ ap (λ x. (name_at p.names p.next, x) ∷ more) (sym comes);
       within = subst (λ x. nesting x < nesting d) (sym comes) (part_within d p.names p.next part h);
     }
@@ -126,7 +126,7 @@ steps root ps p part h =
 pub closes : (root : Document) (ps : List Place) (p : Place) → part_in (at_path root ps) p.names p.next ≡ None
     → ClosesAt (opened_along root (ps ++ p ∷ [])) (at_path root ps) (opened_along root ps)
 closes root ps p h =
-    record { top = opened_at (at_path root ps) p; was = along_last root ps p; none_left = rest_none (at_path root ps) p.names p.next h; again = refl }
+    record { top = opened_at (at_path root ps) p; was = opened_last step_in opened_at root ps p; none_left = rest_none (at_path root ps) p.names p.next h; again = refl }
 
 -- a place behind a part
 pub record Stepping (n next : ℕ) (o : Option Document) : Type 0 where

@@ -132,6 +132,9 @@ pub field_last : (t0 t2 : Texts) (fs all : List (ℕ × Node)) (f : ℕ × Node)
 field_last t0 t2 fs all f ps p is grows before last more =
     ap (map (field_view (t2 ++ more))) is ∙ one_stays field_view t0 t2 fs f ps p before grows last more
 
+pub field_seen : (texts : Texts) (f : ℕ × Node) (k : List ℕ) (d : Document) → StaysIn (λ ts. text_at ts f.0) texts k → StaysIn (λ ts. node_view ts f.1) texts d → StaysIn (λ ts. field_view ts f) texts (k, d)
+field_seen texts f k d name value more = ap₂ (λ l e. (l, e)) (name more) (value more)
+
 pub grows_by : (t0 t1 t2 : Texts) (name : List ℕ) → t1 ≡ t0 ++ name ∷ [] → Grows t1 t2 → Grows t0 t2
 grows_by t0 t1 t2 name is grows = grows_on t0 t1 t2 (name ∷ [], is) grows
 
@@ -236,9 +239,13 @@ last_value (p ∷ ps) k x more h =
 pub take_next : {X : Type 0} (xs : List X) (i : ℕ) (x : X) → i < length xs → x ≡ get_or xs i x → take (i + 1) xs ≡ take i xs ++ x ∷ []
 take_next xs i x within is = take_more xs i x within ∙ ap (λ z. take i xs ++ z ∷ []) (sym is)
 
+-- the members before a place, as pairs
+abbrev pub AreReadAs : List Member → ℕ → Pairs Document → Type 0
+AreReadAs ms i ps = pairs_of_json (members_view (take i ms)) ≡ Some ps
+
 -- one more member
-pub member_read : (ms : List Member) (i : ℕ) (m : Member) (ps : Pairs Document) (d : Document) → i < length ms → m ≡ get_or ms i m → pairs_of_json (members_view (take i ms)) ≡ Some ps
-    → document_of_json (value_view m.1) ≡ Some d → pairs_of_json (members_view (take (i + 1) ms)) ≡ Some (with_value m.0.now d ps)
+pub member_read : (ms : List Member) (i : ℕ) (m : Member) (ps : Pairs Document) (d : Document) → i < length ms → m ≡ get_or ms i m → AreReadAs ms i ps → document_of_json (value_view m.1) ≡ Some d
+    → AreReadAs ms (i + 1) (with_value m.0.now d ps)
 member_read ms i m ps d within is before found = ap (λ xs. pairs_of_json (members_view xs)) (take_next ms i m within is) ∙ pair_found (take i ms) m ps d before found
 
 names_left : (ms : List Member) (i : ℕ) (m : Member) → i < length ms → m ≡ get_or ms i m → keys_of (map named (drop i ms)) ≡ m.0.now ∷ keys_of (map named (drop (i + 1) ms))
@@ -262,7 +269,7 @@ pub all_up : (ms : List Member) (i : ℕ) (ps : Pairs Document) → length ms �
 all_up ms i ps past ordered names =
     up_ordered ps (subst (IsStrictlySortedBy (slice_cmp nat_cmp)) (sym names ∙ ap (λ xs. keys_of ps ++ keys_of (map named xs)) (drop_of_length-le ms past) ∙ append-nil (keys_of ps)) ordered)
 
-pub all_read : (ms : List Member) (i : ℕ) (ps : Pairs Document) → length ms ≤ i → pairs_of_json (members_view (take i ms)) ≡ Some ps → Ascends ps → members_of_json (members_view ms) ≡ Some (members_from ps)
+pub all_read : (ms : List Member) (i : ℕ) (ps : Pairs Document) → length ms ≤ i → AreReadAs ms i ps → Ascends ps → members_of_json (members_view ms) ≡ Some (members_from ps)
 all_read ms i ps past read up = members_found (members_view ms) ps (ap (λ xs. pairs_of_json (members_view xs)) (sym (take_all i ms past)) ∙ read) up
 
 -- ---- the text

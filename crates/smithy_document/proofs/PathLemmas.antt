@@ -1,6 +1,6 @@
 -- Paths, a place at a time.
-use Rattle.std.proofs.Common.{◌≡◌, ℕ, suc, zero, ◌+◌, ◌<◌, ◌≤◌, max, List, [], ◌∷◌, ◌++◌, length, drop, get_or, slice_get, Bool, cond, Option, Some, None, IsTrue, true, false, ◌-◌, ◌==◌, ◌&&◌, ◌⊎◌, inl, inr, Less, nat_cmp, eq-eqb, refl, sym, ap, ◌∙◌, subst, arith}
-use Rattle.std.specs.Prelude.{if◌then◌else◌}
+use Rattle.std.proofs.Common.{◌≡◌, ℕ, suc, zero, ◌+◌, ◌<◌, ◌≤◌, List, [], ◌∷◌, ◌++◌, length, drop, get_or, slice_get, Option, Some, None, true, false, ◌-◌, ◌&&◌, ◌⊎◌, inl, inr, Less, nat_cmp, eq-eqb, refl, sym, ap, ◌∙◌, subst, arith}
+use Rattle.std.specs.Prelude.{IfSome}
 use Rattle.std.specs.Option.{option_map_or, option_and_then, unwrap_or}
 use Rattle.std.specs.Ordering.{ordering_reverse, is_eq}
 use Rattle.std.specs.Cmp.Lexicographic.{slice_cmp}
@@ -8,34 +8,20 @@ use Rattle.std.specs.Global.{Vec}
 use Rattle.std.specs.List.{AllByRecursion}
 use Rattle.std.specs.List.Sorted.{IsStrictlySortedBy}
 use Rattle.std.specs.Map.{keys_of, lookup}
-use Rattle.std.proofs.lemmas.Bool.{and_parts}
 use Rattle.std.proofs.lemmas.Cmp.{nat_list_cmp_total}
 use Rattle.std.proofs.lemmas.List.{drop_more, length-append}
 use Rattle.std.proofs.lemmas.Map.Text.{is_eq-slice_cmp}
 use Rattle.std.proofs.lemmas.Option.{slice_get_within, get_or_from_slice_get, slice_get_cases, slice_get_past}
 use Rattle.std.proofs.Math.ListN.{drop_of_length-le}
 use Rattle.smithy_types.specs.Documents as doc
-use Rattle.smithy_types.specs.Documents.{Document, nesting, items_nesting, members_nesting, list_of_items, list_of_members, object_in}
+use Rattle.smithy_types.specs.Documents.{Document, nesting, list_of_items, list_of_members, object_in}
 use Rattle.smithy_types.specs.Maps.{IsOrdered}
 use Rattle.smithy_types.specs.Texts.{same_text}
-use Rattle.smithy_serde.specs.Lawful.{is_canonical, are_items_canonical, are_members_canonical}
 use Rattle.smithy_document.specs.declared.place.Place.{Place}
 use Rattle.smithy_document.specs.OpenDocuments.{Part, nameless, parts_of}
-use Rattle.smithy_document.specs.Paths.{Names, name_at, part_in, named, rest_in, step_in, at_path, opened_at, opened_along}
-
-pub path_last : (d : Document) (ps : List Place) (p : Place) → at_path d (ps ++ p ∷ []) ≡ step_in (at_path d ps) p
-path_last d [] p = refl
-path_last d (q ∷ ps) p = path_last (step_in d q) ps p
-
-pub along_last : (d : Document) (ps : List Place) (p : Place) → opened_along d (ps ++ p ∷ []) ≡ opened_at (at_path d ps) p ∷ opened_along d ps
-along_last d [] p = refl
-along_last d (q ∷ ps) p = ap (λ os. os ++ opened_at d q ∷ []) (along_last (step_in d q) ps p)
-
-pub path_more : (d : Document) (ps : List Place) (i : ℕ) (p : Place) → i < length ps → p ≡ get_or ps i p → at_path d (drop i ps) ≡ at_path (step_in d p) (drop (i + 1) ps)
-path_more d ps i p l is = ap (at_path d) (drop_more ps i p l ∙ ap (λ q. q ∷ drop (i + 1) ps) (sym is))
-
-pub path_end : (d : Document) (ps : List Place) (i : ℕ) → length ps ≤ i → at_path d (drop i ps) ≡ d
-path_end d ps i l = ap (at_path d) (drop_of_length-le ps l)
+use Rattle.smithy_document.specs.Paths.{Names, name_at, part_in, named, rest_in, step_in, at_path}
+use Rattle.smithy_document.proofs.PartLemmas.{IsCanonical, at_name, parts_nested, parts_canonical}
+use Rattle.smithy_document.proofs.WayLemmas.{end_keeps, last_keeps}
 
 -- ---- the part at a place
 
@@ -53,64 +39,14 @@ drop_none {X} xs i h = go (slice_get_cases xs i).1
     go (inl c) = let no : None ≡ Some c.0 = sym h ∙ c.2 in absurd (cc no)
     go (inr c) = drop_of_length-le xs c.0
 
-item_nested : (ds : doc.Items) (i : ℕ) (d : Document) → slice_get (list_of_items ds) i ≡ Some d → nesting d ≤ items_nesting ds
-item_nested doc.no_items i d h = absurd (cc h)
-item_nested (doc.item e ds) zero d h = let is : e ≡ d = cc h in let same : nesting e ≡ nesting d = ap nesting is in omega arith
-item_nested (doc.item e ds) (suc i) d h = let inside : nesting d ≤ items_nesting ds = item_nested ds i d h in omega arith
-
-found_nested : (test : List ℕ → Bool) (ms : doc.Members) (d : Document) → lookup test (list_of_members ms) ≡ Some d → nesting d ≤ members_nesting ms
-found_nested test doc.no_members d h = absurd (cc h)
-found_nested test (doc.member k e ms) d h = go (test k) h (found_nested test ms d)
-  where
-    go : (b : Bool) → cond b (Some e) (lookup test (list_of_members ms)) ≡ Some d → (lookup test (list_of_members ms) ≡ Some d → nesting d ≤ members_nesting ms) → nesting d ≤ max (nesting e) (members_nesting ms)
-    go true same inside = let is : e ≡ d = cc same in let n : nesting e ≡ nesting d = ap nesting is in omega arith
-    go false found inside = omega (arith, inside found)
-
-named_nested : (ms : doc.Members) (o : Option (List ℕ)) (d : Document) → option_and_then (λ name. lookup (same_text name) (list_of_members ms)) o ≡ Some d → nesting d ≤ members_nesting ms
-named_nested ms None d h = absurd (cc h)
-named_nested ms (Some name) d h = found_nested (same_text name) ms d h
-
 pub part_within : (c : Document) (names : Names) (i : ℕ) (d : Document) → part_in c names i ≡ Some d → nesting d < nesting c
-part_within (doc.array ds) None i d h = omega (arith, item_nested ds i d h)
-part_within (doc.object ms) (Some names) i d h = omega (arith, named_nested ms (slice_get names.items i) d h)
-part_within _ None i d h = absurd (cc h)
-part_within _ (Some names) i d h = absurd (cc h)
+part_within c names i d h = subst (λ o. IfSome o (λ x. nesting x < nesting c)) h (at_name (λ x. nesting x < nesting c) c names i (parts_nested c))
 
-item_canonical : (ds : doc.Items) (i : ℕ) (d : Document) → IsTrue (are_items_canonical ds) → slice_get (list_of_items ds) i ≡ Some d → IsTrue (is_canonical d)
-item_canonical doc.no_items i d all h = absurd (cc h)
-item_canonical (doc.item e ds) zero d all h =
-    let is : e ≡ d = cc h in subst (λ x. IsTrue (is_canonical x)) is (and_parts (is_canonical e) (are_items_canonical ds) all).0
-item_canonical (doc.item e ds) (suc i) d all h = item_canonical ds i d (and_parts (is_canonical e) (are_items_canonical ds) all).1 h
+step_canonical : (d : Document) (p : Place) → IsCanonical d → IsCanonical (step_in d p)
+step_canonical d p h = last_keeps IsCanonical (part_in d p.names) p.next d h (at_name IsCanonical d p.names (p.next - 1) (parts_canonical d h))
 
-found_canonical : (test : List ℕ → Bool) (ms : doc.Members) (d : Document) → IsTrue (are_members_canonical ms) → lookup test (list_of_members ms) ≡ Some d → IsTrue (is_canonical d)
-found_canonical test doc.no_members d all h = absurd (cc h)
-found_canonical test (doc.member k e ms) d all h = go (test k) h (found_canonical test ms d (and_parts (is_canonical e) (are_members_canonical ms) all).1)
-  where
-    go : (b : Bool) → cond b (Some e) (lookup test (list_of_members ms)) ≡ Some d → (lookup test (list_of_members ms) ≡ Some d → IsTrue (is_canonical d)) → IsTrue (is_canonical d)
-    go true same inside = let is : e ≡ d = cc same in subst (λ x. IsTrue (is_canonical x)) is (and_parts (is_canonical e) (are_members_canonical ms) all).0
-    go false found inside = inside found
-
-named_canonical : (ms : doc.Members) (o : Option (List ℕ)) (d : Document) → IsTrue (are_members_canonical ms) → option_and_then (λ name. lookup (same_text name) (list_of_members ms)) o ≡ Some d → IsTrue (is_canonical d)
-named_canonical ms None d all h = absurd (cc h)
-named_canonical ms (Some name) d all h = found_canonical (same_text name) ms d all h
-
-part_canonical : (c : Document) (names : Names) (i : ℕ) (d : Document) → IsTrue (is_canonical c) → part_in c names i ≡ Some d → IsTrue (is_canonical d)
-part_canonical (doc.array ds) None i d all h = item_canonical ds i d all h
-part_canonical (doc.object ms) (Some names) i d all h = named_canonical ms (slice_get names.items i) d all h
-part_canonical _ None i d all h = absurd (cc h)
-part_canonical _ (Some names) i d all h = absurd (cc h)
-
-step_canonical : (d : Document) (p : Place) → IsTrue (is_canonical d) → IsTrue (is_canonical (step_in d p))
-step_canonical d p h = go (p.next == 0) (part_in d p.names (p.next - 1)) refl
-  where
-    go : (b : Bool) (o : Option Document) → part_in d p.names (p.next - 1) ≡ o → IsTrue (is_canonical (if b then d else unwrap_or o d))
-    go true o is = h
-    go false None is = h
-    go false (Some part) is = part_canonical d p.names (p.next - 1) part h is
-
-pub path_canonical : (d : Document) (ps : List Place) → IsTrue (is_canonical d) → IsTrue (is_canonical (at_path d ps))
-path_canonical d [] h = h
-path_canonical d (p ∷ ps) h = path_canonical (step_in d p) ps (step_canonical d p h)
+pub path_canonical : (d : Document) (ps : List Place) → IsCanonical d → IsCanonical (at_path d ps)
+path_canonical = end_keeps IsCanonical step_in step_canonical
 
 -- ---- the parts that are left
 
@@ -187,16 +123,12 @@ past_names _ names i h = refl
 
 -- ---- the last place
 
-pub last_place : (ps : List Place) (p : Place) → slice_get (ps ++ p ∷ []) (length (ps ++ p ∷ []) - 1) ≡ Some p
-last_place ps p =
+pub last_place : {X : Type 0} (ps : List X) (p : X) → slice_get (ps ++ p ∷ []) (length (ps ++ p ∷ []) - 1) ≡ Some p
+last_place {X} ps p =
     let l : length (ps ++ p ∷ []) ≡ length ps + 1 = length-append ps (p ∷ []) in
     let i : length (ps ++ p ∷ []) - 1 ≡ length ps = omega arith in
     ap (slice_get (ps ++ p ∷ [])) i ∙ at_end ps
   where
-    at_end : (xs : List Place) → slice_get (xs ++ p ∷ []) (length xs) ≡ Some p
+    at_end : (xs : List X) → slice_get (xs ++ p ∷ []) (length xs) ≡ Some p
     at_end [] = refl
     at_end (x ∷ xs) = at_end xs
-
-pub last_open : (ps : List Place) (p : Place) → 0 < length (ps ++ p ∷ [])
-last_open [] p = omega arith
-last_open (q ∷ ps) p = omega arith

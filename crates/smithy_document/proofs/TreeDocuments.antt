@@ -1,10 +1,10 @@
 -- Trees of JSON made into documents, and documents into trees.
-use Rattle.std.proofs.Common.{◌≡◌, ℕ, zero, suc, ◌+◌, ◌<◌, ◌≤◌, List, [], ◌∷◌, ◌++◌, length, get_or, take, drop, map, ◌&&◌, IsTrue, refl, sym, ap, ap₂, ◌∙◌, append_assoc, arith, rules}
+use Rattle.std.proofs.Common.{◌≡◌, ℕ, zero, suc, ◌+◌, ◌<◌, ◌≤◌, List, [], ◌∷◌, ◌++◌, length, get_or, take, drop, map, IsTrue, refl, sym, ap, ap₂, ◌∙◌, append_assoc, arith, rules}
 use Rattle.std.proofs.lemmas.Bool.{and_parts}
 use Rattle.std.proofs.lemmas.List.{drop_more, take_more, map-append, append-nil}
 use Rattle.std.proofs.Math.ListN.{drop_of_length-le}
 use Rattle.smithy_types.specs.Documents as doc
-use Rattle.smithy_types.specs.Documents.{Document, Items, Members, nesting, items_nesting, members_nesting, items_of, items_snoc, put, put_all, list_of_members}
+use Rattle.smithy_types.specs.Documents.{Document, Members, nesting, items_nesting, members_nesting, items_of, items_snoc, put, put_all, list_of_members}
 use Rattle.smithy_types.specs.DocumentView.{view, items_view, members_view}
 use Rattle.smithy_types.specs.declared.document.Document.{the_lemmas}
 use Rattle.smithy_types.specs.declared.document.Document.TheVariants as code
@@ -12,11 +12,11 @@ use Rattle.smithy_types.specs.declared.document.Documents.{Documents}
 use Rattle.smithy_types.specs.declared.document.Members.{Members as MemberMap}
 use Rattle.smithy_types.specs.declared.text.Text.{Text}
 use Rattle.smithy_types.proofs.Views.{items_of-snoc}
-use Rattle.smithy_serde.specs.Ranges.{is_before}
 use Rattle.smithy_document.specs.declared.json_tree.Node.{Node}
 use Rattle.smithy_document.specs.InOrder.{is_in_order, are_items_in_order, are_members_in_order}
 use Rattle.smithy_document.specs.JsonTree.{text_at, node_view, fields_view, Grows, StaysIn}
 use Rattle.smithy_document.proofs.FromData.{Ascend, all_put}
+use Rattle.smithy_document.proofs.PartLemmas.{member_ordered}
 use Rattle.smithy_document.proofs.SoundDocuments.{before_sound}
 use Rattle.smithy_document.proofs.ValueLemmas.{Pair, members_from}
 
@@ -47,16 +47,6 @@ pub nested_field : (texts : List (List ℕ)) (fs : List Field) (i : ℕ) (f : Fi
 nested_field texts [] i f within is = absurd (omega (arith, within))
 nested_field texts (g ∷ fs) zero f within is = let same : nesting (node_view texts f.1) ≡ nesting (node_view texts g.1) = ap (λ g. nesting (node_view texts g.1)) is in omega (arith, same)
 nested_field texts (g ∷ fs) (suc i) f within is = let inside : nesting (node_view texts f.1) ≤ members_nesting (fields_view texts fs) = nested_field texts fs i f (omega (arith, within)) is in omega (arith, inside)
-
--- what a member's place in the order says
-abbrev IsPlaced : List ℕ → Document → Members → Type 0
-IsPlaced k d ms = IsTrue (is_before k ms) × IsTrue (is_in_order d) × IsTrue (are_members_in_order ms)
-
-member_ordered : (k : List ℕ) (d : Document) (ms : Members) → IsTrue (are_members_in_order (doc.member k d ms)) → IsPlaced k d ms
-member_ordered k d ms h =
-    let all = and_parts (is_before k ms && is_in_order d) (are_members_in_order ms) h in
-    let first = and_parts (is_before k ms) (is_in_order d) all.0 in
-    (first.0, first.1, all.1)
 
 pub ordered_field : (texts : List (List ℕ)) (fs : List Field) (i : ℕ) (f : Field) → i < length fs → f ≡ get_or fs i f → IsTrue (are_members_in_order (fields_view texts fs)) → IsTrue (is_in_order (node_view texts f.1))
 ordered_field texts [] i f within is h = absurd (omega (arith, within))

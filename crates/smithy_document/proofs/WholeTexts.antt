@@ -1,5 +1,5 @@
 -- The decimal texts of whole numbers are big numbers.
-use Rattle.std.proofs.Common.{◌≡◌, refl, sym, ap, ◌∙◌, ℕ, ◌+◌, ◌<◌, ◌≤◌, ◌^◌, ◌==◌, ◌≢◌, suc, nat_eq, codes, Bool, true, false, List, [], ◌∷◌, ◌++◌, length, drop, ℤ, pos, negsuc, arith, FitsSigned}
+use Rattle.std.proofs.Common.{◌≡◌, refl, sym, ap, ◌∙◌, ℕ, ◌+◌, ◌<◌, ◌≤◌, ◌^◌, ◌==◌, ◌≢◌, suc, nat_eq, codes, Bool, true, false, List, [], ◌∷◌, ◌++◌, length, drop, ℤ, pos, negsuc, arith, FitsSigned, to_z, of_z}
 use Rattle.std.specs.Char.{digit_value}
 use Rattle.std.specs.Fmt.{decimal, signed_decimal}
 use Rattle.std.specs.Int.{IsInRange, w128}
@@ -7,6 +7,7 @@ use Rattle.std.specs.List.{list_all, starts_with, position_or_len}
 use Rattle.std.specs.Str.Parse.{AllDigits, digits_value}
 use Rattle.std.proofs.lemmas.Bool.{and_parts, and_from, le-leb, lt-ltb, lt-leb, ne_eqb}
 use Rattle.std.proofs.lemmas.Fmt.{decimal_is_IsNumeral_wide}
+use Rattle.std.proofs.lemmas.Int.{to_z-of_z}
 use Rattle.std.proofs.lemmas.List.{append-nil, take_all, drop_all}
 use Rattle.std.proofs.lemmas.Str.Parse.{digit_from_value}
 use Rattle.smithy_types.proofs.Coefficients.{is_digit-in_range, signed_digits-mantissa}
@@ -98,3 +99,7 @@ integer_in_range z fits = let n = narrow z fits in and_from _ _ n.digits n.narro
 
 pub decimal_in_range : (z : ℤ) → FitsSigned w128 z → is_big_decimal_in_range (signed_decimal z) ≡ true
 decimal_in_range z fits = let n = narrow z fits in and_from _ _ n.number n.narrow
+
+-- the text that a call wrote of a whole number
+pub written : (text : List ℕ) (z : ℤ) → FitsSigned w128 z → text ≡ signed_decimal (to_z w128 (of_z w128 z)) → text ≡ signed_decimal z
+written text z fits is = is ∙ ap signed_decimal (to_z-of_z w128 z fits)

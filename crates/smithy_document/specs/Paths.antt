@@ -1,12 +1,14 @@
 -- Paths into a document.
-use Rattle.std.specs.Prelude.{ℕ, ◌-◌, ◌==◌, List, [], ◌∷◌, ◌++◌, drop, slice_get, Option, Some, None, if◌then◌else◌}
+use Rattle.std.specs.Prelude.{ℕ, ◌-◌, List, [], ◌∷◌, drop, slice_get, Option, Some, None}
 use Rattle.std.specs.Option.{option_map_or, option_and_then, unwrap_or}
 use Rattle.std.specs.Global.{Vec}
+use Rattle.std.specs.List.{fold}
 use Rattle.std.specs.Map.{lookup}
 use Rattle.smithy_types.specs.Documents.{Document, array_in, object_in, list_of_items, list_of_members}
 use Rattle.smithy_types.specs.Texts.{same_text}
 use Rattle.smithy_document.specs.declared.place.Place.{Place}
 use Rattle.smithy_document.specs.OpenDocuments.{Part, nameless, Opened}
+use Rattle.smithy_document.specs.Ways.{last_handed, opened_on}
 
 -- the names by which an object is asked; an array has none
 abbrev pub Names : Type 0
@@ -33,20 +35,18 @@ rest_in d (Some names) i = option_map_or (λ ms. named (list_of_members ms) (dro
 
 -- the part that was handed out last, the container itself where none was
 abbrev pub step_in : Document → Place → Document
-step_in d p = if p.next == 0 then d else unwrap_or (part_in d p.names (p.next - 1)) d
+step_in d p = last_handed (part_in d p.names) p.next d
 
 -- the document at the end of a path
 abbrev pub at_path : Document → List Place → Document
-at_path d [] = d
-at_path d (p ∷ ps) = at_path (step_in d p) ps
+at_path d ps = fold step_in d ps
 
 abbrev pub opened_at : Document → Place → Opened
 opened_at d p = record { form = p.form; container = d; rest = rest_in d p.names p.next }
 
 -- the open containers along a path, the innermost first
 abbrev pub opened_along : Document → List Place → List Opened
-opened_along d [] = []
-opened_along d (p ∷ ps) = opened_along (step_in d p) ps ++ opened_at d p ∷ []
+opened_along d ps = opened_on step_in opened_at d ps
 
 -- the name of the part that was handed out last in the innermost container
 abbrev pub last_name : Place → List ℕ

@@ -1,6 +1,6 @@
 -- Paths into a tree of JSON, and what a cursor in it stands for.
-use Rattle.std.specs.Prelude.{◌<◌, ◌-◌, ◌==◌, ℕ, true, List, [], ◌∷◌, ◌++◌, drop, length, if◌then◌else◌, Option, Some, None}
-use Rattle.std.specs.Option.{unwrap_or}
+use Rattle.std.specs.Prelude.{◌<◌, ℕ, true, List, drop, length, Option, Some, None}
+use Rattle.std.specs.List.{fold}
 use Rattle.smithy_types.specs.Documents.{Document}
 use Rattle.smithy_serde.specs.ReadCalls.{AtHand}
 use Rattle.smithy_document.specs.declared.json_tree_cursor.TreeCursor.{TreeCursor}
@@ -8,23 +8,22 @@ use Rattle.smithy_document.specs.declared.json_tree_cursor.TreePlace.{TreePlace}
 use Rattle.smithy_document.specs.JsonTree.{part_at}
 use Rattle.smithy_document.specs.CursorView.{ClosesAt, StepsTo}
 use Rattle.smithy_document.specs.OpenDocuments.{parts_of, Opened, reading}
+use Rattle.smithy_document.specs.Ways.{last_handed, opened_on}
 
 -- the part that was handed out last, the container itself where none was
 abbrev pub part_behind : Document → TreePlace → Document
-part_behind d p = if p.next == 0 then d else unwrap_or (part_at d (p.next - 1)) d
+part_behind d p = last_handed (part_at d) p.next d
 
 -- the document at the end of a path
 abbrev pub path_end : Document → List TreePlace → Document
-path_end d [] = d
-path_end d (p ∷ ps) = path_end (part_behind d p) ps
+path_end d ps = fold part_behind d ps
 
 abbrev pub opened_at : Document → TreePlace → Opened
 opened_at d p = record { form = p.form; container = d; rest = drop p.next (parts_of d) }
 
 -- the open containers along a path, the innermost first
 abbrev pub opened_along : Document → List TreePlace → List Opened
-opened_along d [] = []
-opened_along d (p ∷ ps) = opened_along (part_behind d p) ps ++ opened_at d p ∷ []
+opened_along d ps = opened_on part_behind opened_at d ps
 
 abbrev pub document_at : Document → TreeCursor → Document
 document_at root c = path_end root c.places.items

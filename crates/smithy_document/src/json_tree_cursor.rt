@@ -46,7 +46,6 @@ fn last_part<'t>(tree: &'t JsonTree, container: &'t Node, place: &TreePlace) -> 
 }
 
 // The value at the end of a path from the root: in each container the part that was handed out last.
-#[tactic(auto, using(crate::proofs::TreeLemmas::path_more, crate::proofs::TreeLemmas::path_over))]
 fn node_at<'t>(tree: &'t JsonTree, path: &[TreePlace]) -> &'t Node
     ensures { node_view tree.now.texts result.now ≡ path_end (tree_view tree.now) path.now }
 {

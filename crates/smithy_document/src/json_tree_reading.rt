@@ -5,10 +5,10 @@ ghost use Rattle.serde_json.specs.Read.{number_of as number_of_text, number_from
 ghost use Rattle.smithy_types.specs.DocumentView.{number_view};
 ghost use Rattle.smithy_types.specs.Maps.{IsOrdered};
 ghost use Rattle.smithy_json.specs.FromData.{number_of_data};
+ghost use Rattle.smithy_json.specs.FromText.{document_of_text};
 ghost use Rattle.smithy_document.specs.FromJson.{document_of_json, items_of_json, members_of_json, IsFound};
 ghost use Rattle.smithy_document.specs.InOrder.{is_tree_read};
-ghost use Rattle.smithy_json.specs.FromText.{document_of_text};
-ghost use Rattle.smithy_document.specs.JsonTree.{node_view, nodes_view, fields_view, tree_view, Grows};
+ghost use Rattle.smithy_document.specs.JsonTree.{text_at, node_view, nodes_view, fields_view, tree_view, Grows, StaysIn};
 
 use crate::json_tree::{JsonTree, Node};
 use crate::json_tree_documents::tree_of;
@@ -123,6 +123,23 @@ fn are_ascending(members: &Vec<(&str, Value<'_>)>) -> bool
     true
 }
 
+// The field of a member.
+#[cycle(node)]
+#[inline(always)]
+fn field_of(
+    alloc: Global,
+    texts: &mut TextList,
+    member: &(&str, Value<'_>),
+) -> Result<(usize, Node), JsonFault>
+    ensures grows { Grows texts.old texts.new }
+    ensures name { IfOk result (λ f. StaysIn (λ ts. text_at ts f.0) texts.new member.now.0.now) }
+    ensures value { IfOk result (λ f. IsFound (document_of_json (value_view member.now.1))
+        (λ ts. node_view ts f.1) texts.new) }
+{
+    let place = texts.push(member.0)?;
+    Ok((place, node_of(alloc, texts, &member.1)?))
+}
+
 // The fields of members that stand in order.
 #[cycle(node)]
 #[inline(never)]
@@ -138,8 +155,7 @@ fn fields_in_turn(
 {
     let mut found = Vec::with_capacity(alloc, members.len())?;
     'members: for member in members {
-        let place = texts.push(member.0)?;
-        found.push((place, node_of(alloc, texts, &member.1)?))?;
+        found.push(field_of(alloc, texts, member)?)?;
     }
     Ok(found)
 }
@@ -158,9 +174,8 @@ fn fields_in_order(
 {
     let mut found = BTreeMap::new(alloc);
     'members: for member in members {
-        let place = texts.push(member.0)?;
-        let node = node_of(alloc, texts, &member.1)?;
-        drop(found.insert(member.0, (place, node))?);
+        let field = field_of(alloc, texts, member)?;
+        drop(found.insert(member.0, field)?);
     }
     listed(alloc, found)
 }

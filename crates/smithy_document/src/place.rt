@@ -155,7 +155,6 @@ fn last_part<'d>(container: &'d Document, place: &Place) -> &'d Document
 }
 
 /// The document at the end of a path from the root: in each container the part that was handed out last. Takes no memory.
-#[tactic(auto, using(crate::proofs::PathLemmas::path_more, crate::proofs::PathLemmas::path_end))]
 pub(crate) fn document_at<'d>(root: &'d Document, path: &[Place]) -> &'d Document
     ensures { view result.now ≡ at_path (view root.now) path.now }
 {

@@ -1,10 +1,10 @@
 use Rattle.std.proofs.Common.{sym}
 use Rattle.smithy_types.specs.DocumentView.{view}
-use Rattle.smithy_document.proofs.BigLemmas.{integer_of_string}
+use Rattle.smithy_document.proofs.BigLemmas.{is_string}
 use Rattle.smithy_document.proofs.big_number_reads.big_integer.Goals as goal
 
 pub returns-in-Some : goal.returns-in-Some
-returns-in-Some c = integer_of_string (view c.args.document.now) _ c.integer_of_text.result (rw c.in-Some.is at c.as_string.ensures) c.integer_of_text.ensures
+returns-in-Some c = rw (← is_string (view c.args.document.now) _ (rw c.in-Some.is at c.as_string.ensures)) c.integer_of_text.ensures
 
 pub integer_of_other-requires : goal.integer_of_other-requires
 integer_of_other-requires c = sym (rw c.in-None.is at c.as_string.ensures)

@@ -1,9 +1,9 @@
 use Rattle.smithy_types.specs.DocumentView.{view}
-use Rattle.smithy_document.proofs.BigLemmas.{integer_of_number, integer_of_none}
+use Rattle.smithy_document.proofs.BigLemmas.{is_number, is_neither}
 use Rattle.smithy_document.proofs.big_number_reads.integer_of_other.Goals as goal
 
 pub returns-in-Some : goal.returns-in-Some
-returns-in-Some c = integer_of_number (view c.args.document.now) _ c.integer_of_number.result (rw c.in-Some.is at c.as_number.ensures) c.integer_of_number.ensures
+returns-in-Some c = rw (← is_number (view c.args.document.now) _ (rw c.in-Some.is at c.as_number.ensures)) c.integer_of_number.ensures
 
 pub returns-in-None : goal.returns-in-None
-returns-in-None c = integer_of_none (view c.args.document.now) c.mismatch.result c.requires (rw c.in-None.is at c.as_number.ensures) c.mismatch.ensures
+returns-in-None c = rw ((is_neither (view c.args.document.now) c.requires (rw c.in-None.is at c.as_number.ensures)).0) c.mismatch.ensures

@@ -1,7 +1,7 @@
-use Rattle.std.proofs.Common.{◌≡◌, drop}
+use Rattle.std.proofs.Common.{◌≡◌, take}
 use Rattle.smithy_document.specs.JsonTree.{node_view, tree_view}
 use Rattle.smithy_document.specs.TreePaths.{path_end}
 use Rattle.smithy_document.proofs.json_tree_cursor.node_at.Given as goal
 
 abbrev pub invariant-loop-place : goal.invariant-loop-place
-invariant-loop-place l = path_end (node_view l.tree.texts l.node) (drop l.place-index l.path) ≡ path_end (tree_view l.tree) l.path
+invariant-loop-place l = node_view l.tree.texts l.node ≡ path_end (tree_view l.tree) (take l.place-index l.path)

@@ -1,22 +1,34 @@
-use Rattle.std.proofs.Common.{◌<◌, ◌*◌, ◌++◌, ◌∷◌, [], Some, take, ap, ap₂, ◌∙◌, arith}
+use Rattle.std.proofs.Common.{◌<◌, ◌*◌, ◌+◌, ◌++◌, ◌∷◌, [], Some, take, ap, ap₂, ◌∙◌, arith}
 use Rattle.std.proofs.lemmas.Result.{IfOk-weaker}
 use Rattle.json.specs.Tree.{depth}
 use Rattle.json.specs.Value.{value_view, items_view}
 use Rattle.smithy_types.specs.Documents.{items_snoc}
 use Rattle.smithy_types.specs.Maps.{with_value}
 use Rattle.smithy_document.specs.FromJson.{items_of_json}
-use Rattle.smithy_document.specs.JsonTree.{nodes_view}
+use Rattle.smithy_document.specs.JsonTree.{text_at, nodes_view}
 use Rattle.smithy_document.proofs.JsonFound.{item_found}
-use Rattle.smithy_document.proofs.JsonTreeLemmas.{member_depth, item_depth, field_last, grows_by, member_read, goes_last, names_stand, all_up, all_read, null_found, bool_found, number_found, text_found, array_found, object_found, take_next, nodes_snoc, entry_put, entries_listed}
-use Rattle.smithy_document.proofs.TreeDocuments.{grows_on, stays, field_stays, fields_from}
+use Rattle.smithy_document.proofs.JsonTreeLemmas.{member_depth, item_depth, text_stays, field_seen, field_last, grows_by, member_read, goes_last, names_stand, all_up, all_read, null_found, bool_found, number_found, text_found, array_found, object_found, take_next, nodes_snoc, entry_put, entries_listed}
+use Rattle.smithy_document.proofs.TreeDocuments.{grows_on, stays, fields_from}
 use Rattle.smithy_document.proofs.OrderedPairs.{all_ascend}
 use Rattle.smithy_document.proofs.ValueLemmas.{members_from}
 use Rattle.smithy_document.proofs.json_tree_reading.+node.Goals as goal
 
-pub fields_in_turn-node_of-requires : goal.fields_in_turn-node_of-requires
-fields_in_turn-node_of-requires t c =
+pub field_of-node_of-requires : goal.field_of-node_of-requires
+field_of-node_of-requires t c = (omega arith, tt)
+
+pub field_of-returns-clause-grows : goal.field_of-returns-clause-grows
+field_of-returns-clause-grows t c = grows_by c.args.texts.now c.push.new.self c.node_of.new.texts _ c.in_ok-place.ensures.ok c.in_ok-node_of.ensures.grows
+
+pub field_of-returns-clause-name : goal.field_of-returns-clause-name
+field_of-returns-clause-name t c =
+    let place = c.in_ok-place.place in
+    let k = c.args.member.now.0.now in
+    stays (λ ts. text_at ts place) c.push.new.self c.node_of.new.texts k (text_stays c.args.texts.now c.push.new.self k place c.in_ok-place.ensures.ok c.in_ok-place.ensures.place) c.in_ok-node_of.ensures.grows
+
+pub fields_in_turn-field_of-requires : goal.fields_in_turn-field_of-requires
+fields_in_turn-field_of-requires t c =
     let inside = member_depth c.args.members.now.items c.members.member-index c.member-item.result (rw c.deref-member-items.ensures.value at c.members-test.true) (rw c.deref-member-items.ensures.value at c.member-item.is) in
-    let below : 2 * depth (value_view c.member-item.result.1) < t = omega (arith, inside, c.decreases) in
+    let below : 3 * depth (value_view c.member-item.result.1) + 1 < t = omega (arith, inside, c.decreases) in
     (below, tt)
 
 pub fields_in_turn-members-preserved : goal.fields_in_turn-members-preserved
@@ -28,16 +40,13 @@ fields_in_turn-members-preserved t c =
     let is = rw c.deref-member-items.ensures.value at c.member-item.is in
     let l = c.members.invariant in
     let ps = l.1 in
-    let found = c.in_ok-node_of.ensures.is in
-    let last = goes_last ms i m ps found.0 within is c.requires l.3 in
-    let pushed = c.in_ok-place.ensures.ok in
-    let grows = grows_by c.members.texts c.push.new.self c.node_of.new.texts m.0.now pushed c.in_ok-node_of.ensures.grows in
-    let field = field_stays c.members.texts c.push.new.self c.node_of.new.texts m.0.now c.in_ok-place.place c.in_ok-node_of.field-0 found.0 pushed c.in_ok-place.ensures.place c.in_ok-node_of.ensures.grows found.2 in (
-      grows_on _ _ _ l.0 grows,
+    let field = c.in_ok-field_of.ensures in
+    let found = field.value in (
+      grows_on _ _ _ l.0 field.grows,
       ps ++ (m.0.now, found.0) ∷ [],
-      member_read ms i m ps found.0 within is l.2 found.1 ∙ ap Some last,
+      member_read ms i m ps found.0 within is l.2 found.1 ∙ ap Some (goes_last ms i m ps found.0 within is c.requires l.3),
       names_stand ms i m ps found.0 within is l.3,
-      field_last c.members.texts c.node_of.new.texts c.members.found.items c.push-in-members.new.self.items (c.in_ok-place.place, c.in_ok-node_of.field-0) ps (m.0.now, found.0) c.in_ok-push.ensures.items grows l.4 field,
+      field_last c.members.texts c.field_of.new.texts c.members.found.items c.push.new.self.items c.in_ok-field_of.field-0 ps (m.0.now, found.0) c.in_ok-push.ensures.items field.grows l.4 (field_seen _ c.in_ok-field_of.field-0 m.0.now found.0 field.name found.2),
     )
 
 pub fields_in_turn-returns-clause-are : goal.fields_in_turn-returns-clause-are
@@ -75,7 +84,7 @@ node_of-returns-in_ok-fields_in_order-in-Object-clause-is t c = object_found _ c
 pub nodes_of-node_of-requires : goal.nodes_of-node_of-requires
 nodes_of-node_of-requires t c =
     let inside = item_depth c.args.items.now.items c.items.item-index c.item-item.result (rw c.deref-item-items.ensures.value at c.items-test.true) (rw c.deref-item-items.ensures.value at c.item-item.is) in
-    let below : 2 * depth (value_view c.item-item.result) < t = omega (arith, inside, c.decreases) in
+    let below : 3 * depth (value_view c.item-item.result) < t = omega (arith, inside, c.decreases) in
     (below, tt)
 
 pub nodes_of-items-preserved : goal.nodes_of-items-preserved
@@ -98,10 +107,10 @@ nodes_of-items-preserved t c =
       ),
     )
 
-pub fields_in_order-node_of-requires : goal.fields_in_order-node_of-requires
-fields_in_order-node_of-requires t c =
+pub fields_in_order-field_of-requires : goal.fields_in_order-field_of-requires
+fields_in_order-field_of-requires t c =
     let inside = member_depth c.args.members.now.items c.members.member-index c.member-item.result (rw c.deref-member-items.ensures.value at c.members-test.true) (rw c.deref-member-items.ensures.value at c.member-item.is) in
-    let below : 2 * depth (value_view c.member-item.result.1) < t = omega (arith, inside, c.decreases) in
+    let below : 3 * depth (value_view c.member-item.result.1) + 1 < t = omega (arith, inside, c.decreases) in
     (below, tt)
 
 pub fields_in_order-members-preserved : goal.fields_in_order-members-preserved
@@ -112,15 +121,13 @@ fields_in_order-members-preserved t c =
     let within = rw c.deref-member-items.ensures.value at c.members-test.true in
     let is = rw c.deref-member-items.ensures.value at c.member-item.is in
     let l = c.members.invariant in
-    let found = c.in_ok-node.ensures.is in
-    let pushed = c.in_ok-place.ensures.ok in
-    let grows = grows_by c.members.texts c.push.new.self c.node_of.new.texts m.0.now pushed c.in_ok-node.ensures.grows in
-    let field = field_stays c.members.texts c.push.new.self c.node_of.new.texts m.0.now c.in_ok-place.place c.in_ok-node.node found.0 pushed c.in_ok-place.ensures.place c.in_ok-node.ensures.grows found.2 in (
-      grows_on _ _ _ l.0 grows,
+    let field = c.in_ok-field.ensures in
+    let found = field.value in (
+      grows_on _ _ _ l.0 field.grows,
       with_value m.0.now found.0 l.1,
       member_read ms i m l.1 found.0 within is l.2 found.1,
       all_ascend ((m.0.now, found.0) ∷ []) l.1 l.3,
-      entry_put c.members.texts c.node_of.new.texts c.members.found.entries c.insert.new.self.entries m.0 (c.in_ok-place.place, c.in_ok-node.node) l.1 found.0 c.in_ok-insert.ensures.entries grows l.4 field,
+      entry_put c.members.texts c.field_of.new.texts c.members.found.entries c.insert.new.self.entries m.0 c.in_ok-field.field l.1 found.0 c.in_ok-insert.ensures.entries field.grows l.4 (field_seen _ c.in_ok-field.field m.0.now found.0 field.name found.2),
     )
 
 pub fields_in_order-returns-clause-are : goal.fields_in_order-returns-clause-are

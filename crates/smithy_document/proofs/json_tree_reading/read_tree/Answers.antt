@@ -1,5 +1,5 @@
 use Rattle.std.proofs.Common.{Some, sym, ap, ◌∙◌}
-use Rattle.smithy_document.proofs.OrderedData.{text_is_read}
+use Rattle.smithy_document.proofs.ReadData.{text_is_read}
 use Rattle.smithy_document.proofs.json_tree_reading.read_tree.Goals as goal
 
 pub returns-in-Ok-clause-read : goal.returns-in-Ok-clause-read

@@ -1,10 +1,9 @@
-use Rattle.std.proofs.Common.{◌≡◌, ◌++◌, ◌∷◌, [], ◌<◌, List, length, ◌+◌, Some, option_map, refl, sym, ap, ◌∙◌, subst}
+use Rattle.std.proofs.Common.{◌≡◌, ◌++◌, ◌∷◌, [], ◌<◌, List, length, ◌+◌, Some, option_map, refl, sym, ap, ◌∙◌, subst, arith, length-append}
 use Rattle.smithy_types.specs.DocumentView.{view}
 use Rattle.smithy_document.specs.declared.place.Place.{Place}
 use Rattle.smithy_document.specs.CursorView.{place_list, places_in, ClosesAt, StepsTo}
 use Rattle.smithy_document.specs.Paths.{part_in, name_at, at_path, opened_along}
 use Rattle.smithy_document.proofs.CursorLemmas.{stepped, not_stepped, steps, closes, named_last}
-use Rattle.smithy_document.proofs.PathLemmas.{last_open}
 use Rattle.smithy_document.proofs.cursor.Cursor.advance.Goals as goal
 
 pub returns-in_default-place_behind : goal.returns-in_default-place_behind
@@ -30,7 +29,7 @@ returns c =
     let now_is : c.push_reserved.new.self.items ≡ outer ++ next ∷ [] = c.push_reserved.ensures.items ∙ ap (λ n. outer ++ record place { next = n } ∷ []) (sym s.same) in
     let whole = steps root outer place s.part s.there in
     let name = named_last (record { places = Some c.push_reserved.new.self }) outer next place.next now_is refl in (
-      subst (λ ps. 0 < length ps) (sym now_is) (last_open outer next),
+      subst (λ ps. 0 < length ps) (sym now_is) (omega (arith, length-append outer (next ∷ []))),
       subst (λ n. StepsTo n (opened_along root (place_list c.args.self.now)) (at_path root c.push_reserved.new.self.items) (opened_along root c.push_reserved.new.self.items)) (sym name)
           (subst (λ ps. StepsTo (name_at place.names place.next) (opened_along root ps) (at_path root c.push_reserved.new.self.items) (opened_along root c.push_reserved.new.self.items)) (sym was)
           (subst (λ ps. StepsTo (name_at place.names place.next) (opened_along root (outer ++ place ∷ [])) (at_path root ps) (opened_along root ps)) (sym now_is) whole)),

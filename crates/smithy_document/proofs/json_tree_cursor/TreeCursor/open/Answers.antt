@@ -4,9 +4,9 @@ use Rattle.smithy_serde.specs.Requests.{word_of_document}
 use Rattle.smithy_serde.specs.Refusals.{IsRefusal}
 use Rattle.smithy_document.specs.JsonTree.{tree_view}
 use Rattle.smithy_document.specs.OpenDocuments.{opens_as}
-use Rattle.smithy_document.specs.TreePaths.{document_at, opened_along, opened_by}
+use Rattle.smithy_document.specs.TreePaths.{part_behind, document_at, opened_at, opened_along, opened_by}
 use Rattle.smithy_document.proofs.CursorLemmas.{opened_here, refused_here}
-use Rattle.smithy_document.proofs.TreeLemmas.{along_last}
+use Rattle.smithy_document.proofs.WayLemmas.{opened_last}
 use Rattle.smithy_document.proofs.json_tree_cursor.TreeCursor.open.Goals as goal
 
 pub returns-then-not-opens_as : goal.returns-then-not-opens_as
@@ -25,4 +25,4 @@ returns c = λ schema.
     let ps = c.args.self.now.places.items in
     opened_here true c.args.group schema d (document_at root (record { places = c.push.new.self })) (opened_by root c.args.self.now) (opened_by root (record { places = c.push.new.self }))
     (ap (opens_as c.args.group) (sym c.node-node.ensures) ∙ sym (c.opens_as.ensures c.args.tree.now.texts) ∙ c.if-not-opens_as.false)
-    (ap (opened_along root) c.in_ok-push.ensures.items ∙ along_last root ps (record { form = c.args.group; next = 0; member = None }))
+    (ap (opened_along root) c.in_ok-push.ensures.items ∙ opened_last part_behind opened_at root ps (record { form = c.args.group; next = 0; member = None }))
