@@ -3,11 +3,11 @@ ghost use Rattle.std.specs.Prelude.{◌≡◌, Some, None, Ok, false};
 ghost use Rattle.smithy_types.specs.BigNumbers.{is_big_integer_in_range};
 ghost use Rattle.smithy_types.specs.Documents.{string_in};
 ghost use Rattle.smithy_types.specs.DocumentView.{view, number_view};
-ghost use Rattle.smithy_serde.specs.DocumentReads.{scalar_of_document, number_text as number_text_lem, big_decimal_of_text as big_decimal_lem, big_integer_of_text as big_integer_lem};
+ghost use Rattle.smithy_serde.specs.DocumentReads.{scalar_of_document, number_text, big_decimal_of_text, big_integer_of_text};
 ghost use Rattle.smithy_serde.specs.ReadCalls.{Gives};
 ghost use Rattle.smithy_serde.specs.Refusals.{IsRefusal};
 ghost use Rattle.smithy_serde.specs.Values as value;
-ghost use Rattle.smithy_document.specs.BigReads.{not_parsed as not_parsed_lem};
+ghost use Rattle.smithy_document.specs.BigReads.{not_parsed};
 
 use crate::mismatch::mismatch;
 use crate::number_reads::integer_of;
@@ -19,7 +19,7 @@ use smithy_types::{BigDecimal, BigInteger, Document, Number, Text};
 use std::alloc::Global;
 
 fn not_parsed(alloc: Global, text: &str, ending: &str) -> SerdeError
-    ensures { IsRefusal (not_parsed_lem text.now ending.now) result }
+    ensures { IsRefusal (not_parsed text.now ending.now) result }
 {
     match format!(in alloc; "cannot parse {text}{ending}") {
         Ok(message) => SerdeError::InvalidInput {
@@ -32,7 +32,7 @@ fn not_parsed(alloc: Global, text: &str, ending: &str) -> SerdeError
 // The integer part of a text that is no big integer.
 fn integer_part(alloc: Global, text: &str) -> Result<BigInteger, SerdeError>
     requires { is_big_integer_in_range text.now ≡ false }
-    ensures { Gives value.big_integer (Some (big_integer_lem text.now)) result }
+    ensures { Gives value.big_integer (Some (big_integer_of_text text.now)) result }
 {
     match parsed_decimal(alloc, text) {
         Err(error) => Err(error),
@@ -44,7 +44,7 @@ fn integer_part(alloc: Global, text: &str) -> Result<BigInteger, SerdeError>
 }
 
 fn integer_of_text(alloc: Global, text: &str) -> Result<BigInteger, SerdeError>
-    ensures { Gives value.big_integer (Some (big_integer_lem text.now)) result }
+    ensures { Gives value.big_integer (Some (big_integer_of_text text.now)) result }
 {
     match parsed_integer(alloc, text) {
         Err(error) => Err(error),
@@ -56,7 +56,7 @@ fn integer_of_text(alloc: Global, text: &str) -> Result<BigInteger, SerdeError>
 }
 
 fn decimal_of_text(alloc: Global, text: &str) -> Result<BigDecimal, SerdeError>
-    ensures { Gives value.big_decimal (Some (big_decimal_lem text.now)) result }
+    ensures { Gives value.big_decimal (Some (big_decimal_of_text text.now)) result }
 {
     match parsed_decimal(alloc, text) {
         Err(error) => Err(error),
@@ -69,14 +69,14 @@ fn decimal_of_text(alloc: Global, text: &str) -> Result<BigDecimal, SerdeError>
 
 fn integer_of_number(alloc: Global, number: Number) -> Result<BigInteger, SerdeError>
     ensures { Gives value.big_integer
-        (Some (Ok (value.big_integer (number_text_lem (number_view number))))) result }
+        (Some (Ok (value.big_integer (number_text (number_view number))))) result }
 {
     integer_of_whole(alloc, integer_of(number))
 }
 
 fn decimal_of_number(alloc: Global, number: Number) -> Result<BigDecimal, SerdeError>
     ensures { Gives value.big_decimal
-        (Some (Ok (value.big_decimal (number_text_lem (number_view number))))) result }
+        (Some (Ok (value.big_decimal (number_text (number_view number))))) result }
 {
     decimal_of_whole(alloc, integer_of(number))
 }

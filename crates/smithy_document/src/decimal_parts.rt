@@ -2,7 +2,7 @@
 ghost use Rattle.std.specs.Prelude.{◌≡◌, ◌<◌, ◌≤◌, ◌==◌, ◌-◌, ◌^◌, min, pos, ◌-ℤ◌, position, length, IsTrue};
 ghost use Rattle.std.specs.List.{list_all, position_or_len, before_first, after_first};
 ghost use Rattle.std.specs.Str.Parse.{digits_value_after, signed_digits_value};
-ghost use Rattle.smithy_types.specs.BigNumbers.{is_digit, is_exponent_mark, is_signed_digits, is_exponent, mantissa_of, exponent_of, unsigned as unsigned_lem, coefficient as coefficient_lem};
+ghost use Rattle.smithy_types.specs.BigNumbers.{is_digit, is_exponent_mark, is_signed_digits, is_exponent, mantissa_of, exponent_of, unsigned, coefficient};
 ghost use Rattle.smithy_serde.specs.DocumentReads.{exponent_value};
 ghost use Rattle.smithy_document.specs.Scaling.{near, fraction_len};
 
@@ -14,7 +14,7 @@ const FAR: u128 = 1 << 100;
 
 /// The number of the digits before an exponent, without the sign.
 pub(crate) fn coefficient(number: &BigDecimal) -> u128
-    ensures value { result ≡ coefficient_lem number.now }
+    ensures value { result ≡ coefficient number.now }
     ensures narrow { result ≤ 2 ^ 127 }
 {
     let (mantissa, _) = mantissa_and_exponent(number.as_str().as_bytes());
@@ -40,7 +40,7 @@ fn mantissa_and_exponent(text: &[u8]) -> (&[u8], &[u8])
 }
 
 fn unsigned(text: &[u8]) -> &[u8]
-    ensures { result.now ≡ unsigned_lem text.now }
+    ensures { result.now ≡ unsigned text.now }
 {
     match text.split_first() {
         Some((b'+' | b'-', number)) => number,

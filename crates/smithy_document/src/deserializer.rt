@@ -64,7 +64,7 @@ impl<S: DocumentSettings> ShapeDeserializer for DocumentShapeDeserializer<'_, S>
     ghost use Rattle.std.specs.Prelude.{◌≡◌, IsOk};
     ghost use Rattle.smithy_serde.specs.ReadCalls.{Skips};
     ghost use Rattle.smithy_document.specs.DocumentHand.{document_hand};
-    ghost use Rattle.smithy_document.specs.Sizes.{container_size as container_size_lem, document_at_hand};
+    ghost use Rattle.smithy_document.specs.Sizes.{container_size, document_at_hand};
 
     ghost at_hand = { document_hand };
 
@@ -130,7 +130,7 @@ impl<S: DocumentSettings> ShapeDeserializer for DocumentShapeDeserializer<'_, S>
 
     /// How many items an array or an object at hand has, and 10,000 where it has more; none of any other document.
     fn container_size(&self) -> Option<usize>
-        ensures { result ≡ container_size_lem (document_at_hand self.now) }
+        ensures { result ≡ container_size (document_at_hand self.now) }
     {
         size_of(self.cursor.document(self.root))
     }

@@ -4,7 +4,7 @@ ghost use Rattle.smithy_serde.specs.Refusals.{IsRefusal};
 ghost use Rattle.smithy_serde.specs.ReadCalls.{Gives, is_of_kind, scalar_of_read, type_of};
 ghost use Rattle.smithy_serde.specs.DocumentReads.{scalar_of_document};
 ghost use Rattle.smithy_document.specs.InOrder.{is_read, is_tree_read};
-ghost use Rattle.smithy_document.specs.JsonHeld.{not_json as not_json_lem};
+ghost use Rattle.smithy_document.specs.JsonHeld.{not_json};
 ghost use Rattle.smithy_document.specs.JsonTree.{node_view};
 
 use crate::json_tree::{JsonTree, Node};
@@ -27,7 +27,7 @@ pub struct JsonDeserializer {
 
 // The refusal of what is no JSON.
 fn not_json(alloc: Global) -> SerdeError
-    ensures { IsRefusal not_json_lem result }
+    ensures { IsRefusal not_json result }
 {
     SerdeError::invalid_input(alloc, "body is not JSON")
 }

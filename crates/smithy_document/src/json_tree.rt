@@ -2,8 +2,8 @@
 ghost use Rattle.std.specs.Prelude.{◌≡◌, ℕ, List, length, option_map};
 ghost use Rattle.smithy_serde.specs.Held.{is_null_document};
 ghost use Rattle.smithy_serde.specs.Requests.{word_of_document};
-ghost use Rattle.smithy_document.specs.OpenDocuments.{parts_of, opens_as as opens_as_lem};
-ghost use Rattle.smithy_document.specs.JsonTree.{node_view, part_at, part_name as part_name_lem};
+ghost use Rattle.smithy_document.specs.OpenDocuments.{parts_of, opens_as};
+ghost use Rattle.smithy_document.specs.JsonTree.{node_view, part_at, part_name};
 ghost use Rattle.smithy_document.specs.Sizes.{container_size};
 
 use crate::text_list::TextList;
@@ -55,7 +55,7 @@ impl Node {
 
     /// Whether it opens so: an array as a list, an object as a map or a structure.
     pub(crate) fn opens_as(&self, group: Group) -> bool
-        ensures { (texts : List (List ℕ)) → result ≡ opens_as_lem group (node_view texts self.now) }
+        ensures { (texts : List (List ℕ)) → result ≡ opens_as group (node_view texts self.now) }
     {
         match self {
             Node::Array(_) => matches!(group, Group::List),
@@ -100,7 +100,7 @@ impl Node {
 impl JsonTree {
     /// The name of the part at a place of one of the tree's values, which is empty in an array.
     pub(crate) fn part_name(&self, container: &Node, place: usize) -> &str
-        ensures { result.now ≡ part_name_lem (node_view self.now.texts container.now) place }
+        ensures { result.now ≡ part_name (node_view self.now.texts container.now) place }
     {
         match container {
             Node::Object(fields) => match fields.get(place) {

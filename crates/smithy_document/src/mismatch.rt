@@ -2,9 +2,9 @@
 ghost use Rattle.std.specs.Prelude.{◌≡◌};
 ghost use Rattle.smithy_types.specs.Documents.{Document as Doc};
 ghost use Rattle.smithy_types.specs.DocumentView.{view};
-ghost use Rattle.smithy_serde.specs.DocumentReads.{mismatch as mismatch_lem};
+ghost use Rattle.smithy_serde.specs.DocumentReads.{mismatch};
 ghost use Rattle.smithy_serde.specs.Refusals.{IsRefusal};
-ghost use Rattle.smithy_serde.specs.Requests.{document_word as document_word_lem, word_of_document as word_of_document_lem};
+ghost use Rattle.smithy_serde.specs.Requests.{document_word, word_of_document};
 
 use smithy_ids::ShapeType;
 use smithy_serde::{SerdeError, kind_word};
@@ -13,7 +13,7 @@ use std::alloc::Global;
 
 /// What the read of a kind asks for where a document is at hand.
 pub(crate) fn document_word(kind: ShapeType) -> &'static str
-    ensures { result.now ≡ document_word_lem kind }
+    ensures { result.now ≡ document_word kind }
 {
     match kind {
         ShapeType::Structure => "struct (map)",
@@ -23,7 +23,7 @@ pub(crate) fn document_word(kind: ShapeType) -> &'static str
 
 // What a document is.
 fn word_of_document(document: &Document) -> &'static str
-    ensures { result.now ≡ word_of_document_lem (view document.now) }
+    ensures { result.now ≡ word_of_document (view document.now) }
 {
     match document {
         Document::Null => "null",
@@ -37,14 +37,14 @@ fn word_of_document(document: &Document) -> &'static str
 
 /// The refusal of a document that is of another kind than the one that is asked for.
 pub(crate) fn mismatch(alloc: Global, kind: ShapeType, document: &Document) -> SerdeError
-    ensures { IsRefusal (mismatch_lem kind (view document.now)) result }
+    ensures { IsRefusal (mismatch kind (view document.now)) result }
 {
     mismatch_of(alloc, kind, word_of_document(document))
 }
 
 /// The same, of a document that is called so.
 pub(crate) fn mismatch_of(alloc: Global, kind: ShapeType, found: &str) -> SerdeError
-    ensures { (d : Doc) → word_of_document_lem d ≡ found.now → IsRefusal (mismatch_lem kind d) result }
+    ensures { (d : Doc) → word_of_document d ≡ found.now → IsRefusal (mismatch kind d) result }
 {
     let expected = document_word(kind);
     match format!(in alloc; "expected {expected} document, got {found}") {

@@ -1,12 +1,12 @@
 // Documents read as whole numbers.
 ghost use Rattle.std.specs.Prelude.{◌≡◌, Some, IsTrue, IfOk, string_bytes};
 ghost use Rattle.smithy_types.specs.DocumentView.{view, number_view};
-ghost use Rattle.smithy_serde.specs.DocumentReads.{integer_of_number, number_text as number_text_lem, scalar_of_document};
+ghost use Rattle.smithy_serde.specs.DocumentReads.{integer_of_number, number_text, scalar_of_document};
 ghost use Rattle.smithy_serde.specs.ReadCalls.{Gives};
 ghost use Rattle.smithy_serde.specs.Refusals.{IsRefusal};
 ghost use Rattle.smithy_serde.specs.Values as value;
-ghost use Rattle.smithy_serde.specs.DocumentReads.{mismatch as mismatch_lem};
-ghost use Rattle.smithy_document.specs.WholeReads.{is_within, overflow as overflow_lem, whole_of_document};
+ghost use Rattle.smithy_serde.specs.DocumentReads.{mismatch};
+ghost use Rattle.smithy_document.specs.WholeReads.{is_within, overflow, whole_of_document};
 
 use crate::mismatch::{document_word, mismatch};
 use smithy_ids::ShapeType;
@@ -26,7 +26,7 @@ pub(crate) fn integer_of(number: Number) -> i128
 
 // The decimal text of a number. Takes memory.
 fn number_text(alloc: Global, number: Number) -> Result<String, OutOfMemory>
-    ensures { IfOk result (λ t. string_bytes t ≡ number_text_lem (number_view number)) }
+    ensures { IfOk result (λ t. string_bytes t ≡ number_text (number_view number)) }
 {
     match number {
         Number::PosInt(value) => format!(in alloc; "{value}"),
@@ -35,7 +35,7 @@ fn number_text(alloc: Global, number: Number) -> Result<String, OutOfMemory>
 }
 
 fn overflow(alloc: Global, kind: ShapeType, number: Number) -> SerdeError
-    ensures { IsRefusal (overflow_lem kind (number_view number)) result }
+    ensures { IsRefusal (overflow kind (number_view number)) result }
 {
     match number_text(alloc, number) {
         Ok(text) => SerdeError::numeric_coercion_overflow(

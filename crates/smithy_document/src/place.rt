@@ -5,7 +5,7 @@ ghost use Rattle.smithy_types.specs.Documents.{list_of_members};
 ghost use Rattle.smithy_types.specs.DocumentView.{view, items_view, members_view};
 ghost use Rattle.smithy_types.specs.Maps.{IsOrdered};
 ghost use Rattle.smithy_serde.specs.Held.{is_null_document};
-ghost use Rattle.smithy_document.specs.OpenDocuments.{nameless, parts_of, opens_as as opens_as_lem, kind_of_group};
+ghost use Rattle.smithy_document.specs.OpenDocuments.{nameless, parts_of, opens_as, kind_of_group};
 ghost use Rattle.smithy_document.specs.Sizes.{container_size};
 ghost use Rattle.smithy_document.specs.Paths.{name_at, part_in, rest_in, step_in, at_path, last_name};
 
@@ -36,7 +36,7 @@ pub(crate) fn kind_of(group: Group) -> ShapeType
 
 /// Whether the document opens so: an array as a list, an object as a map or a structure.
 pub(crate) fn opens_as(group: Group, document: &Document) -> bool
-    ensures { result ≡ opens_as_lem group (view document.now) }
+    ensures { result ≡ opens_as group (view document.now) }
 {
     match document {
         Document::Array(_) => matches!(group, Group::List),

@@ -2,11 +2,11 @@
 ghost use Rattle.std.specs.Prelude.{◌≡◌, ◌<◌, ◌*◌, ◌/◌, ◌^◌, Some, option_map};
 ghost use Rattle.std.specs.Fmt.{signed_decimal};
 ghost use Rattle.std.specs.Option.{SomeIff};
-ghost use Rattle.smithy_serde.specs.DocumentReads.{truncated as truncated_lem, whole_text, is_negative};
+ghost use Rattle.smithy_serde.specs.DocumentReads.{truncated, whole_text, is_negative};
 ghost use Rattle.smithy_serde.specs.ReadCalls.{Gives};
 ghost use Rattle.smithy_serde.specs.Refusals.{IsRefusal};
 ghost use Rattle.smithy_serde.specs.Values as value;
-ghost use Rattle.smithy_document.specs.Scaling.{scaled as scaled_lem, whole_part, too_large as too_large_lem};
+ghost use Rattle.smithy_document.specs.Scaling.{scaled, whole_part, too_large};
 
 use crate::decimal_parts::{coefficient, places};
 use crate::whole_numbers::integer_of_whole;
@@ -49,7 +49,7 @@ fn grown(number: u128, places: u128) -> Option<u128>
 
 // The integer part of a number whose point is moved to the right, or to the left where the places are negative.
 fn scaled(number: u128, places: i128) -> Option<u128>
-    ensures { SomeIff result (scaled_lem number places < 2 ^ 128) (scaled_lem number places) }
+    ensures { SomeIff result (scaled number places < 2 ^ 128) (scaled number places) }
 {
     if places < 0 {
         Some(shrunk(number, places.unsigned_abs()))
@@ -80,7 +80,7 @@ fn whole_value(number: &BigDecimal) -> Option<i128>
 }
 
 fn too_large(alloc: Global, text: &str) -> SerdeError
-    ensures { IsRefusal (too_large_lem text.now) result }
+    ensures { IsRefusal (too_large text.now) result }
 {
     match format!(in alloc;
         "cannot coerce bigDecimal {text} to bigInteger: integer magnitude too large"
@@ -95,7 +95,7 @@ fn too_large(alloc: Global, text: &str) -> SerdeError
 /// The integer part of a decimal, truncated toward zero. It is refused with `Custom` where that is outside 128 bits. Time
 /// and memory don't grow with the exponent.
 pub(crate) fn truncated(alloc: Global, number: &BigDecimal) -> Result<BigInteger, SerdeError>
-    ensures { Gives value.big_integer (Some (truncated_lem number.now)) result }
+    ensures { Gives value.big_integer (Some (truncated number.now)) result }
 {
     let text = number.as_str();
     match whole_value(number) {
