@@ -130,7 +130,7 @@ fn field_of(
     alloc: Global,
     texts: &mut TextList,
     member: &(&str, Value<'_>),
-) -> Result<(usize, Node), JsonFault>
+) -> Result<(usize, Node), JsonError>
     ensures grows { Grows texts.old texts.new }
     ensures name { IfOk result (λ f. StaysIn (λ ts. text_at ts f.0) texts.new member.now.0.now) }
     ensures value { IfOk result (λ f. IsFound (document_of_json (value_view member.now.1))
