@@ -4,6 +4,7 @@ pub mod FilledLemmas
 pub mod FurtherLemmas
 pub mod Items
 pub mod Lists
+pub mod NameLemmas
 pub mod NodeLemmas
 pub mod ReachedLemmas
 pub mod Reading

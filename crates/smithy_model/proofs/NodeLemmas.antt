@@ -7,7 +7,7 @@ use Rattle.smithy_ids.specs.declared.shape_type.ShapeType.TheVariants as kind
 use Rattle.smithy_ids.specs.declared.payload_hint.PayloadHint.TheVariants.{Unknown}
 use Rattle.smithy_schema.specs.Nodes.{Node, Table, bare_node}
 use Rattle.smithy_model.specs.Shapes as shapes
-use Rattle.smithy_model.specs.Nodes.{Spot, element_at, key_at, value_at, is_structure, members_at, are_outside, hint_of, spot_named, member_count, member_id, member_node, member_nodes_from, member_nodes, shape_node, input_node}
+use Rattle.smithy_model.specs.Nodes.{Spot, element_at, key_at, value_at, is_structure, members_at, are_outside, hint_of, spot_named, member_count, member_id, member_node, member_nodes_from, member_nodes, shape_node}
 use Rattle.smithy_model.specs.ModelView.{member_view, shape_view}
 use Rattle.smithy_model.specs.SpotView.{spot_view}
 use Rattle.smithy_model.specs.NodeView.{IsFilledBy, IsFilled}
@@ -67,7 +67,7 @@ shape-more ss xs i x ms next after t u v all l is m a k h =
 
 -- the shapes themselves
 pub spot-more : (ss : List Spot) (first place : ℕ) (xs : List declared.Spot) (i : ℕ) (x : declared.Spot) (t u v : Table) (all : Option (List Node)) → i < length xs → x ≡ get_or xs i x
-    → place ≡ first + i → IsFilledBy place (input_node ss None (spot_view x) ∷ []) u v
+    → place ≡ first + i → IsFilledBy place (shape_node ss (spot_view x) ∷ []) u v
     → Filled first (first + i) t u (Some (map (shape_node ss) (map spot_view (drop i xs)))) all
     → Filled first (first + (i + 1)) t v (Some (map (shape_node ss) (map spot_view (drop (i + 1) xs)))) all
 spot-more ss first place xs i x t u v all l is p k h =

@@ -1,7 +1,7 @@
 -- Shapes that are reached, and the places of their names.
-use Rattle.std.proofs.Common.{◌≡◌, refl, sym, ap, ◌∙◌, cond, ℕ, suc, ◌+◌, Bool, true, false, ◌||◌, ◌&&◌, List, [], ◌∷◌, ◌++◌, append_assoc, length, map, arith, Option, Some, None, option_map, option_and_then, Bor, subst}
+use Rattle.std.proofs.Common.{◌≡◌, refl, sym, ap, ◌∙◌, cond, ℕ, suc, ◌+◌, Bool, true, false, ◌||◌, ◌&&◌, List, [], ◌∷◌, ◌++◌, append_assoc, length, map, find, arith, Option, Some, None, option_map, option_and_then, Bor, subst}
 use Rattle.std.specs.List.{list_all, slice_get}
-use Rattle.std.specs.Option.{is_some}
+use Rattle.std.specs.Option.{is_some, option_or}
 use Rattle.std.specs.BTreeMap.{BTreeMap, UpdatesBy}
 use Rattle.std.specs.Cmp.Lexicographic.{slice_cmp}
 use Rattle.std.specs.Ordering.{nat_cmp}
@@ -12,10 +12,9 @@ use Rattle.serde_json.specs.Data.{Data}
 use Rattle.smithy_ids.specs.ShapeIds.{has_hash}
 use Rattle.smithy_model.specs.Names.{is}
 use Rattle.smithy_model.specs.Json.{provided, members_in}
-use Rattle.smithy_model.specs.Prelude.{prelude}
-use Rattle.smithy_model.specs.Shapes.{Shape, Member, shape_at, shape_in, shape_with, kind_in, members_by, found_at}
+use Rattle.smithy_model.specs.Prelude.{prelude_kind, prelude_kinds}
+use Rattle.smithy_model.specs.Shapes.{Shape, Member, shape_at, shape_in, shape_with, prelude_shape, own_shape_at, kind_in, members_by, found_at}
 use Rattle.smithy_model.specs.GivenTraits.{traits_of}
-use Rattle.smithy_model.specs.ReachedView.{document_shape}
 use Rattle.smithy_ids.specs.declared.shape_type.ShapeType.{ShapeType}
 use Rattle.smithy_schema.specs.Nodes.{Traits}
 use Rattle.smithy_model.specs.Reached.{is_among, with_name, with_names, with_targets, names_of, reached_in, reached}
@@ -146,25 +145,54 @@ shape_in-name name d s e = go (kind_in d) (provided-some _ _ _ e).1
     go None h = absurd (cc h)
     go (Some k) h = named_so (traits_of d) (members_by k d) (λ t m. record { name = name; kind = k; traits = t; members = m }) name s (λ t m. refl) h
 
-pub shape_at-name : (d : Data) (name : List ℕ) (s : Shape) → shape_at d name ≡ Some s → s.name ≡ name
-unfolding shape_at
-shape_at-name d name s e = go (found_at d name) e
+own-name : (d : Data) (name : List ℕ) (s : Shape) → own_shape_at d name ≡ Some s → s.name ≡ name
+own-name d name s e = go (found_at d name) e
   where
     go : (o : Option Data) → option_and_then (shape_in name) o ≡ Some s → s.name ≡ name
     go None h = absurd (cc h)
     go (Some v) h = shape_in-name name v s h
 
-both-true : (a b c : Bool) → a && b && c ≡ true → a ≡ true
-both-true true b c e = refl
-both-true false b c e = absurd (cc e)
+both-true : (a b : Bool) → a && b ≡ true → (a ≡ true) × (b ≡ true)
+both-true true b e = (refl, e)
+both-true false b e = absurd (cc e)
 
-pub shape_at-hash : (d : Data) (name : List ℕ) (s : Shape) → shape_at d name ≡ Some s → has_hash name ≡ true
-unfolding shape_at
-shape_at-hash d name s e = go (found_at d name) refl e
+own-hash : (d : Data) (name : List ℕ) (s : Shape) → own_shape_at d name ≡ Some s → has_hash name ≡ true
+own-hash d name s e = go (found_at d name) refl e
   where
     go : (o : Option Data) → found_at d name ≡ o → option_and_then (shape_in name) o ≡ Some s → has_hash name ≡ true
     go None f h = absurd (cc h)
-    go (Some v) f h = both-true (has_hash name) _ _ (provided-some _ _ _ f).0
+    go (Some v) f h = (both-true (has_hash name) _ (both-true _ _ (provided-some _ _ _ f).0).0).0
+
+-- a name of these kinds is a full one, where all are
+kind-hash : (ps : List (List ℕ × ShapeType)) (name : List ℕ) (k : ShapeType) → list_all (λ p. has_hash p.0) ps ≡ true → option_map (λ p. p.1) (find (λ p. is p.0 name) ps) ≡ Some k → has_hash name ≡ true
+kind-hash [] name k h e = absurd (cc e)
+kind-hash (p ∷ ps) name k h e = go (is p.0 name) refl (both-true _ _ h) (kind-hash ps name k) e
+  where
+    go : (b : Bool) → is p.0 name ≡ b → (has_hash p.0 ≡ true) × (list_all (λ q. has_hash q.0) ps ≡ true)
+        → (list_all (λ q. has_hash q.0) ps ≡ true → option_map (λ q. q.1) (find (λ q. is q.0 name) ps) ≡ Some k → has_hash name ≡ true)
+        → option_map (λ q. q.1) (cond b (Some p) (find (λ q. is q.0 name) ps)) ≡ Some k → has_hash name ≡ true
+    go true i h more f = ap has_hash (sym ((bytes_eq-Decides p.0 name).0 i)) ∙ h.0
+    go false i h more f = more h.1 f
+
+prelude-hash : (name : List ℕ) (k : ShapeType) → prelude_kind name ≡ Some k → has_hash name ≡ true
+unfolding prelude_kind
+prelude-hash name k e = kind-hash prelude_kinds name k refl e
+
+pub shape_at-name : (d : Data) (name : List ℕ) (s : Shape) → shape_at d name ≡ Some s → s.name ≡ name
+unfolding shape_at
+shape_at-name d name s e = go (prelude_kind name) e
+  where
+    go : (o : Option ShapeType) → option_or (option_map (prelude_shape name) o) (own_shape_at d name) ≡ Some s → s.name ≡ name
+    go None h = own-name d name s h
+    go (Some k) h = let same : prelude_shape name k ≡ s = cc in ap (λ (x : Shape). x.name) (sym same)
+
+pub shape_at-hash : (d : Data) (name : List ℕ) (s : Shape) → shape_at d name ≡ Some s → has_hash name ≡ true
+unfolding shape_at
+shape_at-hash d name s e = go (prelude_kind name) refl e
+  where
+    go : (o : Option ShapeType) → prelude_kind name ≡ o → option_or (option_map (prelude_shape name) o) (own_shape_at d name) ≡ Some s → has_hash name ≡ true
+    go None f h = own-hash d name s h
+    go (Some k) f h = prelude-hash name k f
 
 -- one more shape, which has a full name
 pub named-more : (found : List Shape) (s : Shape) (name : List ℕ) → s.name ≡ name → has_hash name ≡ true → list_all (λ x. has_hash x.name) found ≡ true → list_all (λ x. has_hash x.name) (found ++ s ∷ []) ≡ true
@@ -176,33 +204,6 @@ named-more (x ∷ found) s name same h e = go (has_hash x.name) (named-more foun
     go true more k = more k
     go false more k = absurd (cc k)
 
-pub first-more : (found more : List Shape) (d : Shape) → slice_get found 0 ≡ Some d → slice_get (found ++ more) 0 ≡ Some d
-first-more [] more d e = absurd (cc e)
-first-more (s ∷ found) more d e = e
-
--- the walk begins with the prelude
-pub walk-start : (d : Data) (entries : List (List ℕ × Data)) (roots : List (List ℕ)) → Some entries ≡ members_in d
-    → reached_in (suc (length entries)) d prelude (with_names (with_names [] (names_of prelude)) roots) ≡ reached d roots
-unfolding reached
-walk-start d entries roots e = rw (← e) refl
-
-prelude-names : with_names [] (names_of prelude) ≡ names_of prelude
-unfolding prelude
-prelude-names = refl
-
-pub front-start : (roots : List (List ℕ)) → IsFront prelude (with_names (with_names [] (names_of prelude)) roots)
-front-start roots =
-    let more = with_names-front (with_names [] (names_of prelude)) roots in
-    record { rest = more.0; front = more.1 ∙ ap (λ ns. ns ++ more.0) prelude-names }
-
-pub prelude-named : list_all (λ s. has_hash s.name) prelude ≡ true
-unfolding prelude
-prelude-named = refl
-
-pub prelude-first : slice_get prelude 0 ≡ Some document_shape
-unfolding prelude
-prelude-first = refl
-
 -- a model without shapes
 pub not-reached : (d : Data) (roots : List (List ℕ)) → members_in d ≡ None → reached d roots ≡ None
 unfolding reached
@@ -213,15 +214,11 @@ pub record IsWalked (d : Data) (roots : List (List ℕ)) (rest : ℕ) (found : L
   pub walked : reached_in (suc rest) d found names ≡ reached d roots
   pub front : IsFront found names
   pub named : list_all (λ s. has_hash s.name) found ≡ true
-  pub first : slice_get found 0 ≡ Some document_shape
 
-pub walked-start : (d : Data) (entries : List (List ℕ × Data)) (roots : List (List ℕ)) (rest : ℕ) (found : List Shape) (names : List (List ℕ)) → Some entries ≡ members_in d → rest ≡ length entries → found ≡ prelude
-    → names ≡ with_names (with_names [] (names_of prelude)) roots → IsWalked d roots rest found names
-walked-start d entries roots rest found names e r f n =
-    subst (λ k. IsWalked d roots k found names) (sym r)
-    (subst (λ ss. IsWalked d roots (length entries) ss names) (sym f)
-    (subst (λ ns. IsWalked d roots (length entries) prelude ns) (sym n)
-    (record { walked = walk-start d entries roots e; front = front-start roots; named = prelude-named; first = prelude-first })))
+pub walked-start : (d : Data) (entries : List (List ℕ × Data)) (roots : List (List ℕ)) (rest : ℕ) (found : List Shape) (names : List (List ℕ)) → Some entries ≡ members_in d → rest ≡ length entries + length prelude_kinds
+    → found ≡ [] → names ≡ with_names [] roots → IsWalked d roots rest found names
+unfolding reached
+walked-start d entries roots rest found names e r f n = rw f (record { walked = rw (← e, r, n) refl; front = record { rest = names; front = refl }; named = refl })
 
 pub walked-more : (d : Data) (roots : List (List ℕ)) (rest less : ℕ) (found : List Shape) (names : List (List ℕ)) (n : List ℕ) (s : Shape) (after : List Shape) (more : List (List ℕ)) → slice_get names (length found) ≡ Some n → shape_at d n ≡ Some s
     → rest ≡ suc less → after ≡ found ++ s ∷ [] → more ≡ with_targets names s.members → IsWalked d roots rest found names → IsWalked d roots less after more
@@ -233,7 +230,6 @@ walked-more d roots rest less found names n s after more at there r a m h =
       walked = subst (λ k. reached_in k d (found ++ s ∷ []) (with_targets names s.members) ≡ reached d roots) r (walk-more rest d found names n s (reached d roots) at there h.walked);
       front = front-more found names (map (λ x. x.target) s.members) n s h.front at same;
       named = named-more found s n same (shape_at-hash d n s there) h.named;
-      first = first-more found (s ∷ []) document_shape h.first;
     }))
 
 -- a further shape and no step left

@@ -1,16 +1,13 @@
 -- Tables of shapes, and the schemas that stand in them.
-use Rattle.std.proofs.Common.{◌≡◌, Vec, Global, refl, sym, ap, ◌∙◌, subst, cond, ℕ, ◌+◌, Bool, true, false, List, [], ◌∷◌, ◌++◌, append_assoc, length, length-append, map, find, arith, Option, Some, None, option_map, option_and_then, Result, Err}
-use Rattle.std.specs.List.{slice_get}
+use Rattle.std.proofs.Common.{◌≡◌, Vec, Global, refl, sym, ap, ◌∙◌, subst, cond, ℕ, zero, suc, ◌+◌, Bool, true, false, List, [], ◌∷◌, ◌++◌, append_assoc, length, length-append, map, find, arith, Option, Some, None, option_map, option_and_then, Result, Err}
 use Rattle.std.proofs.lemmas.List.{append-nil, length-map}
 use Rattle.smithy_types.specs.Results.{each}
-use Rattle.smithy_ids.specs.Traits.{Http}
 use Rattle.smithy_schema.specs.Nodes.{Node, Table, Schema, node_at, at_place}
 use Rattle.smithy_model.specs.Names.{is}
 use Rattle.smithy_model.specs.Shapes.{Shape}
-use Rattle.smithy_model.specs.Nodes.{Spot, Errors, spots, spots_from, spot_named, member_count, member_nodes, shape_node, input_node, nodes_of, schema_with, schema_behind, schema_of, place_named, schema_named, errors_of}
-use Rattle.smithy_model.specs.ReachedView.{document_shape}
+use Rattle.smithy_model.specs.Nodes.{Spot, Errors, spots, spots_from, spot_named, member_count, member_nodes, shape_node, nodes_of, schema_with, natural_node, schema_of, place_named, schema_named, errors_of}
 use Rattle.smithy_model.specs.NodeView.{filled, IsFilledBy, IsFilled}
-use Rattle.smithy_model.specs.PlacedView.{natural_node, IsPlacedAt, StandAt, PlacesErrors}
+use Rattle.smithy_model.specs.PlacedView.{IsPlacedAt, StandAt, PlacesErrors}
 use Rattle.smithy_model.specs.Reads.{Reads}
 use Rattle.smithy_model.specs.declared.error.JobError.{JobError}
 use Rattle.smithy_model.specs.declared.error.JobError.TheVariants.{NoJob, OutOfMemory}
@@ -111,54 +108,47 @@ spot-node f before first place (x ∷ xs) name spot p e =
         subst (λ s. node_at (map Some (before ++ f here ∷ map f rest)) s.place ≡ Some (f s)) same (subst (λ i. node_at (map Some (before ++ f here ∷ map f rest)) i ≡ Some (f here)) p (node_behind before (f here) (map f rest)))
     go false more h = subst (λ ns. node_at (map Some ns) spot.place ≡ Some (f spot)) (append_assoc before (f here ∷ []) (map f rest)) (more h)
 
--- the first node of the shapes is that of natural values
-natural-first : (ss : List Spot) (first place : ℕ) (xs : List Shape) → slice_get xs 0 ≡ Some document_shape → (more : List Node) × (map (shape_node ss) (spots_from first place xs) ≡ natural_node ∷ more)
-natural-first ss first place [] e = absurd (cc e)
-natural-first ss first place (x ∷ xs) e =
-    let same : x ≡ document_shape = cc in
-    let more = map (shape_node ss) (spots_from (first + length x.members) (place + 1) xs) in
-    (more, subst (λ y. shape_node ss (record { place = place; first = first; shape = y }) ∷ more ≡ natural_node ∷ more) (sym same) refl)
+node_front : (xs ys : List Node) (i : ℕ) (n : Node) → node_at (map Some xs) i ≡ Some n → node_at (map Some (xs ++ ys)) i ≡ Some n
+node_front [] ys i n e = absurd (cc e)
+node_front (x ∷ xs) ys zero n e = e
+node_front (x ∷ xs) ys (suc i) n e = node_front xs ys i n e
 
-pub natural-there : (xs : List Shape) (ns more : List Node) → slice_get xs 0 ≡ Some document_shape → AreNodes xs ns → node_at (map Some (ns ++ more)) (member_count xs) ≡ Some natural_node
-natural-there xs ns more document h =
-    let first = natural-first (spots xs) 0 (member_count xs) xs document in
-    let are : ns ++ more ≡ h.members ++ natural_node ∷ (first.0 ++ more) =
-    ap (λ (zs : List Node). zs ++ more) (h.are ∙ ap (λ (zs : List Node). h.members ++ zs) first.1) ∙ append_assoc h.members (natural_node ∷ first.0) more in
-    subst (λ zs. node_at (map Some zs) (member_count xs) ≡ Some natural_node) (sym are)
-    (subst (λ i. node_at (map Some (h.members ++ natural_node ∷ (first.0 ++ more))) i ≡ Some natural_node) h.count (node_behind h.members natural_node (first.0 ++ more)))
+-- the node of the shape of this name, in the table of all
+shape-there : (xs : List Shape) (ns : List Node) (name : List ℕ) (spot : Spot) → AreNodes xs ns → spot_named (spots xs) name ≡ Some spot → node_at (map Some ns) spot.place ≡ Some (shape_node (spots xs) spot)
+unfolding spot_named
+shape-there xs ns name spot h f =
+    subst (λ zs. node_at (map Some zs) spot.place ≡ Some (shape_node (spots xs) spot)) (sym h.are) (spot-node (shape_node (spots xs)) h.members 0 (member_count xs) xs name spot h.count f)
 
-schema-is : (xs : List Shape) (http : Option Http) (name : List ℕ) (spot : Spot) (ns : List Node) → spot_named (spots xs) name ≡ Some spot → nodes_of xs ≡ Some ns
-    → schema_of xs http name ≡ Some (schema_behind (input_node (spots xs) http spot) ns)
+pub schema-placed : (xs : List Shape) (name : List ℕ) (ss : List Spot) (spot : Spot) (natural : ℕ) (t0 : Table) (p : Placed) → ss ≡ spots xs → spot_named ss name ≡ Some spot → natural ≡ member_count xs + length xs → made xs 1 ≡ Some t0
+    → IsFilledBy natural (natural_node ∷ []) t0 p.table → p.place.0 ≡ spot.place → p.natural.0 ≡ natural → IsPlacedAt (schema_of xs name) p
 unfolding schema_of
-schema-is xs http name spot ns e f = rw (e, f) refl
-
-pub schema-placed : (xs : List Shape) (http : Option Http) (name : List ℕ) (ss : List Spot) (spot : Spot) (count place : ℕ) (t0 : Table) (p : Placed) → slice_get xs 0 ≡ Some document_shape
-    → ss ≡ spots xs → spot_named ss name ≡ Some spot → count ≡ member_count xs → place ≡ count + length xs → made xs 1 ≡ Some t0
-    → IsFilledBy place (input_node ss http spot ∷ []) t0 p.table → p.place.0 ≡ place → p.natural.0 ≡ count → IsPlacedAt (schema_of xs http name) p
-schema-placed xs http name ss spot count place t0 p document are e c q m last at natural =
+schema-placed xs name ss spot natural t0 p are e q m last at behind =
     let table = made-so xs 1 t0 m in
     let ns = table.nodes in
+    let all = ns ++ natural_node ∷ [] in
     let nodes = nodes-are xs ns table.of in
-    let input = input_node (spots xs) http spot in
-    let long : length ns ≡ place = nodes-count xs ns nodes ∙ ap (λ n. n + length xs) (sym c) ∙ sym q in
-    let filled_last : IsFilledBy place (input ∷ []) t0 p.table = rw are at last in
-    let whole : p.table ≡ map Some (ns ++ input ∷ []) = filled_last ns 0 long table.filled_so ∙ append-nil (map Some (ns ++ input ∷ [])) in
-    let there : node_at (map Some (ns ++ input ∷ [])) p.place.0 ≡ Some input = subst (λ i. node_at (map Some (ns ++ input ∷ [])) i ≡ Some input) (long ∙ sym at) (node_behind ns input []) in
-    let of_values : node_at (map Some (ns ++ input ∷ [])) p.natural.0 ≡ Some natural_node =
-    subst (λ i. node_at (map Some (ns ++ input ∷ [])) i ≡ Some natural_node) (sym c ∙ sym natural) (natural-there xs ns (input ∷ []) document nodes) in
-    rw (schema-is xs http name spot ns (rw are at e) table.of) (record { nodes = whole; node = rw there refl; natural = of_values })
+    let long : length ns ≡ natural = nodes-count xs ns nodes ∙ sym q in
+    let named : spot_named (spots xs) name ≡ Some spot = rw are at e in
+    let whole : p.table ≡ map Some all = last ns 0 long table.filled_so ∙ append-nil (map Some all) in
+    let there : node_at (map Some all) p.place.0 ≡ Some (shape_node (spots xs) spot) =
+    subst (λ i. node_at (map Some all) i ≡ Some (shape_node (spots xs) spot)) (sym at) (node_front ns (natural_node ∷ []) spot.place _ (shape-there xs ns name spot nodes named)) in
+    let of_values : node_at (map Some all) p.natural.0 ≡ Some natural_node = subst (λ i. node_at (map Some all) i ≡ Some natural_node) (long ∙ sym behind) (node_behind ns natural_node []) in
+    rw (table.of, named) (record { nodes = whole; node = rw there refl; natural = of_values })
 
-pub schema-absent : (xs : List Shape) (http : Option Http) (name : List ℕ) (ss : List Spot) → ss ≡ spots xs → spot_named ss name ≡ None → schema_of xs http name ≡ None
+pub schema-absent : (xs : List Shape) (name : List ℕ) (ss : List Spot) → ss ≡ spots xs → spot_named ss name ≡ None → schema_of xs name ≡ None
 unfolding schema_of
-schema-absent xs http name ss are e = let none : spot_named (spots xs) name ≡ None = rw are at e in rw none refl
-
-pub schema-without : (xs : List Shape) (http : Option Http) (name : List ℕ) → nodes_of xs ≡ None → schema_of xs http name ≡ None
-unfolding schema_of
-schema-without xs http name none = go (spot_named (spots xs) name)
+schema-absent xs name ss are e = let none : spot_named (spots xs) name ≡ None = rw are at e in rw none (go (nodes_of xs))
   where
-    go : (o : Option Spot) → option_and_then (λ spot. option_map (schema_behind (input_node (spots xs) http spot)) (nodes_of xs)) o ≡ None
+    none : Option Schema
+    none = None
+
+    go : (o : Option (List Node)) → option_and_then (λ ns. none) o ≡ None
     go None = refl
-    go (Some spot) = rw none refl
+    go (Some ns) = refl
+
+pub schema-without : (xs : List Shape) (name : List ℕ) → nodes_of xs ≡ None → schema_of xs name ≡ None
+unfolding schema_of
+schema-without xs name none = rw none refl
 
 -- the schemas of these names stand at these places
 pub record AreThere (ns : List Node) (ss : List Spot) (names : List (List ℕ)) (places : List ℕ) : Type 0 where
@@ -167,7 +157,6 @@ pub record AreThere (ns : List Node) (ss : List Spot) (names : List (List ℕ)) 
   pub there : map (at_place (map Some ns)) places ≡ map Some schemas
 
 there-first : (xs : List Shape) (ns : List Node) → AreNodes xs ns → (names : List (List ℕ)) (places : List ℕ) → each (place_named (spots xs)) names ≡ Some places → AreThere ns (spots xs) names places
-unfolding spot_named
 there-first xs ns h [] places e = let none : [] ≡ places = cc in subst (λ ps. AreThere ns (spots xs) [] ps) none (record { schemas = []; named = refl; there = refl })
 there-first xs ns h (name ∷ names) places e = go (spot_named (spots xs) name) refl (each (place_named (spots xs)) names) (there-first xs ns h names) e
   where
@@ -178,8 +167,7 @@ there-first xs ns h (name ∷ names) places e = go (spot_named (spots xs) name) 
     go (Some spot) f (Some ps) k g =
         let more = k ps refl in
         let all : spot.place ∷ ps ≡ places = cc in
-        let node : node_at (map Some ns) spot.place ≡ Some (shape_node (spots xs) spot) =
-        subst (λ zs. node_at (map Some zs) spot.place ≡ Some (shape_node (spots xs) spot)) (sym h.are) (spot-node (shape_node (spots xs)) h.members 0 (member_count xs) xs name spot h.count f) in
+        let node = shape-there xs ns name spot h f in
         subst (λ qs. AreThere ns (spots xs) (name ∷ names) qs) all (record {
           schemas = schema_with ns (shape_node (spots xs) spot) ∷ more.schemas;
           named = rw (f, more.named) refl;

@@ -7,6 +7,7 @@ use Rattle.smithy_schema.specs.Nodes.{Schema}
 use Rattle.smithy_model.specs.Names.{is}
 use Rattle.smithy_model.specs.Operations.{Operation, operation_at}
 use Rattle.smithy_model.specs.Reached.{reached}
+use Rattle.smithy_model.specs.Shapes.{Shape}
 use Rattle.smithy_model.specs.Nodes.{Errors, schema_of, errors_of}
 
 -- what has a schema: the input of an operation, its output, or its error of this full name
@@ -26,9 +27,14 @@ abbrev pub http_asked : Asked → Operation → Option Http
 http_asked input o = o.http
 http_asked _ o = None
 
--- the schema of the shape of this name, by those that are reached from it
+-- the first of these shapes has this `@http`, where there is one
+abbrev pub with_http : Option Http → List Shape → List Shape
+with_http (Some http) (s ∷ ss) = record s { traits = record s.traits { http = Some http } } ∷ ss
+with_http _ shapes = shapes
+
+-- the schema of the shape of this name, by those that are reached from it, of which it is the first
 abbrev pub schema_from : Data → Option Http → List ℕ → Option Schema
-schema_from shapes http name = option_and_then (λ found. schema_of found http name) (reached shapes (name ∷ []))
+schema_from shapes http name = option_and_then (λ found. schema_of (with_http http found) name) (reached shapes (name ∷ []))
 
 abbrev pub schema_in : Asked → Data → Operation → Option Schema
 schema_in asked shapes o = option_and_then (schema_from shapes (http_asked asked o)) (name_asked asked o)

@@ -1,5 +1,5 @@
--- The table of nodes of shapes: the members of all, each shape's behind those of the shape before it, then the shapes, then what is asked for.
-use Rattle.std.specs.Prelude.{ℕ, ◌+◌, List, [], ◌∷◌, ◌++◌, length, map, find, Bool, true, false, ◌&&◌, ◌||◌, Option, Some, None, option_map, option_and_then, if◌then◌else◌}
+-- The table of nodes of shapes: the members of all, each shape's behind those of the shape before it, then the shapes.
+use Rattle.std.specs.Prelude.{ℕ, codes, ◌+◌, List, [], ◌∷◌, ◌++◌, length, map, find, Bool, true, false, ◌&&◌, ◌||◌, Option, Some, None, option_map, option_and_then, if◌then◌else◌}
 use Rattle.std.specs.List.{list_all, list_any, range_with_len}
 use Rattle.std.specs.Option.{option_or}
 use Rattle.smithy_ids.specs.declared.shape_type.ShapeType.{ShapeType}
@@ -7,7 +7,6 @@ use Rattle.smithy_ids.specs.declared.shape_type.ShapeType.TheVariants as kind
 use Rattle.smithy_ids.specs.declared.payload_hint.PayloadHint.{PayloadHint}
 use Rattle.smithy_ids.specs.declared.payload_hint.PayloadHint.TheVariants.{Unknown, NoStructPayload, StructPayload}
 use Rattle.smithy_ids.specs.declared.traits.TimestampFormat.{TimestampFormat}
-use Rattle.smithy_ids.specs.Traits.{Http}
 use Rattle.smithy_schema.specs.Nodes.{Node, Schema, Traits, bare_node, binding_at, is_outside_body}
 use Rattle.smithy_types.specs.Results.{each}
 use Rattle.smithy_model.specs.Names.{is}
@@ -141,15 +140,6 @@ shape_node spots spot =
       hint = if is_structure spot.shape.kind then hint_of spots spot.shape.members else Unknown;
     }
 
--- the same with an operation's `@http`, where it has one
-abbrev pub with_http : Option Http → Node → Node
-with_http None node = node
-with_http (Some http) node = record node { traits = record node.traits { http = Some http } }
-
--- the input of an operation with this `@http`, by the shape at a spot
-abbrev pub input_node : List Spot → Option Http → Spot → Node
-input_node spots http spot = with_http http (shape_node spots spot)
-
 -- the members of all these shapes, then the shapes
 abbrev pub nodes_of : List Shape → Option (List Node)
 nodes_of shapes = option_map (λ members. members ++ map (shape_node (spots shapes)) (spots shapes)) (member_nodes (spots shapes) shapes)
@@ -157,14 +147,17 @@ nodes_of shapes = option_map (λ members. members ++ map (shape_node (spots shap
 abbrev pub schema_with : List Node → Node → Schema
 schema_with nodes node = record { table = map Some nodes; node = node }
 
--- a node behind these
-abbrev pub schema_behind : Node → List Node → Schema
-schema_behind node nodes = schema_with (nodes ++ node ∷ []) node
+-- the schema of the shape of this name
+abbrev pub schema_named : List Node → List Spot → List ℕ → Option Schema
+schema_named nodes spots name = option_map (λ spot. schema_with nodes (shape_node spots spot)) (spot_named spots name)
 
--- The schema of the shape of this name, with the `@http` of an operation whose input it is, on a node of its own behind these shapes.
-unfoldable pub schema_of : List Shape → Option Http → List ℕ → Option Schema
-schema_of shapes http name =
-    option_and_then (λ spot. option_map (schema_behind (input_node (spots shapes) http spot)) (nodes_of shapes)) (spot_named (spots shapes) name)
+-- the node of values that have none of their own: that of the prelude's document (Smithy, prelude model)
+abbrev pub natural_node : Node
+natural_node = bare_node (codes "smithy.api#Document") kind.Document
+
+-- The schema of the shape of this name, in the table of these shapes with the node of natural values behind them.
+unfoldable pub schema_of : List Shape → List ℕ → Option Schema
+schema_of shapes name = option_and_then (λ nodes. schema_named (nodes ++ natural_node ∷ []) (spots shapes) name) (nodes_of shapes)
 
 -- the place of the shape of this name
 abbrev pub place_named : List Spot → List ℕ → Option ℕ
@@ -174,9 +167,6 @@ place_named spots name = option_map (λ spot. spot.place) (spot_named spots name
 pub record Errors : Type 0 where
   pub operation : List Schema
   pub service : List Schema
-
-abbrev pub schema_named : List Node → List Spot → List ℕ → Option Schema
-schema_named nodes spots name = option_map (λ spot. schema_with nodes (shape_node spots spot)) (spot_named spots name)
 
 abbrev pub schemas_named : List Shape → List (List ℕ) → List Node → Option (List Schema)
 schemas_named shapes names nodes = each (schema_named nodes (spots shapes)) names

@@ -1,17 +1,12 @@
 -- Schemas of an operation, in a table.
-use Rattle.std.specs.Prelude.{◌≡◌, codes, List, map, Option, Some, None, Result, Ok, Err}
-use Rattle.smithy_ids.specs.declared.shape_type.ShapeType.TheVariants.{Document}
-use Rattle.smithy_schema.specs.Nodes.{Node, Table, Schema, bare_node, node_at, at_place}
+use Rattle.std.specs.Prelude.{◌≡◌, List, map, Option, Some, None, Result, Ok, Err}
+use Rattle.smithy_schema.specs.Nodes.{Table, Schema, node_at, at_place}
 use Rattle.smithy_schema.specs.declared.parts.SchemaIndex.{SchemaIndex}
-use Rattle.smithy_model.specs.Nodes.{Errors}
+use Rattle.smithy_model.specs.Nodes.{Errors, natural_node}
 use Rattle.smithy_model.specs.declared.error.JobError.{JobError}
 use Rattle.smithy_model.specs.declared.error.JobError.TheVariants.{NoJob, OutOfMemory}
 use Rattle.smithy_model.specs.declared.table.Placed.{Placed}
 use Rattle.smithy_model.specs.declared.table.PlacedErrors.{PlacedErrors}
-
--- the node of natural values: the prelude's document (Smithy, prelude model)
-abbrev pub natural_node : Node
-natural_node = bare_node (codes "smithy.api#Document") Document
 
 -- the schema's table, with its place and that of the node of natural values
 pub record IsPlaced (placed : Placed) (schema : Schema) : Type 0 where

@@ -1,12 +1,8 @@
 -- The shapes that every model has (Smithy, prelude model).
-use Rattle.std.specs.Prelude.{ℕ, List, [], ◌∷◌, codes, map}
+use Rattle.std.specs.Prelude.{ℕ, List, [], ◌∷◌, codes, find, Option, option_map}
 use Rattle.smithy_ids.specs.declared.shape_type.ShapeType.{ShapeType}
 use Rattle.smithy_ids.specs.declared.shape_type.ShapeType.TheVariants as kind
-use Rattle.smithy_schema.specs.Nodes.{no_traits}
-use Rattle.smithy_model.specs.Shapes.{Shape}
-
-abbrev pub prelude_shape : List ℕ × ShapeType → Shape
-prelude_shape p = record { name = p.0; kind = p.1; traits = no_traits; members = [] }
+use Rattle.smithy_model.specs.Names.{is}
 
 -- names and kinds; `Unit` is a structure without members, and the primitive ones are kinds by an older name
 abbrev pub prelude_kinds : List (List ℕ × ShapeType)
@@ -34,5 +30,6 @@ prelude_kinds =
     ∷ (codes "smithy.api#PrimitiveDouble", kind.Double)
     ∷ []
 
-unfoldable pub prelude : List Shape
-prelude = map prelude_shape prelude_kinds
+-- the kind of the prelude's shape of this name
+unfoldable pub prelude_kind : List ℕ → Option ShapeType
+prelude_kind name = option_map (λ p. p.1) (find (λ p. is p.0 name) prelude_kinds)

@@ -7,10 +7,11 @@ use Rattle.serde_json.specs.Find.{get}
 use Rattle.smithy_types.specs.Results.{each}
 use Rattle.smithy_ids.specs.declared.shape_type.ShapeType.{ShapeType}
 use Rattle.smithy_ids.specs.declared.shape_type.ShapeType.TheVariants as kind
-use Rattle.smithy_schema.specs.Nodes.{Traits}
+use Rattle.smithy_schema.specs.Nodes.{Traits, no_traits}
 use Rattle.smithy_model.specs.Json.{items_in, members_in, text_at, provided}
 use Rattle.smithy_model.specs.Names.{is, is_full_name}
 use Rattle.smithy_model.specs.GivenTraits.{traits_of}
+use Rattle.smithy_model.specs.Prelude.{prelude_kind}
 
 pub record Member : Type 0 where
   pub name : List ℕ
@@ -120,5 +121,13 @@ abbrev pub found_at : Data → List ℕ → Option Data
 found_at shapes name = provided (is_full_name name && not (is_of_prelude name)) (get name shapes)
 
 -- the shape that a model has at this name
+abbrev pub own_shape_at : Data → List ℕ → Option Shape
+own_shape_at shapes name = option_and_then (shape_in name) (found_at shapes name)
+
+-- a shape of the prelude
+abbrev pub prelude_shape : List ℕ → ShapeType → Shape
+prelude_shape name k = record { name = name; kind = k; traits = no_traits; members = [] }
+
+-- the shape of this name: the prelude's, and where it has none the model's own
 unfoldable pub shape_at : Data → List ℕ → Option Shape
-shape_at shapes name = option_and_then (shape_in name) (found_at shapes name)
+shape_at shapes name = option_or (option_map (prelude_shape name) (prelude_kind name)) (own_shape_at shapes name)

@@ -1,5 +1,5 @@
 -- The traits of shapes and members.
-use Rattle.std.specs.Prelude.{ℕ, List, codes, Bool, true, false, ◌&&◌, ◌||◌, nat_le, is_some, Option, Some, None, option_map, option_and_then, if◌then◌else◌}
+use Rattle.std.specs.Prelude.{ℕ, List, [], ◌∷◌, codes, find, Bool, true, false, ◌&&◌, ◌||◌, nat_le, is_some, Option, Some, None, option_map, option_and_then, if◌then◌else◌}
 use Rattle.std.specs.List.{list_all}
 use Rattle.std.specs.Option.{option_map_or}
 use Rattle.serde_json.specs.Data.{Data}
@@ -72,35 +72,44 @@ is_fit_trait entry = is_full_name entry.0 && has_form entry.0 entry.1
 abbrev pub are_fit_traits : Data → Bool
 are_fit_traits d = option_map_or (list_all is_fit_trait) (members_in d) false
 
-abbrev pub has : List ℕ → Data → Bool
-has id traits = is_some (get id traits)
-
 abbrev pub namespace_in : Data → Option Namespace
 namespace_in d = option_map (λ u. record { uri = u; prefix = text_at (codes "prefix") d }) (text_at (codes "uri") d)
 
--- the traits with a field of their own, by their names; `@http` is of operations alone
+-- The traits that have a field of their own, with what each sets by its value; `@http` is of operations alone.
+abbrev pub fields : List (List ℕ × (Data → Traits → Traits))
+fields =
+    (codes "smithy.api#httpHeader", λ d t. record t { http_header = as_str d })
+    ∷ (codes "smithy.api#httpPrefixHeaders", λ d t. record t { http_prefix_headers = as_str d })
+    ∷ (codes "smithy.api#httpQuery", λ d t. record t { http_query = as_str d })
+    ∷ (codes "smithy.api#httpQueryParams", λ d t. record t { http_query_params = true })
+    ∷ (codes "smithy.api#httpLabel", λ d t. record t { http_label = true })
+    ∷ (codes "smithy.api#httpPayload", λ d t. record t { http_payload = true })
+    ∷ (codes "smithy.api#httpResponseCode", λ d t. record t { http_response_code = true })
+    ∷ (codes "smithy.api#mediaType", λ d t. record t { media_type = as_str d })
+    ∷ (codes "smithy.api#timestampFormat", λ d t. record t { timestamp_format = time_format_in d })
+    ∷ (codes "smithy.api#streaming", λ d t. record t { streaming = true })
+    ∷ (codes "smithy.api#jsonName", λ d t. record t { json_name = as_str d })
+    ∷ (codes "smithy.api#xmlName", λ d t. record t { xml_name = as_str d })
+    ∷ (codes "smithy.api#xmlNamespace", λ d t. record t { xml_namespace = namespace_in d })
+    ∷ (codes "smithy.api#xmlAttribute", λ d t. record t { xml_attribute = true })
+    ∷ (codes "smithy.api#xmlFlattened", λ d t. record t { xml_flattened = true })
+    ∷ (codes "smithy.api#sensitive", λ d t. record t { sensitive = true })
+    ∷ (codes "smithy.api#hostLabel", λ d t. record t { host_label = true })
+    ∷ (codes "smithy.api#eventHeader", λ d t. record t { event_header = true })
+    ∷ (codes "smithy.api#eventPayload", λ d t. record t { event_payload = true })
+    ∷ []
+
+-- the traits with this one, where it has a field of its own
+unfoldable pub with_trait : Traits → List ℕ → Data → Traits
+with_trait t id d = option_map_or (λ field. field.1 d t) (find (λ field. is field.0 id) fields) t
+
+-- these traits with those of an object's members
+abbrev pub with_traits : Traits → List (List ℕ × Data) → Traits
+with_traits t [] = t
+with_traits t (entry ∷ entries) = with_traits (with_trait t entry.0 entry.1) entries
+
 abbrev pub plain_traits : Data → Traits
-plain_traits d = record no_traits {
-  http_header = text_at (codes "smithy.api#httpHeader") d;
-  http_prefix_headers = text_at (codes "smithy.api#httpPrefixHeaders") d;
-  http_query = text_at (codes "smithy.api#httpQuery") d;
-  http_query_params = has (codes "smithy.api#httpQueryParams") d;
-  http_label = has (codes "smithy.api#httpLabel") d;
-  http_payload = has (codes "smithy.api#httpPayload") d;
-  http_response_code = has (codes "smithy.api#httpResponseCode") d;
-  media_type = text_at (codes "smithy.api#mediaType") d;
-  timestamp_format = option_and_then time_format_in (get (codes "smithy.api#timestampFormat") d);
-  streaming = has (codes "smithy.api#streaming") d;
-  json_name = text_at (codes "smithy.api#jsonName") d;
-  xml_name = text_at (codes "smithy.api#xmlName") d;
-  xml_namespace = option_and_then namespace_in (get (codes "smithy.api#xmlNamespace") d);
-  xml_attribute = has (codes "smithy.api#xmlAttribute") d;
-  xml_flattened = has (codes "smithy.api#xmlFlattened") d;
-  sensitive = has (codes "smithy.api#sensitive") d;
-  host_label = has (codes "smithy.api#hostLabel") d;
-  event_header = has (codes "smithy.api#eventHeader") d;
-  event_payload = has (codes "smithy.api#eventPayload") d;
-}
+plain_traits d = option_map_or (with_traits no_traits) (members_in d) no_traits
 
 -- a whole number up to 65535
 abbrev pub code_in : Data → Option ℕ

@@ -8,7 +8,7 @@ ghost use Rattle.smithy_model.specs.PlacedView.{Places, PlacesErrors};
 
 use crate::error::JobError;
 use crate::operation::{name_asked, operation_at};
-use crate::reached::shapes_from;
+use crate::reached::{shapes_from, with_http};
 use crate::shape::{Asked, Operation};
 use crate::table::{Placed, PlacedErrors, errors_of, table_of};
 use serde_json::Value;
@@ -46,7 +46,11 @@ pub fn schema_of_operation(
         return Err(JobError::NoJob);
     };
     let reached = shapes_from(alloc, shapes, &[root])?;
-    table_of(alloc, &reached, http_asked(operation, asked), root)
+    table_of(
+        alloc,
+        &with_http(reached, http_asked(operation, asked)),
+        root,
+    )
 }
 
 /// The schemas of all errors of an operation of this full name, and of these errors of its service, in one table. Takes memory.

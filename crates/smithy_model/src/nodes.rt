@@ -14,7 +14,7 @@ use crate::passed::{copied, passed_traits};
 use crate::shape::Member;
 use crate::spots::{Spot, SpotMap, place_behind};
 use crate::structure::{are_outside, hint_of, is_structure};
-use smithy_ids::{HttpTrait, ShapeId, ShapeType};
+use smithy_ids::{ShapeId, ShapeType};
 use smithy_schema::{Schema, SchemaIndex, Schemas};
 use smithy_types::OutOfMemory;
 use std::alloc::Global;
@@ -118,28 +118,18 @@ fn with_flag<'a>(schema: Schema<'a>, are_outside: bool) -> Schema<'a>
     }
 }
 
-fn with_http<'a>(schema: Schema<'a>, http: Option<HttpTrait<'a>>) -> Schema<'a>
-    ensures { result ≡ defined.with_http http.entry schema.entry }
-{
-    match http {
-        Some(http) => schema.with_http(http),
-        None => schema,
-    }
-}
-
-// Gives a place the node of a structure or a union, with an operation's `@http`.
+// Gives a place the node of a structure or a union.
 fn define_structure<'v, 's>(
     alloc: Global,
     table: &mut Schemas,
     spots: &SpotMap<'v, 's>,
     place: usize,
     spot: Spot<'v, 's>,
-    http: Option<HttpTrait<'v>>,
 ) -> Result<(), OutOfMemory>
     requires structure { defined.is_structure spot.shape.now.kind ≡ true }
     requires name { has_hash spot.shape.now.name.now ≡ true }
     ensures { OnOk result (IsFilledBy place
-        (defined.input_node (spots_of spots.now) http.entry (spot_view spot.entry) ∷ [])
+        (defined.shape_node (spots_of spots.now) (spot_view spot.entry) ∷ [])
         table.old table.new) }
 {
     let shape = spot.shape;
@@ -152,29 +142,36 @@ fn define_structure<'v, 's>(
     ).with_payload_hint(hint_of(spots, members));
     let schema = with_flag(schema, are_outside(members));
     let schema = with_traits(alloc, schema, copied(&shape.traits))?;
-    define(table, place, with_http(schema, http))
+    define(table, place, schema)
 }
 
-/// Gives a place the node of a shape, with an operation's `@http`. Takes memory.
+/// Gives a place the node of a shape. Takes memory.
 pub fn define_shape<'v, 's>(
     alloc: Global,
     table: &mut Schemas,
     spots: &SpotMap<'v, 's>,
     place: usize,
     spot: Spot<'v, 's>,
-    http: Option<HttpTrait<'v>>,
 ) -> Result<(), OutOfMemory>
     requires { has_hash spot.shape.now.name.now ≡ true }
     ensures { OnOk result (IsFilledBy place
-        (defined.input_node (spots_of spots.now) http.entry (spot_view spot.entry) ∷ [])
+        (defined.shape_node (spots_of spots.now) (spot_view spot.entry) ∷ [])
         table.old table.new) }
 {
     let shape = spot.shape;
     if is_structure(shape.kind) {
-        return define_structure(alloc, table, spots, place, spot, http);
+        return define_structure(alloc, table, spots, place, spot);
     }
     let schema = Schema::new(shape_id(shape.name), shape.kind);
     let schema = holding(schema, shape.kind, spot.first)?;
     let schema = with_traits(alloc, schema, copied(&shape.traits))?;
-    define(table, place, with_http(schema, http))
+    define(table, place, schema)
+}
+
+/// Gives a place the node of natural values. Takes memory.
+pub fn define_natural(table: &mut Schemas, place: usize) -> Result<(), OutOfMemory>
+    ensures { OnOk result (IsFilledBy place (defined.natural_node ∷ []) table.old table.new) }
+{
+    let id = shape_id("smithy.api#Document");
+    define(table, place, Schema::new(id, ShapeType::Document))
 }

@@ -1,15 +1,44 @@
 // The shapes that every model has.
-ghost use Rattle.std.specs.Prelude.{◌≡◌, map, IfOk};
-ghost use Rattle.smithy_model.specs.Prelude.{prelude_shape, prelude as prelude_lem};
+ghost use Rattle.std.specs.Prelude.{◌≡◌};
+ghost use Rattle.smithy_model.specs.Prelude.{prelude_kind};
+ghost use Rattle.smithy_model.specs.Shapes.{prelude_shape};
 ghost use Rattle.smithy_model.specs.ModelView.{shape_view};
 
 use crate::shape::Shape;
 use crate::traits::no_traits;
 use smithy_ids::ShapeType;
-use std::alloc::{AllocError, Global};
+use std::alloc::Global;
 
-fn shape<'v>(alloc: Global, name: &'static str, kind: ShapeType) -> Shape<'v>
-    ensures { shape_view result ≡ prelude_shape (name.now, kind) }
+/// How many shapes the prelude has.
+pub const COUNT: usize = 21;
+
+/// The kind of the prelude's shape of this name (Smithy, prelude model). Takes no memory.
+#[tactic(auto, unfolding(crate::specs::Prelude::prelude_kind))]
+pub fn prelude_kind(name: &str) -> Option<ShapeType>
+    ensures { result ≡ prelude_kind name.now }
+{
+    match name {
+        "smithy.api#Document" => Some(ShapeType::Document),
+        "smithy.api#String" => Some(ShapeType::String),
+        "smithy.api#Boolean" | "smithy.api#PrimitiveBoolean" => Some(ShapeType::Boolean),
+        "smithy.api#Byte" | "smithy.api#PrimitiveByte" => Some(ShapeType::Byte),
+        "smithy.api#Short" | "smithy.api#PrimitiveShort" => Some(ShapeType::Short),
+        "smithy.api#Integer" | "smithy.api#PrimitiveInteger" => Some(ShapeType::Integer),
+        "smithy.api#Long" | "smithy.api#PrimitiveLong" => Some(ShapeType::Long),
+        "smithy.api#Float" | "smithy.api#PrimitiveFloat" => Some(ShapeType::Float),
+        "smithy.api#Double" | "smithy.api#PrimitiveDouble" => Some(ShapeType::Double),
+        "smithy.api#BigInteger" => Some(ShapeType::BigInteger),
+        "smithy.api#BigDecimal" => Some(ShapeType::BigDecimal),
+        "smithy.api#Blob" => Some(ShapeType::Blob),
+        "smithy.api#Timestamp" => Some(ShapeType::Timestamp),
+        "smithy.api#Unit" => Some(ShapeType::Structure),
+        _ => None,
+    }
+}
+
+/// A shape of the prelude: it has no traits and no members. Takes no memory.
+pub fn prelude_shape<'v>(alloc: Global, name: &'v str, kind: ShapeType) -> Shape<'v>
+    ensures { shape_view result ≡ prelude_shape name.now kind }
 {
     Shape {
         name,
@@ -17,34 +46,4 @@ fn shape<'v>(alloc: Global, name: &'static str, kind: ShapeType) -> Shape<'v>
         traits: no_traits(),
         members: Vec::new(alloc),
     }
-}
-
-/// The shapes of the prelude (Smithy, prelude model). Takes memory.
-#[tactic(auto, unfolding(crate::specs::Prelude::prelude))]
-pub fn prelude<'v>(alloc: Global) -> Result<Vec<Shape<'v>>, AllocError>
-    ensures { IfOk result (λ v. map shape_view v.items ≡ prelude_lem) }
-{
-    Ok(vec![in alloc;
-        shape(alloc, "smithy.api#Document", ShapeType::Document),
-        shape(alloc, "smithy.api#String", ShapeType::String),
-        shape(alloc, "smithy.api#Boolean", ShapeType::Boolean),
-        shape(alloc, "smithy.api#Byte", ShapeType::Byte),
-        shape(alloc, "smithy.api#Short", ShapeType::Short),
-        shape(alloc, "smithy.api#Integer", ShapeType::Integer),
-        shape(alloc, "smithy.api#Long", ShapeType::Long),
-        shape(alloc, "smithy.api#Float", ShapeType::Float),
-        shape(alloc, "smithy.api#Double", ShapeType::Double),
-        shape(alloc, "smithy.api#BigInteger", ShapeType::BigInteger),
-        shape(alloc, "smithy.api#BigDecimal", ShapeType::BigDecimal),
-        shape(alloc, "smithy.api#Blob", ShapeType::Blob),
-        shape(alloc, "smithy.api#Timestamp", ShapeType::Timestamp),
-        shape(alloc, "smithy.api#Unit", ShapeType::Structure),
-        shape(alloc, "smithy.api#PrimitiveBoolean", ShapeType::Boolean),
-        shape(alloc, "smithy.api#PrimitiveByte", ShapeType::Byte),
-        shape(alloc, "smithy.api#PrimitiveShort", ShapeType::Short),
-        shape(alloc, "smithy.api#PrimitiveInteger", ShapeType::Integer),
-        shape(alloc, "smithy.api#PrimitiveLong", ShapeType::Long),
-        shape(alloc, "smithy.api#PrimitiveFloat", ShapeType::Float),
-        shape(alloc, "smithy.api#PrimitiveDouble", ShapeType::Double),
-    ]?)
 }

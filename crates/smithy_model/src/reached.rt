@@ -1,17 +1,20 @@
 // The shapes that are reached from some.
-ghost use Rattle.std.specs.Prelude.{◌≡◌, ◌++◌, ◌∷◌, [], false, map, IfOk, OnOk};
+ghost use Rattle.std.specs.Prelude.{◌≡◌, ◌++◌, ◌∷◌, [], false, map, IfOk, OnOk, Some};
 ghost use Rattle.serde_json.specs.View.{view};
-ghost use Rattle.smithy_model.specs.Reached.{is_among, with_name, with_names, with_targets, names_of, reached};
+ghost use Rattle.smithy_model.specs.Reached.{is_among, with_name, with_names, with_targets, reached};
+ghost use Rattle.smithy_model.specs.Models.{with_http as with_http_lem};
 ghost use Rattle.smithy_model.specs.Reads.{Reads};
 ghost use Rattle.smithy_model.specs.ModelView.{member_view, shape_view};
 ghost use Rattle.smithy_model.specs.PlaceView.{texts, ArePlaces};
 ghost use Rattle.smithy_model.specs.ReachedView.{IsWhole};
 
 use crate::error::JobError;
-use crate::prelude::prelude;
+use crate::prelude::COUNT;
 use crate::shape::{Member, Shape};
 use crate::shapes::shape_at;
+use crate::spots::place_behind;
 use serde_json::Value;
+use smithy_ids::HttpTrait;
 use std::alloc::{AllocError, Global};
 use std::collections::BTreeMap;
 
@@ -72,23 +75,6 @@ fn meet_targets<'v>(
     Ok(())
 }
 
-// Adds the names of these shapes.
-fn meet_shapes<'v>(
-    names: &mut Vec<&'v str>,
-    places: &mut BTreeMap<&'v str, usize>,
-    shapes: &[Shape<'v>],
-) -> Result<(), AllocError>
-    requires { ArePlaces places.old (texts names.old.items) }
-    ensures names { OnOk result
-        (texts names.new.items ≡ with_names (texts names.old.items) (names_of (map shape_view shapes.now))) }
-    ensures places { OnOk result (ArePlaces places.new (texts names.new.items)) }
-{
-    for shape in shapes {
-        meet(names, places, shape.name)?;
-    }
-    Ok(())
-}
-
 // Adds these names.
 fn meet_names<'v>(
     names: &mut Vec<&'v str>,
@@ -106,7 +92,7 @@ fn meet_names<'v>(
     Ok(())
 }
 
-/// The shapes of the prelude, and those of a model that are reached from these names, in the order in which they are met.
+/// The shapes of a model and of the prelude that are reached from these names, in the order in which they are met.
 /// It looks at each shape once. Takes memory.
 ///
 /// No job where a name has no shape, or one that hasn't its form (Smithy, JSON AST).
@@ -122,12 +108,11 @@ pub fn shapes_from<'v>(
     let Some(object) = shapes.as_object() else {
         return Err(JobError::NoJob);
     };
-    let mut found = prelude(alloc)?;
+    let mut found = Vec::new(alloc);
     let mut names = Vec::new(alloc);
     let mut places = BTreeMap::new(alloc);
-    meet_shapes(&mut names, &mut places, found.as_slice())?;
     meet_names(&mut names, &mut places, roots)?;
-    let mut rest = object.len();
+    let mut rest = place_behind(object.len(), COUNT)?;
     'walk: while let Some(name) = names.as_slice().get(found.as_slice().len()) {
         let shape = shape_at(alloc, shapes, name)?;
         meet_targets(&mut names, &mut places, shape.members.as_slice())?;
@@ -141,4 +126,26 @@ pub fn shapes_from<'v>(
         shapes: found,
         places,
     })
+}
+
+fn set_http<'v>(shapes: &mut [Shape<'v>], http: HttpTrait<'v>)
+    ensures { map shape_view shapes.new ≡ with_http_lem (Some http.entry) (map shape_view shapes.old) }
+{
+    if let [first, ..] = shapes {
+        first.traits.plain.http = Some(http);
+    }
+}
+
+/// The same shapes, the first with an operation's `@http` where it has one. Takes no memory.
+pub fn with_http<'v>(reached: Reached<'v>, http: Option<HttpTrait<'v>>) -> Reached<'v>
+    requires { IsWhole reached }
+    ensures shapes { map shape_view result.shapes.items
+        ≡ with_http_lem http.entry (map shape_view reached.entry.shapes.items) }
+    ensures whole { IsWhole result }
+{
+    let Reached { mut shapes, places } = reached;
+    if let Some(http) = http {
+        set_http(shapes.as_mut_slice(), http);
+    }
+    Reached { shapes, places }
 }

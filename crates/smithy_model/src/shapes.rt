@@ -5,12 +5,13 @@ ghost use Rattle.serde_json.specs.View.{view};
 ghost use Rattle.smithy_types.specs.Results.{each};
 ghost use Rattle.smithy_model.specs.Reads.{Reads};
 ghost use Rattle.smithy_model.specs.Seen.{entry_view};
-ghost use Rattle.smithy_model.specs.Shapes.{member_at, member_in, part_at, members_at, element_in, key_and_value_in, members_by, number_kind, simple_kind, other_kind, kind_named, kind_in, has_no_mixins, shape_with, shape_in, is_of_prelude, found_at, shape_at};
+ghost use Rattle.smithy_model.specs.Shapes.{member_at, member_in, part_at, members_at, element_in, key_and_value_in, members_by, number_kind, simple_kind, other_kind, kind_named, kind_in, has_no_mixins, shape_with, shape_in, is_of_prelude, found_at, own_shape_at, shape_at};
 ghost use Rattle.smithy_model.specs.ModelView.{member_view, shape_view};
 
 use crate::error::JobError;
 use crate::json_value::{items_of, text_of};
 use crate::name::is_full_name;
+use crate::prelude::{prelude_kind, prelude_shape};
 use crate::shape::{Member, Shape};
 use crate::traits::traits_of;
 use serde_json::{Map, Value};
@@ -263,15 +264,24 @@ pub fn found_at<'v>(shapes: &'v Value, name: &str) -> Option<&'v Value>
     shapes.get(name)
 }
 
-/// The shape that a model has at this name. Takes memory for the list of its members.
-///
-/// No job where it has none, or one that hasn't its form.
-#[tactic(auto, unfolding(crate::specs::Shapes::shape_at))]
-pub fn shape_at<'v>(alloc: Global, shapes: &'v Value, name: &'v str) -> Result<Shape<'v>, JobError>
-    ensures { Reads shape_view (shape_at (view shapes.now) name.now) result }
+fn own_shape_at<'v>(alloc: Global, shapes: &'v Value, name: &'v str) -> Result<Shape<'v>, JobError>
+    ensures { Reads shape_view (own_shape_at (view shapes.now) name.now) result }
 {
     match found_at(shapes, name) {
         Some(shape) => shape_in(alloc, name, shape),
         None => Err(JobError::NoJob),
+    }
+}
+
+/// The shape of this name, the prelude's or a model's own. Takes memory for the list of its members.
+///
+/// No job where there is none, or one that hasn't its form.
+#[tactic(auto, unfolding(crate::specs::Shapes::shape_at))]
+pub fn shape_at<'v>(alloc: Global, shapes: &'v Value, name: &'v str) -> Result<Shape<'v>, JobError>
+    ensures { Reads shape_view (shape_at (view shapes.now) name.now) result }
+{
+    match prelude_kind(name) {
+        Some(kind) => Ok(prelude_shape(alloc, name, kind)),
+        None => own_shape_at(alloc, shapes, name),
     }
 }

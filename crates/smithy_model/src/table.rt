@@ -13,24 +13,23 @@ ghost use Rattle.smithy_model.specs.PlacedView.{Places, PlacesErrors};
 ghost use Rattle.smithy_model.specs.Reads.{Reads};
 
 use crate::error::JobError;
-use crate::nodes::{define_member, define_shape};
+use crate::nodes::{define_member, define_natural, define_shape};
 use crate::passed::spot_named;
 use crate::reached::Reached;
 use crate::shape::{Member, Shape};
 use crate::spots::{SpotMap, member_count, place_behind, spots_from};
-use smithy_ids::HttpTrait;
 use smithy_schema::{SchemaIndex, Schemas};
 use smithy_types::OutOfMemory;
 use std::alloc::Global;
 
 /// A schema of an operation in a table of nodes: the members of all shapes that it reaches, each shape's behind those of the
-/// shape before it, then the shapes, then the schema's own node, an input's with the operation's `@http`.
+/// shape before it, then the shapes, an input with the operation's `@http`, then the prelude's document.
 #[derive(Drop)]
 pub struct Placed {
     pub table: Schemas,
-    /// The schema's place, the last one.
+    /// The schema's place.
     pub place: SchemaIndex,
-    /// The place of the prelude's document, the node of values without a node of their own.
+    /// The place of the prelude's document behind all shapes, the node of values without a node of their own.
     pub natural: SchemaIndex,
 }
 
@@ -112,7 +111,7 @@ fn define_shapes<'v, 's>(
 {
     for (index, spot) in spots.spots.as_slice().iter().enumerate() {
         let place = place_behind(first, index)?;
-        define_shape(alloc, table, spots, place, *spot, None)?;
+        define_shape(alloc, table, spots, place, *spot)?;
     }
     Ok(())
 }
@@ -152,32 +151,25 @@ fn shapes_table<'v, 's>(
     Ok(table)
 }
 
-/// The table of these shapes, with the schema of the shape of this name at its last place. Takes memory.
+/// The table of these shapes, with the place of the shape of this name and that of natural values. Takes memory.
 ///
 /// No job where a target, or the shape itself, isn't among the shapes.
 #[tactic(auto, unfolding(crate::specs::Nodes::schema_of))]
-pub fn table_of<'v>(
-    alloc: Global,
-    reached: &Reached<'v>,
-    http: Option<HttpTrait<'v>>,
-    name: &str,
-) -> Result<Placed, JobError>
+pub fn table_of<'v>(alloc: Global, reached: &Reached<'v>, name: &str) -> Result<Placed, JobError>
     requires { IsWhole reached.now }
-    ensures { Places
-        (defined.schema_of (map shape_view reached.now.shapes.items) http.entry name.now) result }
+    ensures { Places (defined.schema_of (map shape_view reached.now.shapes.items) name.now) result }
 {
-    let shapes = reached.shapes.as_slice();
     let spots = spots_in(alloc, reached)?;
     let Some(spot) = spot_named(&spots, name) else {
         return Err(JobError::NoJob);
     };
     let mut table = shapes_table(alloc, reached, &spots, 1)?;
-    let place = place_behind(spots.first, shapes.len())?;
-    define_shape(alloc, &mut table, &spots, place, spot, http)?;
+    let natural = place_behind(spots.first, reached.shapes.as_slice().len())?;
+    define_natural(&mut table, natural)?;
     Ok(Placed {
         table,
-        place: SchemaIndex(place),
-        natural: SchemaIndex(spots.first),
+        place: SchemaIndex(spot.place),
+        natural: SchemaIndex(natural),
     })
 }
 

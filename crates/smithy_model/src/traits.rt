@@ -1,12 +1,12 @@
 // The traits of shapes and members.
-ghost use Rattle.std.specs.Prelude.{◌≡◌, codes, map, option_map, option_and_then};
+ghost use Rattle.std.specs.Prelude.{◌≡◌, codes, map, option_map};
 ghost use Rattle.std.specs.List.{list_all};
 ghost use Rattle.serde_json.specs.View.{view};
 ghost use Rattle.serde_json.specs.Find.{get};
 ghost use Rattle.smithy_schema.specs.Nodes.{no_traits as without_traits};
 ghost use Rattle.smithy_schema.specs.DescribedTraits.{traits_described};
 ghost use Rattle.smithy_model.specs.Seen.{entry_view};
-ghost use Rattle.smithy_model.specs.Traits.{is_text_trait, is_namespace, time_format, time_format_in, has_form, is_fit_trait, are_fit_traits, has, namespace_in, plain_traits, code_at, http_in};
+ghost use Rattle.smithy_model.specs.Traits.{is_text_trait, is_namespace, time_format, time_format_in, has_form, is_fit_trait, are_fit_traits, namespace_in, with_trait, with_traits, plain_traits, code_at, http_in};
 ghost use Rattle.smithy_model.specs.GivenTraits.{fit_traits, traits_of};
 ghost use Rattle.smithy_model.specs.ModelView.{traits_view};
 
@@ -105,12 +105,6 @@ pub fn no_traits<'v>() -> ShapeTraits<'v>
     }
 }
 
-fn has(traits: &Value, id: &str) -> bool
-    ensures { result ≡ has id.now (view traits.now) }
-{
-    traits.get(id).is_some()
-}
-
 fn namespace_of<'v>(value: &'v Value) -> Option<XmlNamespaceTrait<'v>>
     ensures { result ≡ namespace_in (view value.now) }
 {
@@ -118,44 +112,53 @@ fn namespace_of<'v>(value: &'v Value) -> Option<XmlNamespaceTrait<'v>>
     Some(XmlNamespaceTrait::new(uri, text_of(value, "prefix")))
 }
 
-fn namespace_at<'v>(traits: &'v Value) -> Option<XmlNamespaceTrait<'v>>
-    ensures { result
-        ≡ option_and_then namespace_in (get (codes "smithy.api#xmlNamespace") (view traits.now)) }
+// Adds a trait where it has a field of its own.
+#[tactic(auto, unfolding(crate::specs::Traits::with_trait))]
+fn add_trait<'v>(traits: &mut Traits<'v>, id: &str, value: &'v Value)
+    ensures { traits_described traits.new
+        ≡ with_trait (traits_described traits.old) id.now (view value.now) }
 {
-    namespace_of(traits.get("smithy.api#xmlNamespace")?)
+    match id {
+        "smithy.api#httpHeader" => traits.http_header = value.as_str(),
+        "smithy.api#httpPrefixHeaders" => traits.http_prefix_headers = value.as_str(),
+        "smithy.api#httpQuery" => traits.http_query = value.as_str(),
+        "smithy.api#httpQueryParams" => traits.http_query_params = true,
+        "smithy.api#httpLabel" => traits.http_label = true,
+        "smithy.api#httpPayload" => traits.http_payload = true,
+        "smithy.api#httpResponseCode" => traits.http_response_code = true,
+        "smithy.api#mediaType" => traits.media_type = value.as_str(),
+        "smithy.api#timestampFormat" => traits.timestamp_format = time_format_of(value),
+        "smithy.api#streaming" => traits.streaming = true,
+        "smithy.api#jsonName" => traits.json_name = value.as_str(),
+        "smithy.api#xmlName" => traits.xml_name = value.as_str(),
+        "smithy.api#xmlNamespace" => traits.xml_namespace = namespace_of(value),
+        "smithy.api#xmlAttribute" => traits.xml_attribute = true,
+        "smithy.api#xmlFlattened" => traits.xml_flattened = true,
+        "smithy.api#sensitive" => traits.sensitive = true,
+        "smithy.api#hostLabel" => traits.host_label = true,
+        "smithy.api#eventHeader" => traits.event_header = true,
+        "smithy.api#eventPayload" => traits.event_payload = true,
+        _ => return,
+    }
 }
 
-fn time_format_at(traits: &Value) -> Option<TimestampFormat>
-    ensures { result
-        ≡ option_and_then time_format_in (get (codes "smithy.api#timestampFormat") (view traits.now)) }
+fn traits_in<'v>(object: &'v Map<String, Value>) -> Traits<'v>
+    ensures { traits_described result ≡ with_traits without_traits (map entry_view object.now.entries) }
 {
-    time_format_of(traits.get("smithy.api#timestampFormat")?)
+    let mut traits = Traits::NONE;
+    for (id, given) in object.iter() {
+        add_trait(&mut traits, id.as_str(), given);
+    }
+    traits
 }
 
+// The traits that have a field of their own.
 fn plain_traits<'v>(traits: &'v Value) -> Traits<'v>
     ensures { traits_described result ≡ plain_traits (view traits.now) }
 {
-    Traits {
-        http_header: text_of(traits, "smithy.api#httpHeader"),
-        http_prefix_headers: text_of(traits, "smithy.api#httpPrefixHeaders"),
-        http_query: text_of(traits, "smithy.api#httpQuery"),
-        http_query_params: has(traits, "smithy.api#httpQueryParams"),
-        http_label: has(traits, "smithy.api#httpLabel"),
-        http_payload: has(traits, "smithy.api#httpPayload"),
-        http_response_code: has(traits, "smithy.api#httpResponseCode"),
-        media_type: text_of(traits, "smithy.api#mediaType"),
-        timestamp_format: time_format_at(traits),
-        streaming: has(traits, "smithy.api#streaming"),
-        json_name: text_of(traits, "smithy.api#jsonName"),
-        xml_name: text_of(traits, "smithy.api#xmlName"),
-        xml_namespace: namespace_at(traits),
-        xml_attribute: has(traits, "smithy.api#xmlAttribute"),
-        xml_flattened: has(traits, "smithy.api#xmlFlattened"),
-        sensitive: has(traits, "smithy.api#sensitive"),
-        host_label: has(traits, "smithy.api#hostLabel"),
-        event_header: has(traits, "smithy.api#eventHeader"),
-        event_payload: has(traits, "smithy.api#eventPayload"),
-        ..Traits::NONE
+    match traits.as_object() {
+        Some(object) => traits_in(object),
+        None => Traits::NONE,
     }
 }
 
