@@ -18,7 +18,7 @@ use Rattle.smithy_binding.specs.Faults.{Fault, wrong_item_kind, nested_fault, pa
 use Rattle.smithy_binding.specs.TargetParts.{queries}
 use Rattle.smithy_binding.proofs.DistinctNames.{same_text-sym}
 use Rattle.smithy_binding.proofs.ElementSteps.{queries-append}
-use Rattle.smithy_binding.proofs.MemberSteps.{members_from}
+use Rattle.smithy_binding.proofs.MemberSteps.{members_from, members_from-more}
 
 -- a key or a value further
 module _ (t : Table) (m : Schema) (this next : Option Schema) (x : OneWrite) (rest more : List OneWrite) (steps : rest ≡ x ∷ more) where
@@ -169,20 +169,12 @@ abbrev pub name_at : Schema → ℕ → Option (List ℕ)
 name_at schema i = option_and_then (λ m. m.node.traits.http_query) (member_at schema i)
 
 pub names-at : (schema : Schema) (i : ℕ) → names_from schema i ≡ cons_option (name_at schema i) (names_from schema (i + 1))
-names-at schema i = go schema.node.members i
+names-at schema i = ap (filter_map (λ m. m.node.traits.http_query)) (members_from-more schema i) ∙ first (member_at schema i) (members_from schema (i + 1))
   where
     first : (o : Option Schema) (ms : List Schema)
         → filter_map (λ m. m.node.traits.http_query) (cons_option o ms) ≡ cons_option (option_and_then (λ m. m.node.traits.http_query) o) (filter_map (λ m. m.node.traits.http_query) ms)
     first None ms = refl
     first (Some m) ms = refl
-
-    go : (places : List ℕ) (i : ℕ) → filter_map (λ m. m.node.traits.http_query) (filter_map (at_place schema.table) (drop i places))
-        ≡ cons_option (option_and_then (λ m. m.node.traits.http_query) (option_and_then (at_place schema.table) (slice_get places i)))
-        (filter_map (λ m. m.node.traits.http_query) (filter_map (at_place schema.table) (drop (i + 1) places)))
-    go [] zero = refl
-    go [] (suc i) = let next : suc i + 1 ≡ suc (suc i) = omega arith in rw next refl
-    go (p ∷ places) zero = first (at_place schema.table p) (filter_map (at_place schema.table) places)
-    go (p ∷ places) (suc i) = let next : suc i + 1 ≡ suc (i + 1) = omega arith in rw next (go places i)
 
 pub names-end : (schema : Schema) (i : ℕ) → length schema.node.members ≤ i → names_from schema i ≡ []
 names-end schema i l = rw (drop_of_length-le schema.node.members l) refl

@@ -5,7 +5,7 @@ ghost use Rattle.smithy_schema.specs.Nodes.{Table, element_of, members_of, to_he
 ghost use Rattle.smithy_schema.specs.References.{schema_of};
 ghost use Rattle.smithy_schema.specs.ShownBindings.{binding_shown};
 ghost use Rattle.smithy_serde.specs.Fits.{fits_member as fits};
-ghost use Rattle.smithy_serde.specs.StoredValues.{value_in, writes_in, IsDefined, AreDefined, HasNode};
+ghost use Rattle.smithy_serde.specs.StoredValues.{value_in, writes_in, AreDefined, HasNode};
 ghost use Rattle.smithy_serde.specs.Values.{label_of, list, list_of, map};
 ghost use Rattle.smithy_serde.specs.Writes.{all_resolved};
 ghost use Rattle.smithy_http.specs.Headers.{put_all};
@@ -17,7 +17,7 @@ ghost use Rattle.smithy_binding.specs.Placed.{has_placed_kind, is_text_member, i
 ghost use Rattle.smithy_binding.specs.Refusing.{IsTold, IsFaultOf};
 ghost use Rattle.smithy_binding.specs.Seen.{gathered_of, write_at};
 ghost use Rattle.smithy_binding.specs.Bodies.{body_parts};
-ghost use Rattle.smithy_binding.specs.KeptWrites.{keep, keep_all, kept_in, IsEmpty, IsKeptDefined};
+ghost use Rattle.smithy_binding.specs.KeptWrites.{kept_in, IsEmpty, IsKeptDefined, KeepsAll, KeepsDefined};
 
 use crate::binding::{is_placed, name_of};
 use crate::body_writes::BodyWrites;
@@ -248,10 +248,9 @@ fn add_resolved<'t, 'w>(
         ≡ Ok (gathered_of parts.new)) }
     ensures err { IfErr result (IsFaultOf (add_or_fault (schema_of schema.entry) (gathered_of parts.old)
         (write_of position (schema_of member.entry) (value_in table.now value.now)))) }
-    ensures body { OnOk result (kept_in table.now parts.new.body ≡ keep (kept_in table.now parts.old.body)
-        (write_of position (schema_of member.entry) (value_in table.now value.now))) }
-    ensures defined { OnOk result (IsKeptDefined table.now parts.old.body →
-        IsDefined table.now value.now → IsKeptDefined table.now parts.new.body) }
+    ensures body { OnOk result (KeepsAll table.now parts.old.body parts.new.body
+        (write_of position (schema_of member.entry) (value_in table.now value.now) ∷ [])) }
+    ensures defined { OnOk result (KeepsDefined table.now value.now parts.old.body parts.new.body) }
 {
     if !fits_member(member, value) {
         return Err(wrong_kind(alloc, member, value));
@@ -284,10 +283,9 @@ fn add_write<'t, 'w>(
         (write_at table.now node.0 value.now) ≡ Ok (gathered_of parts.new)) }
     ensures err { IfErr result (IsFaultOf
         (gather_one (schema_of schema.entry) (gathered_of parts.old) (write_at table.now node.0 value.now))) }
-    ensures body { OnOk result (kept_in table.now parts.new.body ≡ keep_all (kept_in table.now parts.old.body)
+    ensures body { OnOk result (KeepsAll table.now parts.old.body parts.new.body
         (all_resolved (schema_of schema.entry) (write_at table.now node.0 value.now ∷ []))) }
-    ensures defined { OnOk result (IsKeptDefined table.now parts.old.body →
-        IsDefined table.now value.now → IsKeptDefined table.now parts.new.body) }
+    ensures defined { OnOk result (KeepsDefined table.now value.now parts.old.body parts.new.body) }
 {
     let Some(written) = table.get(node) else {
         unreachable!()

@@ -1,27 +1,19 @@
 use Rattle.std.proofs.Common.{sym, ◌∙◌}
-use Rattle.smithy_schema.specs.Nodes.{member_at}
 use Rattle.smithy_schema.specs.References.{schema_of}
 use Rattle.smithy_response.proofs.Members.{any-found, any-passed, any-hole}
-use Rattle.smithy_response.proofs.Members.{within, here, nowhere}
 use Rattle.smithy_response.proofs.transport.has_payload.Goals as goal
 use Rattle.smithy_response.proofs.transport.has_payload.Goals.{in-Some+else-is_some, in_default}
 
 pub returns-then-is_some : goal.returns-then-is_some
 returns-then-is_some c =
-    sym (c.loop-position.invariant ∙ any-found (λ m. m.node.traits.http_payload) (schema_of c.args.schema) c.loop-position.position (schema_of c.in-Some.member)
-    (within c.members.result.now (schema_of c.args.schema).node.members c.loop-position.position c.members.ensures.places c.loop-position-test.true)
-    (here c.member_schema_by_index.result (member_at (schema_of c.args.schema) c.loop-position.position) c.in-Some.member c.member_schema_by_index.ensures c.in-Some.is)
+    sym (c.loop-position.invariant ∙ any-found (λ m. m.node.traits.http_payload) (schema_of c.args.schema) c.loop-position.position c.member_schema_by_index.result c.member_schema_by_index.ensures c.in-Some.member c.in-Some.is
     (sym c.http_payload.ensures ∙ sym c.is_some.ensures ∙ c.if-is_some.true))
 
 pub loop-position-preserved : goal.loop-position-preserved
 loop-position-preserved c = elim c.match-member_schema_by_index.branch [
   | in-Some+else-is_some w ↦
-      c.loop-position.invariant ∙ any-passed (λ m. m.node.traits.http_payload) (schema_of c.args.schema) c.loop-position.position (schema_of w.in-Some.member)
-      (within c.members.result.now (schema_of c.args.schema).node.members c.loop-position.position c.members.ensures.places c.loop-position-test.true)
-      (here c.member_schema_by_index.result (member_at (schema_of c.args.schema) c.loop-position.position) w.in-Some.member c.member_schema_by_index.ensures w.in-Some.is)
+      c.loop-position.invariant ∙ any-passed (λ m. m.node.traits.http_payload) (schema_of c.args.schema) c.loop-position.position c.member_schema_by_index.result c.member_schema_by_index.ensures w.in-Some.member w.in-Some.is
       (sym w.http_payload.ensures ∙ sym w.is_some.ensures ∙ w.if-is_some.false)
   | in_default w ↦
-      c.loop-position.invariant ∙ any-hole (λ m. m.node.traits.http_payload) (schema_of c.args.schema) c.loop-position.position
-      (within c.members.result.now (schema_of c.args.schema).node.members c.loop-position.position c.members.ensures.places c.loop-position-test.true)
-      (nowhere c.member_schema_by_index.result (member_at (schema_of c.args.schema) c.loop-position.position) c.member_schema_by_index.ensures w.in_default.is)
+      c.loop-position.invariant ∙ any-hole (λ m. m.node.traits.http_payload) (schema_of c.args.schema) c.loop-position.position c.member_schema_by_index.result c.member_schema_by_index.ensures w.in_default.is
 ]
