@@ -8,6 +8,7 @@ pub mod DefaultHeaders
 pub mod Entries
 pub mod Faults
 pub mod Filling
+pub mod FirstPuts
 pub mod Gather
 pub mod LabelTexts
 pub mod Laws

@@ -12,6 +12,7 @@ ghost use Rattle.smithy_http.specs.Headers.{put_all};
 ghost use Rattle.smithy_binding.specs.Bindings.{kind_or_none, inserted_at};
 ghost use Rattle.smithy_binding.specs.Checked.{has_bound_kind};
 ghost use Rattle.smithy_binding.specs.Faults.{element_fault, is_placed_at};
+ghost use Rattle.smithy_binding.specs.FirstPuts.{PutsFirst};
 ghost use Rattle.smithy_binding.specs.Gather.{gather_one, gather, add_or_fault, nothing_yet};
 ghost use Rattle.smithy_binding.specs.Placed.{has_placed_kind, is_text_member, is_list_binding, takes_map, placed_first, first_fault, write_of, IsSingle};
 ghost use Rattle.smithy_binding.specs.Refusing.{IsTold, IsFaultOf};
@@ -150,13 +151,8 @@ fn add_list<'t>(
 ) -> Result<(), SerdeError>
     requires bound { binding_shown binding ≡ binding_of (schema_of member) }
     requires placed { IsTrue (is_list_binding (binding_of (schema_of member))) }
-    ensures ok { OnOk result
-        (first_fault (schema_of member.entry) (list (writes_in table.now elements.now)) ≡ None) }
-    ensures put { OnOk result (gathered_of parts.new ≡ placed_first (schema_of schema.entry)
-        (schema_of member.entry) (list (writes_in table.now elements.now)) (gathered_of parts.old)) }
-    ensures body { OnOk result (parts.new.body ≡ parts.old.body) }
-    ensures err { IfErr result
-        (IsTold (first_fault (schema_of member.entry) (list (writes_in table.now elements.now)))) }
+    ensures { PutsFirst (schema_of schema.entry) (schema_of member.entry)
+        (list (writes_in table.now elements.now)) parts.old parts.new result }
 {
     test_elements(alloc, table, member, element_kind(member), elements)?;
     match binding {
@@ -180,13 +176,8 @@ fn add_map<'t>(
 ) -> Result<(), SerdeError>
     requires bound { binding_shown binding ≡ binding_of (schema_of member) }
     requires placed { IsTrue (takes_map (binding_of (schema_of member))) }
-    ensures ok { OnOk result
-        (first_fault (schema_of member.entry) (map (writes_in table.now entries.now)) ≡ None) }
-    ensures put { OnOk result (gathered_of parts.new ≡ placed_first (schema_of schema.entry)
-        (schema_of member.entry) (map (writes_in table.now entries.now)) (gathered_of parts.old)) }
-    ensures body { OnOk result (parts.new.body ≡ parts.old.body) }
-    ensures err { IfErr result
-        (IsTold (first_fault (schema_of member.entry) (map (writes_in table.now entries.now)))) }
+    ensures { PutsFirst (schema_of schema.entry) (schema_of member.entry)
+        (map (writes_in table.now entries.now)) parts.old parts.new result }
 {
     test_map(alloc, table, member, entries)?;
     match binding {
@@ -216,12 +207,8 @@ fn add_first<'t, 'w>(
     requires placed { IsTrue (is_placed_at (binding_of (schema_of member))) }
     requires kinds { IsTrue (has_placed_kind (schema_of member)) }
     requires fits { IsTrue (fits (schema_of member) (value_in table.now value.now)) }
-    ensures ok { OnOk result (first_fault (schema_of member.entry) (value_in table.now value.now) ≡ None) }
-    ensures put { OnOk result (gathered_of parts.new ≡ placed_first (schema_of schema.entry)
-        (schema_of member.entry) (value_in table.now value.now) (gathered_of parts.old)) }
-    ensures body { OnOk result (parts.new.body ≡ parts.old.body) }
-    ensures err { IfErr result
-        (IsTold (first_fault (schema_of member.entry) (value_in table.now value.now))) }
+    ensures { PutsFirst (schema_of schema.entry) (schema_of member.entry)
+        (value_in table.now value.now) parts.old parts.new result }
 {
     match value {
         ShapeValue::List(elements) => add_list(
