@@ -16,6 +16,7 @@ pub mod NormalForm
 pub mod Placing
 pub mod Protocols
 pub mod Refusing
+pub mod Reporting
 pub mod Seen
 pub mod CutTemplate
 pub mod ClearParts
