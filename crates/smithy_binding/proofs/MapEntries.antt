@@ -1,5 +1,5 @@
 -- The entries of a map, an entry at a time.
-use Rattle.std.proofs.Common.{◌≡◌, refl, ap, sym, ◌∙◌, ℕ, zero, suc, ◌+◌, ◌*◌, ◌%◌, ◌<◌, ◌≤◌, Bool, true, false, not, ◌||◌, ◌==◌, cond, List, [], ◌∷◌, ◌++◌, append_assoc, length, drop, filter, filter_map, flat_map, map, slice_get, arith, Option, Some, None, is_some, option_and_then, if◌then◌else◌}
+use Rattle.std.proofs.Common.{◌≡◌, refl, ap, sym, ◌∙◌, ℕ, zero, suc, ◌+◌, ◌*◌, ◌/◌, ◌%◌, ◌<◌, ◌≤◌, Bool, true, false, not, ◌||◌, ◌==◌, cond, List, [], ◌∷◌, ◌++◌, append_assoc, length, drop, filter, filter_map, flat_map, map, slice_get, arith, Option, Some, None, is_some, option_and_then, if◌then◌else◌}
 use Rattle.std.specs.List.{cons_option}
 use Rattle.std.specs.Option.{option_map_or, option_or}
 use Rattle.std.specs.Str.{bytes_eq, str_to_ascii_lowercase}
@@ -92,15 +92,15 @@ header_of prefix key v = (str_to_ascii_lowercase (prefix ++ key), v)
 abbrev pub headers_from : List ℕ → Writes → ℕ → List (List ℕ × List ℕ)
 headers_from prefix ws i = map (λ e. header_of prefix e.0 (text_of_key e.1)) (drop i (entries_of ws))
 
-pub headers-at : (prefix : List ℕ) (ws : Writes) (i : ℕ) (key v : List ℕ) → 2 * i + 1 < length (list_of ws) → key ≡ text_at ws (2 * i) → v ≡ text_at ws (2 * i + 1)
+pub headers-at : (prefix : List ℕ) (ws : Writes) (i : ℕ) (key v : List ℕ) {n : ℕ} → n ≡ length (list_of ws) → i < n / 2 → key ≡ text_at ws (2 * i) → v ≡ text_at ws (2 * i + 1)
     → headers_from prefix ws i ≡ header_of prefix key v ∷ headers_from prefix ws (i + 1)
-headers-at prefix ws i key v low k e =
-    let entry = entry-at ws i low in
+headers-at prefix ws i key v all low k e =
+    let entry = entry-at ws i (omega (arith, all, low)) in
     let text : v ≡ text_of_key entry.value.value = e ∙ ap (λ o. option_map_or (λ w. text_of_key w.value) o []) entry.at in
     ap (map (λ e. header_of prefix e.0 (text_of_key e.1))) entry.here ∙ sym (λ j. header_of prefix (k j) (text j) ∷ headers_from prefix ws (i + 1))
 
-pub headers-end : (prefix : List ℕ) (ws : Writes) (i : ℕ) → length (list_of ws) < 2 * i + 2 → headers_from prefix ws i ≡ []
-headers-end prefix ws i high = ap (map (λ e. header_of prefix e.0 (text_of_key e.1))) (entries-end ws i high)
+pub headers-end : (prefix : List ℕ) (ws : Writes) (i : ℕ) {n : ℕ} → n ≡ length (list_of ws) → n / 2 ≤ i → headers_from prefix ws i ≡ []
+headers-end prefix ws i all high = ap (map (λ e. header_of prefix e.0 (text_of_key e.1))) (entries-end ws i (omega (arith, all, high)))
 
 pub pairs_fault-more : (m : Schema) (p : List ℕ × List ℕ) (ps : List (List ℕ × List ℕ)) → pairs_fault m (p ∷ []) ≡ None → pairs_fault m (p ∷ ps) ≡ pairs_fault m ps
 pairs_fault-more m p ps e = go (pair_fault m p) e
@@ -128,10 +128,10 @@ kept-all test names m ws same = ap (flat_map entry_pairs) (go (entries_of ws))
     go [] = refl
     go (e ∷ es) = rw (same e.0, go es) refl
 
-pub kept-at : (test : List ℕ → Bool) (ws : Writes) (i : ℕ) (key : List ℕ) → 2 * i + 1 < length (list_of ws) → key ≡ text_at ws (2 * i)
+pub kept-at : (test : List ℕ → Bool) (ws : Writes) (i : ℕ) (key : List ℕ) {n : ℕ} → n ≡ length (list_of ws) → i < n / 2 → key ≡ text_at ws (2 * i)
     → kept_from test ws i ≡ (if test key then [] else pairs_at_place ws (2 * i + 1) key) ++ kept_from test ws (i + 1)
-kept-at test ws i key low k =
-    let entry = entry-at ws i low in
+kept-at test ws i key all low k =
+    let entry = entry-at ws i (omega (arith, all, low)) in
     let rest = filter (λ e. not (test e.0)) (drop (i + 1) (entries_of ws)) in
     ap (λ es. flat_map entry_pairs (filter (λ e. not (test e.0)) es)) entry.here
     ∙ go (text_at ws (2 * i)) entry.value.value rest (test (text_at ws (2 * i)))
@@ -143,8 +143,8 @@ kept-at test ws i key low k =
     go key v rest true = refl
     go key v rest false = refl
 
-pub kept-end : (test : List ℕ → Bool) (ws : Writes) (i : ℕ) → length (list_of ws) < 2 * i + 2 → kept_from test ws i ≡ []
-kept-end test ws i high = ap (λ es. flat_map entry_pairs (filter (λ e. not (test e.0)) es)) (entries-end ws i high)
+pub kept-end : (test : List ℕ → Bool) (ws : Writes) (i : ℕ) {n : ℕ} → n ≡ length (list_of ws) → n / 2 ≤ i → kept_from test ws i ≡ []
+kept-end test ws i all high = ap (λ es. flat_map entry_pairs (filter (λ e. not (test e.0)) es)) (entries-end ws i (omega (arith, all, high)))
 
 -- some pairs are in the query, and some are to come
 pub pairs-push : (old now : List ℕ) (here rest : List (List ℕ × List ℕ)) → now ≡ old ++ queries here → now ++ queries rest ≡ old ++ queries (here ++ rest)

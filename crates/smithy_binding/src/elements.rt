@@ -48,7 +48,8 @@ pub fn test_elements(
     kind: ShapeType,
     elements: &WriteList,
 ) -> Result<(), SerdeError>
-    ensures { Reports (element_fault (schema_of member.entry) kind (writes_in table.now elements.now)) result }
+    ensures { Reports
+        (element_fault (schema_of member.entry) kind (writes_in table.now elements.now)) result }
 {
     for (_, value) in elements.iter() {
         if !value.fits(kind) {

@@ -92,13 +92,8 @@ fn add_single<'t, 'w>(
     requires bound { binding_shown binding ≡ binding_of (schema_of member) }
     requires placed { IsTrue (is_text_member (schema_of member)) }
     requires single { (t : Table) → IsSingle (value_in t value.now) }
-    ensures ok { OnOk result
-        ((t : Table) → first_fault (schema_of member.entry) (value_in t value.now) ≡ None) }
-    ensures put { OnOk result ((t : Table) → gathered_of parts.new ≡ placed_first (schema_of schema.entry)
-        (schema_of member.entry) (value_in t value.now) (gathered_of parts.old)) }
-    ensures body { OnOk result (parts.new.body ≡ parts.old.body) }
-    ensures err { IfErr result
-        (λ e. (t : Table) → IsTold (first_fault (schema_of member.entry) (value_in t value.now)) e) }
+    ensures { (t : Table) → PutsFirst (schema_of schema.entry) (schema_of member.entry)
+        (value_in t value.now) parts.old parts.new result }
 {
     let text = text_of(alloc, member, place_of(binding), value)?;
     match binding {

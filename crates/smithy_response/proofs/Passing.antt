@@ -92,8 +92,8 @@ module _ (schema : Schema) (is_given : Bool) (start t : Transport) (p : Passing 
     -- the body was handed out before
     pub passes_body : is_given ≡ true → IsTakenAt t.response (source_of m) m bound.Body → Passing schema is_given start (record t { place = t.place + 1 })
     passes_body given taken = passed (λ rest body left.
-    by_route handed_body (taken_body t.response (route m t.response) taken.route) rest body left
-    ∙ ap (λ b. with_route handed_body m b (after rest body) (after rest None)) (left given))
+        by_route handed_body (taken_body t.response (route m t.response) taken.route) rest body left
+        ∙ ap (λ b. with_route handed_body m b (after rest body) (after rest None)) (left given))
 
     pub hands_body : is_given ≡ false → IsTakenAt t.response (source_of m) m bound.Body
         → HandsBody schema m is_given start (record t { place = t.place + 1; member = bound.Body })
