@@ -1,20 +1,19 @@
 // What the writes put into a request, one by one.
-ghost use Rattle.std.specs.Prelude.{◌≡◌, ◌∷◌, ◌++◌, [], IsTrue, IfOk, IfErr, OnOk, Ok, None, true, false, ℕ, length, drop, option_map, slice_index_or, slice_set};
+ghost use Rattle.std.specs.Prelude.{◌≡◌, ◌∷◌, [], IsTrue, IfOk, IfErr, OnOk, Ok, None, true, false, slice_index_or, slice_set};
 ghost use Rattle.std.specs.List.{list_all};
 ghost use Rattle.smithy_schema.specs.Nodes.{Table, element_of, members_of, to_header, binding_of};
 ghost use Rattle.smithy_schema.specs.References.{schema_of};
 ghost use Rattle.smithy_schema.specs.ShownBindings.{binding_shown};
 ghost use Rattle.smithy_serde.specs.Fits.{fits_member as fits};
 ghost use Rattle.smithy_serde.specs.StoredValues.{value_in, writes_in, AreDefined, HasNode};
-ghost use Rattle.smithy_serde.specs.Values.{label_of, list, list_of, map};
+ghost use Rattle.smithy_serde.specs.Values.{list, list_of, map};
 ghost use Rattle.smithy_serde.specs.Writes.{all_resolved};
 ghost use Rattle.smithy_http.specs.Headers.{put_all};
 ghost use Rattle.smithy_binding.specs.Bindings.{kind_or_none, inserted_at};
-ghost use Rattle.smithy_binding.specs.Checked.{has_bound_kind};
 ghost use Rattle.smithy_binding.specs.Faults.{element_fault, is_placed_at};
 ghost use Rattle.smithy_binding.specs.FirstPuts.{PutsFirst};
 ghost use Rattle.smithy_binding.specs.Gather.{gather_one, gather, add_or_fault, nothing_yet};
-ghost use Rattle.smithy_binding.specs.Placed.{has_placed_kind, is_text_member, is_list_binding, takes_map, placed_first, first_fault, write_of, IsSingle};
+ghost use Rattle.smithy_binding.specs.Placed.{has_placed_kind, is_text_member, is_list_binding, takes_map, first_fault, write_of, IsSingle};
 ghost use Rattle.smithy_binding.specs.Refusing.{IsTold, IsFaultOf};
 ghost use Rattle.smithy_binding.specs.Seen.{gathered_of, write_at};
 ghost use Rattle.smithy_binding.specs.Bodies.{body_parts};
