@@ -2,13 +2,12 @@
 use Rattle.std.proofs.Common.{◌≡◌, ◌↔◌, sym, ◌∙◌, true, ◌&&◌, is_some, IsTrue}
 use Rattle.std.specs.List.{list_all}
 use Rattle.std.proofs.lemmas.Bool.{and_parts}
-use Rattle.std.proofs.lemmas.List.Sums.{AllPass-from_list_all, list_all-from_AllPass}
 use Rattle.smithy_ids.specs.declared.shape_type.ShapeType.TheVariants as kind
 use Rattle.smithy_ids.specs.Kinds.{same_kind}
 use Rattle.smithy_schema.specs.Nodes.{Schema, cites_nodes, members_of}
-use Rattle.smithy_binding.specs.Checked.{has_distinct_names, is_writable, has_header_kind, is_text_map, has_prefix_kind, members_with, has_at_most_one, has_sound_headers, has_defined_members, has_named_members}
+use Rattle.smithy_binding.specs.Checked.{has_distinct_names, has_header_kind, is_text_map, has_prefix_kind, members_with, has_at_most_one, has_sound_headers, has_defined_members, has_named_members}
 use Rattle.smithy_binding.specs.CheckedOutput.{is_response_bound_once, has_plain_header_elements, has_code_kind, is_sound_response_member, has_sound_response_payload, checked_output, IsCheckedOutput}
-use Rattle.smithy_binding.proofs.CheckedLaws.{prefix_kinds}
+use Rattle.smithy_binding.proofs.CheckedLaws.{members_facts, members_test, prefix_kinds}
 use Rattle.smithy_binding.proofs.JointTests.{both, all-both, all-parts, all-filter}
 use Rattle.smithy_binding.proofs.Tests.{structure_from_test, structure_test, AreDistinct-from_test, are_distinct-from_facts}
 
@@ -27,20 +26,17 @@ IsCheckedOutput-from_test schema e =
     let f = and_parts _ (has_at_most_one (λ t. t.http_response_code) schema) d.0 in
     let g = and_parts _ (has_at_most_one (λ t. is_some t.http_prefix_headers) schema) f.0 in
     let h = and_parts _ (has_sound_response_payload schema) g.0 in
-    let n = all-parts (λ m. cites_nodes m && is_response_bound_once m && is_writable m && has_header_kind m && has_plain_header_elements m && has_prefix_kind m) has_code_kind ms h.0 in
-    let o = all-parts (λ m. cites_nodes m && is_response_bound_once m && is_writable m && has_header_kind m && has_plain_header_elements m) has_prefix_kind ms n.0 in
-    let p = all-parts (λ m. cites_nodes m && is_response_bound_once m && is_writable m && has_header_kind m) has_plain_header_elements ms o.0 in
-    let q = all-parts (λ m. cites_nodes m && is_response_bound_once m && is_writable m) has_header_kind ms p.0 in
-    let r = all-parts (λ m. cites_nodes m && is_response_bound_once m) is_writable ms q.0 in
-    let s = all-parts cites_nodes is_response_bound_once ms r.0 in
+    let n = all-parts _ has_code_kind ms h.0 in
+    let o = all-parts _ has_prefix_kind ms n.0 in
+    let each = members_facts is_response_bound_once has_header_kind has_plain_header_elements ms o.0 in
     record {
       structure = structure_from_test schema.node.kind c.0;
-      cited = both _ _ c.1 s.0;
+      cited = both _ _ c.1 each.0;
       names = AreDistinct-from_test _ b.1;
-      bound_once = AllPass-from_list_all is_response_bound_once ms s.1;
-      writable = AllPass-from_list_all is_writable ms r.1;
-      kinds = AllPass-from_list_all has_header_kind ms q.1;
-      elements = AllPass-from_list_all has_plain_header_elements ms p.1;
+      bound_once = each.1;
+      writable = each.2;
+      kinds = each.3;
+      elements = each.4;
       payload = h.1;
       prefix_map = both _ _ g.1 (prefix_kinds schema ∙ o.1);
       unlike_names = d.1;
@@ -55,15 +51,9 @@ checked_output-from_facts schema facts =
     let maps = and_parts (has_at_most_one (λ t. is_some t.http_prefix_headers) schema) (list_all is_text_map (members_with (λ t. is_some t.http_prefix_headers) schema)) facts.prefix_map in
     let code = and_parts (has_at_most_one (λ t. t.http_response_code) schema) (list_all (λ m. same_kind m.node.kind kind.Integer) (members_with (λ t. t.http_response_code) schema)) facts.response_code in
     let members : list_all is_sound_response_member ms ≡ true =
-    all-both (λ m. cites_nodes m && is_response_bound_once m && is_writable m && has_header_kind m && has_plain_header_elements m && has_prefix_kind m) has_code_kind ms
-    (all-both (λ m. cites_nodes m && is_response_bound_once m && is_writable m && has_header_kind m && has_plain_header_elements m) has_prefix_kind ms
-    (all-both (λ m. cites_nodes m && is_response_bound_once m && is_writable m && has_header_kind m) has_plain_header_elements ms
-    (all-both (λ m. cites_nodes m && is_response_bound_once m && is_writable m) has_header_kind ms
-    (all-both (λ m. cites_nodes m && is_response_bound_once m) is_writable ms
-    (all-both cites_nodes is_response_bound_once ms cited.1 (list_all-from_AllPass is_response_bound_once ms facts.bound_once))
-    (list_all-from_AllPass is_writable ms facts.writable))
-    (list_all-from_AllPass has_header_kind ms facts.kinds))
-    (list_all-from_AllPass has_plain_header_elements ms facts.elements))
+    all-both _ has_code_kind ms
+    (all-both _ has_prefix_kind ms
+    (members_test is_response_bound_once has_header_kind has_plain_header_elements ms cited.1 facts.bound_once facts.writable facts.kinds facts.elements)
     (sym (prefix_kinds schema) ∙ maps.1))
     (sym (code_kinds schema) ∙ code.1) in
     both _ _

@@ -70,6 +70,11 @@ pub record HasWritten (f : Write → Option (List ℕ)) (ws rest : List Write) (
   pub are : AreTexts f ws rest texts
   pub written : out ≡ made texts
 
+-- one more is written
+abbrev pub written-more : {f : Write → Option (List ℕ)} {ws : List Write} {made : List (List ℕ) → List ℕ} {old new text : List ℕ} {x : OneWrite} {rest more : List OneWrite} (t : Table) → rest ≡ x ∷ more
+    → (so_far : HasWritten f ws (left t rest) made old) → f (record { label = label_at t x.node.0; value = value_in t x.value }) ≡ Some text → new ≡ made (so_far.texts ++ text ∷ []) → HasWritten f ws (left t more) made new
+written-more {f} {ws} {text = text} t steps so_far found e = record { texts = so_far.texts ++ text ∷ []; are = AreTexts-more f t ws so_far.texts _ _ _ steps so_far.are text found; written = e }
+
 -- the first text is written no more
 pub some_texts : (ts : List (List ℕ)) (t : List ℕ) → false ≡ (length (ts ++ t ∷ []) == 0)
 some_texts ts t = go (length (ts ++ t ∷ []) == 0) refl

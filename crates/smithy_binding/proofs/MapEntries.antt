@@ -1,5 +1,5 @@
 -- The entries of a map, an entry at a time.
-use Rattle.std.proofs.Common.{◌≡◌, refl, ap, sym, ◌∙◌, ℕ, zero, suc, ◌+◌, ◌*◌, ◌%◌, ◌<◌, ◌≤◌, Bool, true, false, not, ◌||◌, ◌==◌, cond, List, [], ◌∷◌, ◌++◌, append_assoc, length, drop, filter, filter_map, flat_map, map, slice_get, arith, Option, Some, None, is_some, option_and_then, if◌then◌else◌}
+use Rattle.std.proofs.Common.{◌≡◌, refl, ap, sym, ◌∙◌, ℕ, zero, suc, ◌+◌, ◌*◌, ◌/◌, ◌%◌, ◌<◌, ◌≤◌, Bool, true, false, not, ◌||◌, ◌==◌, cond, List, [], ◌∷◌, ◌++◌, append_assoc, length, drop, filter, filter_map, flat_map, map, slice_get, arith, Option, Some, None, is_some, option_and_then, if◌then◌else◌}
 use Rattle.std.specs.List.{cons_option}
 use Rattle.std.specs.Option.{option_map_or, option_or}
 use Rattle.std.specs.Str.{bytes_eq, str_to_ascii_lowercase}
@@ -18,7 +18,7 @@ use Rattle.smithy_binding.specs.Faults.{Fault, wrong_item_kind, nested_fault, pa
 use Rattle.smithy_binding.specs.TargetParts.{queries}
 use Rattle.smithy_binding.proofs.DistinctNames.{same_text-sym}
 use Rattle.smithy_binding.proofs.ElementSteps.{queries-append}
-use Rattle.smithy_binding.proofs.MemberSteps.{members_from}
+use Rattle.smithy_binding.proofs.MemberSteps.{members_from, members_from-more}
 
 -- a key or a value further
 module _ (t : Table) (m : Schema) (this next : Option Schema) (x : OneWrite) (rest more : List OneWrite) (steps : rest ≡ x ∷ more) where
@@ -92,15 +92,15 @@ header_of prefix key v = (str_to_ascii_lowercase (prefix ++ key), v)
 abbrev pub headers_from : List ℕ → Writes → ℕ → List (List ℕ × List ℕ)
 headers_from prefix ws i = map (λ e. header_of prefix e.0 (text_of_key e.1)) (drop i (entries_of ws))
 
-pub headers-at : (prefix : List ℕ) (ws : Writes) (i : ℕ) (key v : List ℕ) → 2 * i + 1 < length (list_of ws) → key ≡ text_at ws (2 * i) → v ≡ text_at ws (2 * i + 1)
+pub headers-at : (prefix : List ℕ) (ws : Writes) (i : ℕ) (key v : List ℕ) {n : ℕ} → n ≡ length (list_of ws) → i < n / 2 → key ≡ text_at ws (2 * i) → v ≡ text_at ws (2 * i + 1)
     → headers_from prefix ws i ≡ header_of prefix key v ∷ headers_from prefix ws (i + 1)
-headers-at prefix ws i key v low k e =
-    let entry = entry-at ws i low in
+headers-at prefix ws i key v all low k e =
+    let entry = entry-at ws i (omega (arith, all, low)) in
     let text : v ≡ text_of_key entry.value.value = e ∙ ap (λ o. option_map_or (λ w. text_of_key w.value) o []) entry.at in
     ap (map (λ e. header_of prefix e.0 (text_of_key e.1))) entry.here ∙ sym (λ j. header_of prefix (k j) (text j) ∷ headers_from prefix ws (i + 1))
 
-pub headers-end : (prefix : List ℕ) (ws : Writes) (i : ℕ) → length (list_of ws) < 2 * i + 2 → headers_from prefix ws i ≡ []
-headers-end prefix ws i high = ap (map (λ e. header_of prefix e.0 (text_of_key e.1))) (entries-end ws i high)
+pub headers-end : (prefix : List ℕ) (ws : Writes) (i : ℕ) {n : ℕ} → n ≡ length (list_of ws) → n / 2 ≤ i → headers_from prefix ws i ≡ []
+headers-end prefix ws i all high = ap (map (λ e. header_of prefix e.0 (text_of_key e.1))) (entries-end ws i (omega (arith, all, high)))
 
 pub pairs_fault-more : (m : Schema) (p : List ℕ × List ℕ) (ps : List (List ℕ × List ℕ)) → pairs_fault m (p ∷ []) ≡ None → pairs_fault m (p ∷ ps) ≡ pairs_fault m ps
 pairs_fault-more m p ps e = go (pair_fault m p) e
@@ -128,10 +128,10 @@ kept-all test names m ws same = ap (flat_map entry_pairs) (go (entries_of ws))
     go [] = refl
     go (e ∷ es) = rw (same e.0, go es) refl
 
-pub kept-at : (test : List ℕ → Bool) (ws : Writes) (i : ℕ) (key : List ℕ) → 2 * i + 1 < length (list_of ws) → key ≡ text_at ws (2 * i)
+pub kept-at : (test : List ℕ → Bool) (ws : Writes) (i : ℕ) (key : List ℕ) {n : ℕ} → n ≡ length (list_of ws) → i < n / 2 → key ≡ text_at ws (2 * i)
     → kept_from test ws i ≡ (if test key then [] else pairs_at_place ws (2 * i + 1) key) ++ kept_from test ws (i + 1)
-kept-at test ws i key low k =
-    let entry = entry-at ws i low in
+kept-at test ws i key all low k =
+    let entry = entry-at ws i (omega (arith, all, low)) in
     let rest = filter (λ e. not (test e.0)) (drop (i + 1) (entries_of ws)) in
     ap (λ es. flat_map entry_pairs (filter (λ e. not (test e.0)) es)) entry.here
     ∙ go (text_at ws (2 * i)) entry.value.value rest (test (text_at ws (2 * i)))
@@ -143,8 +143,8 @@ kept-at test ws i key low k =
     go key v rest true = refl
     go key v rest false = refl
 
-pub kept-end : (test : List ℕ → Bool) (ws : Writes) (i : ℕ) → length (list_of ws) < 2 * i + 2 → kept_from test ws i ≡ []
-kept-end test ws i high = ap (λ es. flat_map entry_pairs (filter (λ e. not (test e.0)) es)) (entries-end ws i high)
+pub kept-end : (test : List ℕ → Bool) (ws : Writes) (i : ℕ) {n : ℕ} → n ≡ length (list_of ws) → n / 2 ≤ i → kept_from test ws i ≡ []
+kept-end test ws i all high = ap (λ es. flat_map entry_pairs (filter (λ e. not (test e.0)) es)) (entries-end ws i (omega (arith, all, high)))
 
 -- some pairs are in the query, and some are to come
 pub pairs-push : (old now : List ℕ) (here rest : List (List ℕ × List ℕ)) → now ≡ old ++ queries here → now ++ queries rest ≡ old ++ queries (here ++ rest)
@@ -169,20 +169,12 @@ abbrev pub name_at : Schema → ℕ → Option (List ℕ)
 name_at schema i = option_and_then (λ m. m.node.traits.http_query) (member_at schema i)
 
 pub names-at : (schema : Schema) (i : ℕ) → names_from schema i ≡ cons_option (name_at schema i) (names_from schema (i + 1))
-names-at schema i = go schema.node.members i
+names-at schema i = ap (filter_map (λ m. m.node.traits.http_query)) (members_from-more schema i) ∙ first (member_at schema i) (members_from schema (i + 1))
   where
     first : (o : Option Schema) (ms : List Schema)
         → filter_map (λ m. m.node.traits.http_query) (cons_option o ms) ≡ cons_option (option_and_then (λ m. m.node.traits.http_query) o) (filter_map (λ m. m.node.traits.http_query) ms)
     first None ms = refl
     first (Some m) ms = refl
-
-    go : (places : List ℕ) (i : ℕ) → filter_map (λ m. m.node.traits.http_query) (filter_map (at_place schema.table) (drop i places))
-        ≡ cons_option (option_and_then (λ m. m.node.traits.http_query) (option_and_then (at_place schema.table) (slice_get places i)))
-        (filter_map (λ m. m.node.traits.http_query) (filter_map (at_place schema.table) (drop (i + 1) places)))
-    go [] zero = refl
-    go [] (suc i) = let next : suc i + 1 ≡ suc (suc i) = omega arith in rw next refl
-    go (p ∷ places) zero = first (at_place schema.table p) (filter_map (at_place schema.table) places)
-    go (p ∷ places) (suc i) = let next : suc i + 1 ≡ suc (i + 1) = omega arith in rw next (go places i)
 
 pub names-end : (schema : Schema) (i : ℕ) → length schema.node.members ≤ i → names_from schema i ≡ []
 names-end schema i l = rw (drop_of_length-le schema.node.members l) refl

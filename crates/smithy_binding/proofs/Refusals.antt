@@ -30,11 +30,6 @@ pub IfErr-at : {A : Type 0} (r : Result A SerdeError) (P : Table → Fault → T
 IfErr-at (Ok x) P t p = p
 IfErr-at (Err e) P t p = p t
 
--- the same from every table
-pub IfErr-all : {A : Type 0} (r : Result A SerdeError) (P : Table → Fault → Type 0) → ((t : Table) → IfErr r (λ e. TellsFault e (P t))) → IfErr r (λ e. (t : Table) → TellsFault e (P t))
-IfErr-all (Ok x) P h = tt
-IfErr-all (Err e) P h = h
-
 -- a refusal is the answer, where the fault that it tells is
 pub Answers-err : {A : Type 0} (r : Result A SerdeError) (P : Fault → Type 0) (answer : Result A Fault) → IsErr r → ((f : Fault) → P f → answer ≡ Err f) → IfErr r (λ e. TellsFault e P) → Answers r answer
 Answers-err (Ok x) P answer err h p = absurd (cc err)

@@ -3,7 +3,9 @@ use Rattle.std.specs.Prelude.{◌≡◌, List, [], ◌∷◌, ◌++◌, map, Non
 use Rattle.std.specs.Option.{option_or}
 use Rattle.smithy_schema.specs.Nodes.{Schema, Table, Binding, to_body, to_payload, binding_of}
 use Rattle.smithy_schema.specs.References.{schema_of}
+use Rattle.smithy_schema.specs.declared.schema_ref.SchemaRef.{SchemaRef}
 use Rattle.smithy_serde.specs.StoredValues.{value_in, IsDefined}
+use Rattle.smithy_serde.specs.declared.value.ShapeValue.{ShapeValue}
 use Rattle.smithy_serde.specs.Values.{Value, Write, label_of}
 use Rattle.smithy_serde.specs.Writes.{Resolved}
 use Rattle.smithy_binding.specs.Bodies.{BodyParts}
@@ -57,3 +59,15 @@ AreDefinedWrites t (w ∷ ws) = IsDefined t w.value.now × AreDefinedWrites t ws
 pub record IsKeptDefined (t : Table) (b : BodyWrites) : Type 0 where
   pub unbound : AreDefinedWrites t b.unbound.items
   pub payload : IfSome b.payload (λ w. IsDefined t w.value.now)
+
+-- a write of a member with this binding is kept, over the nodes of any table
+abbrev pub Keeps : Binding → SchemaRef → ShapeValue → BodyWrites → BodyWrites → Type 0
+Keeps b m v old new = (t : Table) → kept_in t new ≡ kept_at b (schema_of m) (value_in t v) (kept_in t old)
+
+-- these writes are kept
+abbrev pub KeepsAll : Table → BodyWrites → BodyWrites → List Resolved → Type 0
+KeepsAll t old new rs = kept_in t new ≡ keep_all (kept_in t old) rs
+
+-- where a value with defined nodes is kept, all that is kept stays defined
+abbrev pub KeepsDefined : Table → ShapeValue → BodyWrites → BodyWrites → Type 0
+KeepsDefined t v old new = IsKeptDefined t old → IsDefined t v → IsKeptDefined t new

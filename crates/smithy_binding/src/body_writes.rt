@@ -1,10 +1,8 @@
 // The writes that a body is made of (Smithy, HTTP protocol bindings).
-ghost use Rattle.std.specs.Prelude.{◌≡◌, OnOk};
+ghost use Rattle.std.specs.Prelude.{OnOk};
 ghost use Rattle.smithy_schema.specs.Nodes.{Table};
-ghost use Rattle.smithy_schema.specs.References.{schema_of};
 ghost use Rattle.smithy_schema.specs.ShownBindings.{binding_shown};
-ghost use Rattle.smithy_serde.specs.StoredValues.{value_in, IsDefined};
-ghost use Rattle.smithy_binding.specs.KeptWrites.{kept_at, kept_in, IsEmpty, IsKeptDefined};
+ghost use Rattle.smithy_binding.specs.KeptWrites.{IsEmpty, Keeps, KeepsDefined};
 
 use smithy_schema::{Binding, SchemaRef};
 use smithy_serde::ShapeValue;
@@ -45,10 +43,9 @@ impl<'t, 'w> BodyWrites<'t, 'w> {
         binding: Binding<'_>,
         value: &'w ShapeValue,
     ) -> Result<(), OutOfMemory>
-        ensures kept { OnOk result ((t : Table) → kept_in t self.new ≡ kept_at (binding_shown binding.entry)
-            (schema_of member.entry) (value_in t value.now) (kept_in t self.old)) }
-        ensures defined { OnOk result
-            ((t : Table) → IsKeptDefined t self.old → IsDefined t value.now → IsKeptDefined t self.new) }
+        ensures kept { OnOk result
+            (Keeps (binding_shown binding.entry) member.entry value.now self.old self.new) }
+        ensures defined { OnOk result ((t : Table) → KeepsDefined t value.now self.old self.new) }
     {
         match binding {
             Binding::Body => {

@@ -1,5 +1,5 @@
 // The elements of a list in a header or the query (Smithy, HTTP protocol bindings, httpHeader and httpQuery).
-ghost use Rattle.std.specs.Prelude.{◌≡◌, ◌++◌, OnOk, IfOk, IfErr, None, Some, option_map, string_bytes};
+ghost use Rattle.std.specs.Prelude.{◌≡◌, ◌++◌, OnOk, IfOk, IfErr, Some, option_map, string_bytes};
 ghost use Rattle.smithy_types.specs.Results.{each};
 ghost use Rattle.smithy_schema.specs.Nodes.{element_of};
 ghost use Rattle.smithy_schema.specs.References.{schema_of};
@@ -9,7 +9,8 @@ ghost use Rattle.smithy_strings.specs.Lists.{listed};
 ghost use Rattle.smithy_strings.specs.declared.wire.Place.TheVariants as at;
 ghost use Rattle.smithy_binding.specs.Bindings.{element_text as element, kind_or_none, pairs_with};
 ghost use Rattle.smithy_binding.specs.Faults.{element_fault};
-ghost use Rattle.smithy_binding.specs.Refusing.{IsTold, LacksYear};
+ghost use Rattle.smithy_binding.specs.Refusing.{LacksYear};
+ghost use Rattle.smithy_binding.specs.Reporting.{Reports};
 ghost use Rattle.smithy_binding.specs.TargetParts.{queries};
 
 use crate::bound_text::element_text;
@@ -47,10 +48,8 @@ pub fn test_elements(
     kind: ShapeType,
     elements: &WriteList,
 ) -> Result<(), SerdeError>
-    ensures ok { OnOk result
-        (element_fault (schema_of member.entry) kind (writes_in table.now elements.now) ≡ None) }
-    ensures err { IfErr result
-        (IsTold (element_fault (schema_of member.entry) kind (writes_in table.now elements.now))) }
+    ensures { Reports
+        (element_fault (schema_of member.entry) kind (writes_in table.now elements.now)) result }
 {
     for (_, value) in elements.iter() {
         if !value.fits(kind) {

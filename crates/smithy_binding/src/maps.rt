@@ -11,6 +11,7 @@ ghost use Rattle.smithy_binding.specs.Bindings.{inserted_at, entry_pairs, pairs_
 ghost use Rattle.smithy_binding.specs.Entries.{text_at as text_in, pairs_at_place, has_key, unnamed};
 ghost use Rattle.smithy_binding.specs.Faults.{nested_fault, part_fault, item_fault, value_fault, pairs_fault, ends_with_value as ends_whole};
 ghost use Rattle.smithy_binding.specs.Refusing.{IsTold};
+ghost use Rattle.smithy_binding.specs.Reporting.{Reports};
 ghost use Rattle.smithy_binding.specs.TargetParts.{queries};
 
 use crate::binding::member_count;
@@ -46,10 +47,8 @@ fn test_nested(
     node: Option<SchemaRef<'_>>,
     value: &ShapeValue,
 ) -> Result<(), SerdeError>
-    ensures ok { OnOk result (nested_fault (schema_of member.entry)
-        (option_map schema_of node.entry) (value_in table.now value.now) ≡ None) }
-    ensures err { IfErr result (IsTold (nested_fault (schema_of member.entry)
-        (option_map schema_of node.entry) (value_in table.now value.now))) }
+    ensures { Reports (nested_fault (schema_of member.entry)
+        (option_map schema_of node.entry) (value_in table.now value.now)) result }
 {
     match value {
         ShapeValue::List(elements) => {
@@ -68,10 +67,8 @@ fn test_part(
     node: Option<SchemaRef<'_>>,
     value: &ShapeValue,
 ) -> Result<(), SerdeError>
-    ensures ok { OnOk result (part_fault (schema_of member.entry)
-        (option_map schema_of node.entry) (value_in table.now value.now) ≡ None) }
-    ensures err { IfErr result (IsTold (part_fault (schema_of member.entry)
-        (option_map schema_of node.entry) (value_in table.now value.now))) }
+    ensures { Reports (part_fault (schema_of member.entry)
+        (option_map schema_of node.entry) (value_in table.now value.now)) result }
 {
     let kind = kind_of(node);
     if !value.fits(kind) {
@@ -88,10 +85,7 @@ pub fn test_entries(
     member: SchemaRef<'_>,
     entries: &WriteList,
 ) -> Result<(), SerdeError>
-    ensures ok { OnOk result
-        (item_fault (schema_of member.entry) (map (writes_in table.now entries.now)) ≡ None) }
-    ensures err { IfErr result
-        (IsTold (item_fault (schema_of member.entry) (map (writes_in table.now entries.now)))) }
+    ensures { Reports (item_fault (schema_of member.entry) (map (writes_in table.now entries.now))) result }
 {
     let mut node = member.key();
     let mut next = member.value();
@@ -119,10 +113,7 @@ pub fn test_map(
     member: SchemaRef<'_>,
     entries: &WriteList,
 ) -> Result<(), SerdeError>
-    ensures ok { OnOk result
-        (value_fault (schema_of member.entry) (map (writes_in table.now entries.now)) ≡ None) }
-    ensures err { IfErr result
-        (IsTold (value_fault (schema_of member.entry) (map (writes_in table.now entries.now)))) }
+    ensures { Reports (value_fault (schema_of member.entry) (map (writes_in table.now entries.now))) result }
 {
     test_entries(alloc, table, member, entries)?;
     if !ends_with_value(entries) {

@@ -1,23 +1,23 @@
 // What the writes put into a request, one by one.
-ghost use Rattle.std.specs.Prelude.{◌≡◌, ◌∷◌, ◌++◌, [], IsTrue, IfOk, IfErr, OnOk, Ok, None, true, false, ℕ, length, drop, option_map, slice_index_or, slice_set};
+ghost use Rattle.std.specs.Prelude.{◌≡◌, ◌∷◌, [], IsTrue, IfOk, IfErr, OnOk, Ok, None, true, false, slice_index_or, slice_set};
 ghost use Rattle.std.specs.List.{list_all};
 ghost use Rattle.smithy_schema.specs.Nodes.{Table, element_of, members_of, to_header, binding_of};
 ghost use Rattle.smithy_schema.specs.References.{schema_of};
 ghost use Rattle.smithy_schema.specs.ShownBindings.{binding_shown};
 ghost use Rattle.smithy_serde.specs.Fits.{fits_member as fits};
-ghost use Rattle.smithy_serde.specs.StoredValues.{value_in, writes_in, IsDefined, AreDefined, HasNode};
-ghost use Rattle.smithy_serde.specs.Values.{label_of, list, list_of, map};
+ghost use Rattle.smithy_serde.specs.StoredValues.{value_in, writes_in, AreDefined, HasNode};
+ghost use Rattle.smithy_serde.specs.Values.{list, list_of, map};
 ghost use Rattle.smithy_serde.specs.Writes.{all_resolved};
 ghost use Rattle.smithy_http.specs.Headers.{put_all};
 ghost use Rattle.smithy_binding.specs.Bindings.{kind_or_none, inserted_at};
-ghost use Rattle.smithy_binding.specs.Checked.{has_bound_kind};
 ghost use Rattle.smithy_binding.specs.Faults.{element_fault, is_placed_at};
+ghost use Rattle.smithy_binding.specs.FirstPuts.{PutsFirst};
 ghost use Rattle.smithy_binding.specs.Gather.{gather_one, gather, add_or_fault, nothing_yet};
-ghost use Rattle.smithy_binding.specs.Placed.{has_placed_kind, is_text_member, is_list_binding, takes_map, placed_first, first_fault, write_of, IsSingle};
+ghost use Rattle.smithy_binding.specs.Placed.{has_placed_kind, is_text_member, is_list_binding, takes_map, first_fault, write_of, IsSingle};
 ghost use Rattle.smithy_binding.specs.Refusing.{IsTold, IsFaultOf};
 ghost use Rattle.smithy_binding.specs.Seen.{gathered_of, write_at};
 ghost use Rattle.smithy_binding.specs.Bodies.{body_parts};
-ghost use Rattle.smithy_binding.specs.KeptWrites.{keep, keep_all, kept_in, IsEmpty, IsKeptDefined};
+ghost use Rattle.smithy_binding.specs.KeptWrites.{kept_in, IsEmpty, IsKeptDefined, KeepsAll, KeepsDefined};
 
 use crate::binding::{is_placed, name_of};
 use crate::body_writes::BodyWrites;
@@ -92,13 +92,8 @@ fn add_single<'t, 'w>(
     requires bound { binding_shown binding ≡ binding_of (schema_of member) }
     requires placed { IsTrue (is_text_member (schema_of member)) }
     requires single { (t : Table) → IsSingle (value_in t value.now) }
-    ensures ok { OnOk result
-        ((t : Table) → first_fault (schema_of member.entry) (value_in t value.now) ≡ None) }
-    ensures put { OnOk result ((t : Table) → gathered_of parts.new ≡ placed_first (schema_of schema.entry)
-        (schema_of member.entry) (value_in t value.now) (gathered_of parts.old)) }
-    ensures body { OnOk result (parts.new.body ≡ parts.old.body) }
-    ensures err { IfErr result
-        (λ e. (t : Table) → IsTold (first_fault (schema_of member.entry) (value_in t value.now)) e) }
+    ensures { (t : Table) → PutsFirst (schema_of schema.entry) (schema_of member.entry)
+        (value_in t value.now) parts.old parts.new result }
 {
     let text = text_of(alloc, member, place_of(binding), value)?;
     match binding {
@@ -157,13 +152,8 @@ fn add_list<'t>(
 ) -> Result<(), SerdeError>
     requires bound { binding_shown binding ≡ binding_of (schema_of member) }
     requires placed { IsTrue (is_list_binding (binding_of (schema_of member))) }
-    ensures ok { OnOk result
-        (first_fault (schema_of member.entry) (list (writes_in table.now elements.now)) ≡ None) }
-    ensures put { OnOk result (gathered_of parts.new ≡ placed_first (schema_of schema.entry)
-        (schema_of member.entry) (list (writes_in table.now elements.now)) (gathered_of parts.old)) }
-    ensures body { OnOk result (parts.new.body ≡ parts.old.body) }
-    ensures err { IfErr result
-        (IsTold (first_fault (schema_of member.entry) (list (writes_in table.now elements.now)))) }
+    ensures { PutsFirst (schema_of schema.entry) (schema_of member.entry)
+        (list (writes_in table.now elements.now)) parts.old parts.new result }
 {
     test_elements(alloc, table, member, element_kind(member), elements)?;
     match binding {
@@ -187,13 +177,8 @@ fn add_map<'t>(
 ) -> Result<(), SerdeError>
     requires bound { binding_shown binding ≡ binding_of (schema_of member) }
     requires placed { IsTrue (takes_map (binding_of (schema_of member))) }
-    ensures ok { OnOk result
-        (first_fault (schema_of member.entry) (map (writes_in table.now entries.now)) ≡ None) }
-    ensures put { OnOk result (gathered_of parts.new ≡ placed_first (schema_of schema.entry)
-        (schema_of member.entry) (map (writes_in table.now entries.now)) (gathered_of parts.old)) }
-    ensures body { OnOk result (parts.new.body ≡ parts.old.body) }
-    ensures err { IfErr result
-        (IsTold (first_fault (schema_of member.entry) (map (writes_in table.now entries.now)))) }
+    ensures { PutsFirst (schema_of schema.entry) (schema_of member.entry)
+        (map (writes_in table.now entries.now)) parts.old parts.new result }
 {
     test_map(alloc, table, member, entries)?;
     match binding {
@@ -223,12 +208,8 @@ fn add_first<'t, 'w>(
     requires placed { IsTrue (is_placed_at (binding_of (schema_of member))) }
     requires kinds { IsTrue (has_placed_kind (schema_of member)) }
     requires fits { IsTrue (fits (schema_of member) (value_in table.now value.now)) }
-    ensures ok { OnOk result (first_fault (schema_of member.entry) (value_in table.now value.now) ≡ None) }
-    ensures put { OnOk result (gathered_of parts.new ≡ placed_first (schema_of schema.entry)
-        (schema_of member.entry) (value_in table.now value.now) (gathered_of parts.old)) }
-    ensures body { OnOk result (parts.new.body ≡ parts.old.body) }
-    ensures err { IfErr result
-        (IsTold (first_fault (schema_of member.entry) (value_in table.now value.now))) }
+    ensures { PutsFirst (schema_of schema.entry) (schema_of member.entry)
+        (value_in table.now value.now) parts.old parts.new result }
 {
     match value {
         ShapeValue::List(elements) => add_list(
@@ -255,10 +236,9 @@ fn add_resolved<'t, 'w>(
         ≡ Ok (gathered_of parts.new)) }
     ensures err { IfErr result (IsFaultOf (add_or_fault (schema_of schema.entry) (gathered_of parts.old)
         (write_of position (schema_of member.entry) (value_in table.now value.now)))) }
-    ensures body { OnOk result (kept_in table.now parts.new.body ≡ keep (kept_in table.now parts.old.body)
-        (write_of position (schema_of member.entry) (value_in table.now value.now))) }
-    ensures defined { OnOk result (IsKeptDefined table.now parts.old.body →
-        IsDefined table.now value.now → IsKeptDefined table.now parts.new.body) }
+    ensures body { OnOk result (KeepsAll table.now parts.old.body parts.new.body
+        (write_of position (schema_of member.entry) (value_in table.now value.now) ∷ [])) }
+    ensures defined { OnOk result (KeepsDefined table.now value.now parts.old.body parts.new.body) }
 {
     if !fits_member(member, value) {
         return Err(wrong_kind(alloc, member, value));
@@ -291,10 +271,9 @@ fn add_write<'t, 'w>(
         (write_at table.now node.0 value.now) ≡ Ok (gathered_of parts.new)) }
     ensures err { IfErr result (IsFaultOf
         (gather_one (schema_of schema.entry) (gathered_of parts.old) (write_at table.now node.0 value.now))) }
-    ensures body { OnOk result (kept_in table.now parts.new.body ≡ keep_all (kept_in table.now parts.old.body)
+    ensures body { OnOk result (KeepsAll table.now parts.old.body parts.new.body
         (all_resolved (schema_of schema.entry) (write_at table.now node.0 value.now ∷ []))) }
-    ensures defined { OnOk result (IsKeptDefined table.now parts.old.body →
-        IsDefined table.now value.now → IsKeptDefined table.now parts.new.body) }
+    ensures defined { OnOk result (KeepsDefined table.now value.now parts.old.body parts.new.body) }
 {
     let Some(written) = table.get(node) else {
         unreachable!()

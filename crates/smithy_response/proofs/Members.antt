@@ -1,45 +1,31 @@
 -- The members of a schema from a position on.
-use Rattle.std.proofs.Common.{◌≡◌, ◌<◌, ◌≤◌, ℕ, suc, zero, ◌+◌, Bool, true, false, List, [], ◌∷◌, length, drop, filter_map, Option, Some, None, option_map, option_and_then, refl, sym, ap, subst, ◌∙◌, arith, add-one}
-use Rattle.std.specs.Prelude.{slice_get}
+use Rattle.std.proofs.Common.{◌≡◌, ◌<◌, ◌≤◌, ℕ, suc, ◌+◌, Bool, true, false, List, [], ◌∷◌, length, Option, Some, None, option_map, refl, sym, ap, subst, ◌∙◌}
+use Rattle.std.proofs.Math.ListN.{drop_of_length-le}
 use Rattle.std.specs.List.{list_any, cons_option}
 use Rattle.smithy_schema.specs.declared.parts.SchemaIndex.{SchemaIndex}
 use Rattle.smithy_schema.specs.declared.schema_ref.SchemaRef.{SchemaRef}
-use Rattle.smithy_schema.specs.Nodes.{Schema, Table, at_place, member_at}
+use Rattle.smithy_schema.specs.Nodes.{Schema, member_at}
 use Rattle.smithy_schema.specs.Places.{places_of}
 use Rattle.smithy_schema.specs.References.{schema_of}
+use Rattle.smithy_binding.proofs.MemberSteps.{members_from-more}
 use Rattle.smithy_response.specs.Transporting.{members_from}
 
-drop-step : (table : Table) (xs : List ℕ) (p : ℕ) → p < length xs
-    → filter_map (at_place table) (drop p xs) ≡ cons_option (option_and_then (at_place table) (slice_get xs p)) (filter_map (at_place table) (drop (suc p) xs))
-drop-step table [] p h = absurd (omega arith)
-drop-step table (x ∷ xs) zero h = refl
-drop-step table (x ∷ xs) (suc p) h = drop-step table xs p (omega arith)
-
-drop-end : (table : Table) (xs : List ℕ) (p : ℕ) → length xs ≤ p → filter_map (at_place table) (drop p xs) ≡ []
-drop-end table [] zero h = refl
-drop-end table [] (suc p) h = refl
-drop-end table (x ∷ xs) zero h = absurd (omega arith)
-drop-end table (x ∷ xs) (suc p) h = drop-end table xs p (omega arith)
-
--- the next member, if it is defined, stands before the others
-pub from-next : (schema : Schema) (p : ℕ) → p < length schema.node.members → members_from schema p ≡ cons_option (member_at schema p) (members_from schema (p + 1))
-from-next schema p h = drop-step schema.table schema.node.members p h ∙ rw add-one refl
-
 pub from-end : (schema : Schema) (p : ℕ) → length schema.node.members ≤ p → members_from schema p ≡ []
-from-end schema p h = drop-end schema.table schema.node.members p h
+from-end schema p h = rw (drop_of_length-le schema.node.members h) refl
 
-module _ (test : Schema → Bool) (schema : Schema) where
-  pub any-hole : (p : ℕ) → p < length schema.node.members → None ≡ member_at schema p → list_any test (members_from schema p) ≡ list_any test (members_from schema (p + 1))
-  any-hole p h e = ap (list_any test) (from-next schema p h ∙ ap (λ o. cons_option o (members_from schema (p + 1))) (sym e))
+-- whether some member passes a test, where this is found at the position
+module _ (test : Schema → Bool) (schema : Schema) (p : ℕ) (found : Option SchemaRef) (at : option_map schema_of found ≡ member_at schema p) where
+  any-next : (o : Option SchemaRef) → found ≡ o → list_any test (members_from schema p) ≡ list_any test (cons_option (option_map schema_of o) (members_from schema (p + 1)))
+  any-next o is = ap (list_any test) (members_from-more schema p ∙ ap (λ m. cons_option m (members_from schema (p + 1))) (sym at ∙ ap (option_map schema_of) is))
 
-  pub any-passed : (p : ℕ) (m : Schema) → p < length schema.node.members → Some m ≡ member_at schema p → test m ≡ false → list_any test (members_from schema p) ≡ list_any test (members_from schema (p + 1))
-  any-passed p m h e f = ap (list_any test) (from-next schema p h ∙ ap (λ o. cons_option o (members_from schema (p + 1))) (sym e)) ∙ rw f refl
+  pub any-hole : found ≡ None → list_any test (members_from schema p) ≡ list_any test (members_from schema (p + 1))
+  any-hole is = any-next None is
 
-  pub any-found : (p : ℕ) (m : Schema) → p < length schema.node.members → Some m ≡ member_at schema p → test m ≡ true → list_any test (members_from schema p) ≡ true
-  any-found p m h e f = ap (list_any test) (from-next schema p h ∙ ap (λ o. cons_option o (members_from schema (p + 1))) (sym e)) ∙ rw f refl
+  pub any-passed : (m : SchemaRef) → found ≡ Some m → test (schema_of m) ≡ false → list_any test (members_from schema p) ≡ list_any test (members_from schema (p + 1))
+  any-passed m is e = any-next (Some m) is ∙ rw e refl
 
-  pub any-none : (p : ℕ) → length schema.node.members ≤ p → list_any test (members_from schema p) ≡ false
-  any-none p h = ap (list_any test) (from-end schema p h)
+  pub any-found : (m : SchemaRef) → found ≡ Some m → test (schema_of m) ≡ true → list_any test (members_from schema p) ≡ true
+  any-found m is e = any-next (Some m) is ∙ rw e refl
 
 -- what a walk over positions finds
 places_length : (xs : List SchemaIndex) → length (places_of xs) ≡ length xs

@@ -5,6 +5,7 @@ use Rattle.smithy_http.specs.Responses.{Response}
 use Rattle.smithy_schema.specs.Nodes.{Schema, member_at, is_response_bound}
 use Rattle.smithy_serde.specs.declared.error.SerdeError.{SerdeError}
 use Rattle.smithy_serde.specs.Held.{Held}
+use Rattle.smithy_binding.proofs.MemberSteps.{members_from-more}
 use Rattle.smithy_response.specs.declared.parts.BoundMember.{BoundMember}
 use Rattle.smithy_response.specs.declared.parts.BoundMember.TheVariants as bound
 use Rattle.smithy_response.specs.declared.transport.Transport.{Transport}
@@ -12,7 +13,7 @@ use Rattle.smithy_response.specs.Handed.{Ended, routed, with_route}
 use Rattle.smithy_response.specs.Routes.{Route, passed_over, handed_out, handed_body, refused, route, route_at, source_of}
 use Rattle.smithy_response.specs.Transporting.{member_at_hand, members_from, still_routed, IsLeft, IsSameResponse, IsTaken, IsTakenAt, TakesAt, HandsMember, HandsBody, HandsNoMember, RefusesMember}
 use Rattle.smithy_response.proofs.BodyOnlyItems.{stands_in_body}
-use Rattle.smithy_response.proofs.Members.{from-next, from-end}
+use Rattle.smithy_response.proofs.Members.{from-end}
 
 taken_nothing : (response : Response) (r : Route) → IsTaken response r bound.Nothing → r ≡ passed_over
 taken_nothing response passed_over t = refl
@@ -61,15 +62,19 @@ module _ (schema : Schema) (is_given : Bool) (start t : Transport) (p : Passing 
   here : (rest : Option Held → Ended) (body : Option Held) (found : Option Schema) → found ≡ member_at schema t.place
       → still_routed t schema rest body ≡ routed t.response rest body (cons_option found (members_from schema (t.place + 1)))
   here rest body found e =
-      ap (λ ms. routed t.response rest body ms) (from-next schema t.place h ∙ ap (λ o. cons_option o (members_from schema (t.place + 1))) (sym e))
+      ap (λ ms. routed t.response rest body ms) (members_from-more schema t.place ∙ ap (λ o. cons_option o (members_from schema (t.place + 1))) (sym e))
 
-  pub passes_hole : None ≡ member_at schema t.place → Passing schema is_given start (record t { place = t.place + 1 })
-  passes_hole hole = record {
+  -- one more is passed over
+  passed : ((rest : Option Held → Ended) (body : Option Held) → IsLeft is_given body → still_routed start schema rest body ≡ after rest body) → Passing schema is_given start (record t { place = t.place + 1 })
+  passed follows = record {
     same = record { response = p.same.response; is_error = p.same.is_error; policy = p.same.policy };
     none = p.none;
     later = (let before : start.place ≤ t.place = p.later in omega (arith, before));
-    follows = λ rest body left. p.follows rest body left ∙ here rest body None hole;
+    follows = follows;
   }
+
+  pub passes_hole : None ≡ member_at schema t.place → Passing schema is_given start (record t { place = t.place + 1 })
+  passes_hole hole = passed (λ rest body left. p.follows rest body left ∙ here rest body None hole)
 
   module _ (m : Schema) (found : Some m ≡ member_at schema t.place) where
     by_route : (r : Route) → route m t.response ≡ r → (rest : Option Held → Ended) (body : Option Held) → IsLeft is_given body
@@ -78,32 +83,17 @@ module _ (schema : Schema) (is_given : Bool) (start t : Transport) (p : Passing 
         p.follows rest body left ∙ here rest body (Some m) found ∙ ap (λ x. with_route x m body (after rest body) (after rest None)) is
 
     pub passes_member : IsTakenAt t.response (source_of m) m bound.Nothing → Passing schema is_given start (record t { place = t.place + 1 })
-    passes_member taken = record {
-      same = record { response = p.same.response; is_error = p.same.is_error; policy = p.same.policy };
-      none = p.none;
-      later = (let before : start.place ≤ t.place = p.later in omega (arith, before));
-      follows = λ rest body left. by_route passed_over (taken_nothing t.response (route m t.response) taken.route) rest body left;
-    }
+    passes_member taken = passed (by_route passed_over (taken_nothing t.response (route m t.response) taken.route))
 
     -- no part of the response but the body has it
     pub passes_unbound : is_response_bound m ≡ false → Passing schema is_given start (record t { place = t.place + 1 })
-    passes_unbound unbound = record {
-      same = record { response = p.same.response; is_error = p.same.is_error; policy = p.same.policy };
-      none = p.none;
-      later = (let before : start.place ≤ t.place = p.later in omega (arith, before));
-      follows = λ rest body left. by_route passed_over (ap (λ s. route_at s m t.response) (stands_in_body m unbound).0) rest body left;
-    }
+    passes_unbound unbound = passed (by_route passed_over (ap (λ s. route_at s m t.response) (stands_in_body m unbound).0))
 
     -- the body was handed out before
     pub passes_body : is_given ≡ true → IsTakenAt t.response (source_of m) m bound.Body → Passing schema is_given start (record t { place = t.place + 1 })
-    passes_body given taken = record {
-      same = record { response = p.same.response; is_error = p.same.is_error; policy = p.same.policy };
-      none = p.none;
-      later = (let before : start.place ≤ t.place = p.later in omega (arith, before));
-      follows = λ rest body left.
-          by_route handed_body (taken_body t.response (route m t.response) taken.route) rest body left
-          ∙ ap (λ b. with_route handed_body m b (after rest body) (after rest None)) (left given);
-    }
+    passes_body given taken = passed (λ rest body left.
+        by_route handed_body (taken_body t.response (route m t.response) taken.route) rest body left
+        ∙ ap (λ b. with_route handed_body m b (after rest body) (after rest None)) (left given))
 
     pub hands_body : is_given ≡ false → IsTakenAt t.response (source_of m) m bound.Body
         → HandsBody schema m is_given start (record t { place = t.place + 1; member = bound.Body })

@@ -25,16 +25,16 @@ first_of old g i = go old.opened i
 
 -- before a structure was opened
 module _ (t : Transport) (b c : AtHand) where
-  pub is_in_top : (g : Group) → IsIn g (at_top t b) → IsIn g b
+  is_in_top : (g : Group) → IsIn g (at_top t b) → IsIn g b
   is_in_top g i = go b.opened i
     where
       go : (os : List Frame) → IsIn g (at_top t (record b { opened = os })) → IsIn g (record b { opened = os })
       go [] i = i
       go (o ∷ os) i = i
 
-  pub top_steps : (g : Group) → IsIn g b → Steps b c (at_top t b) (at_top t c)
+  pub top_steps : (g : Group) → IsIn g (at_top t b) → Steps b c (at_top t b) (at_top t c)
   top_steps g i =
-      let first = first_of b g i in
+      let first = first_of b g (is_in_top g i) in
       record {
         advanced = λ by slot a. shown_advanced untold_shows (map untold a.below) a (ap (map untold) a.was) (ap (map untold) a.now_is) refl refl;
         closed = λ by a. shown_closed untold_shows a (ap (map untold) a.was) refl refl;
@@ -95,16 +95,16 @@ module _ (t : Transport) (b c : AtHand) where
   abbrev over : List Frame → Frame → List Frame
   over os own = map plain os ++ (own ∷ [])
 
-  pub is_in_payload : (g : Group) → IsIn g (at_payload t b) → (g ≡ group.Structure → length b.opened ≢ 0) → IsIn g b
+  is_in_payload : (g : Group) → IsIn g (at_payload t b) → (g ≡ group.Structure → length b.opened ≢ 0) → IsIn g b
   is_in_payload g i n = go b.opened i n
     where
       go : (os : List Frame) → IsIn g (record (at_payload t b) { opened = over os (given_frame b) }) → (g ≡ group.Structure → length os ≢ 0) → IsIn g (record b { opened = os })
       go [] i n = absurd (n (sym i) refl)
       go (o ∷ os) i n = i
 
-  pub payload_steps : (g : Group) → IsIn g b → Steps b c (at_payload t b) (at_payload t c)
-  payload_steps g i =
-      let first = first_of b g i in
+  pub payload_steps : (g : Group) → IsIn g (at_payload t b) → (g ≡ group.Structure → length b.opened ≢ 0) → Steps b c (at_payload t b) (at_payload t c)
+  payload_steps g i n =
+      let first = first_of b g (is_in_payload g i n) in
       record {
         advanced = λ by slot a. shown_advanced plain_shows (over a.below (given_frame b)) a (ap (λ os. over os (given_frame b)) a.was)
             (ap (λ os. over os (given_frame c)) a.now_is ∙ ap (λ f. plain a.next ∷ over a.below f) (same_given (under_advanced b c a))) refl refl;
@@ -142,7 +142,7 @@ above_some t f (o ∷ os) n = refl
 
 -- while the body's fields are handed out
 module _ (t : Transport) (b c : AtHand) where
-  pub is_inner : (g : Group) → IsIn g (at_body t b) → length b.opened ≢ 1 → IsInner b.opened
+  is_inner : (g : Group) → IsIn g (at_body t b) → length b.opened ≢ 1 → IsInner b.opened
   is_inner g i n = go b.opened i n
     where
       go : (os : List Frame) → IsIn g (record (at_body t b) { opened = body_frames t os }) → length os ≢ 1 → IsInner os
@@ -150,27 +150,21 @@ module _ (t : Transport) (b c : AtHand) where
       go (o ∷ []) i n = absurd (n refl)
       go (o ∷ p ∷ os) i n = record { inner = o; outer = p; below = os; shape = refl }
 
-  pub is_in_body : (g : Group) → IsIn g (at_body t b) → IsIn g b
-  is_in_body g i = go b.opened i
-    where
-      go : (os : List Frame) → IsIn g (record (at_body t b) { opened = body_frames t os }) → IsIn g (record b { opened = os })
-      go [] i = i
-      go (o ∷ []) i = i
-      go (o ∷ p ∷ os) i = i
-
-  pub body_steps : IsInner b.opened → Steps b c (at_body t b) (at_body t c)
-  body_steps i = record {
-    advanced = λ by slot a.
-        let both : a.top ∷ a.below ≡ i.inner ∷ i.outer ∷ i.below = sym a.was ∙ i.shape in
-        let more : a.below ≡ i.outer ∷ i.below = cc in
-        shown_advanced plain_shows (body_frames t a.below) a (ap (body_frames t) a.was ∙ above t a.top i.outer a.below i.below more)
-        (ap (body_frames t) a.now_is ∙ above t a.next i.outer a.below i.below more) refl refl;
-    closed = λ by a.
-        let both : a.top ∷ c.opened ≡ i.inner ∷ i.outer ∷ i.below = sym a.was ∙ i.shape in
-        let more : c.opened ≡ i.outer ∷ i.below = cc in
-        shown_closed plain_shows a (ap (body_frames t) a.was ∙ above t a.top i.outer c.opened i.below more) refl refl;
-    halted = λ by e h. shown_halted plain_shows i.inner (i.outer ∷ i.below) (body_frames t (i.outer ∷ i.below)) h i.shape (ap (body_frames t) i.shape) (λ next is depth. ap (body_frames t) is);
-  }
+  pub body_steps : (g : Group) → IsIn g (at_body t b) → length b.opened ≢ 1 → Steps b c (at_body t b) (at_body t c)
+  body_steps g shown n =
+      let i = is_inner g shown n in
+      record {
+        advanced = λ by slot a.
+            let both : a.top ∷ a.below ≡ i.inner ∷ i.outer ∷ i.below = sym a.was ∙ i.shape in
+            let more : a.below ≡ i.outer ∷ i.below = cc in
+            shown_advanced plain_shows (body_frames t a.below) a (ap (body_frames t) a.was ∙ above t a.top i.outer a.below i.below more)
+            (ap (body_frames t) a.now_is ∙ above t a.next i.outer a.below i.below more) refl refl;
+        closed = λ by a.
+            let both : a.top ∷ c.opened ≡ i.inner ∷ i.outer ∷ i.below = sym a.was ∙ i.shape in
+            let more : c.opened ≡ i.outer ∷ i.below = cc in
+            shown_closed plain_shows a (ap (body_frames t) a.was ∙ above t a.top i.outer c.opened i.below more) refl refl;
+        halted = λ by e h. shown_halted plain_shows i.inner (i.outer ∷ i.below) (body_frames t (i.outer ∷ i.below)) h i.shape (ap (body_frames t) i.shape) (λ next is depth. ap (body_frames t) is);
+      }
 
   pub body_openings : (g : Group) (node : Schema) → length b.opened ≢ 0 → Openings g node b c (at_body t b) (at_body t c)
   body_openings g node n = record {
@@ -202,16 +196,16 @@ module _ (t u : Transport) (is_given : Bool) (b : AtHand) (same : IsSameTurn t u
   abbrev over_own : List Frame → Frame → List Frame
   over_own os own = os ++ (own ∷ [])
 
-  pub is_in_bound : (g : Group) → IsIn g (at_bound t is_given b) → (g ≡ group.Structure → ⊥) → IsIn g (transport_at_hand t)
+  is_in_bound : (g : Group) → IsIn g (at_bound t is_given b) → (g ≡ group.Structure → ⊥) → IsIn g (transport_at_hand t)
   is_in_bound g i n = go (transport_at_hand t).opened i
     where
       go : (os : List Frame) → IsIn g (record (at_bound t is_given b) { opened = over_own os (bound_frame t) }) → IsIn g (record (transport_at_hand t) { opened = os })
       go [] i = absurd (n (sym i))
       go (o ∷ os) i = i
 
-  pub bound_steps : (g : Group) → IsIn g (transport_at_hand t) → Steps (transport_at_hand t) (transport_at_hand u) (at_bound t is_given b) (at_bound u is_given b)
-  bound_steps g i =
-      let first = first_of (transport_at_hand t) g i in
+  pub bound_steps : (g : Group) → IsIn g (at_bound t is_given b) → (g ≡ group.Structure → ⊥) → Steps (transport_at_hand t) (transport_at_hand u) (at_bound t is_given b) (at_bound u is_given b)
+  bound_steps g i n =
+      let first = first_of (transport_at_hand t) g (is_in_bound g i n) in
       record {
         advanced = λ by slot a. shown_advanced same_shows (over_own a.below (bound_frame t)) a (ap (λ os. over_own os (bound_frame t)) a.was)
             (ap (λ os. over_own os (bound_frame u)) a.now_is ∙ ap (λ f. a.next ∷ over_own a.below f) same_bound) refl refl;

@@ -12,6 +12,7 @@ pub mod ResponseReaders
 pub mod ResponseValue
 pub mod Routes
 pub mod Settling
+pub mod Sought
 pub mod Stages
 pub mod TransportWins
 pub mod Transporting

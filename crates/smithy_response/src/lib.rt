@@ -5,6 +5,7 @@ mod composite;
 mod counted;
 mod header_reads;
 pub mod laws;
+mod member_search;
 mod member_writes;
 mod opening;
 mod parts;

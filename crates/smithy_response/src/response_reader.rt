@@ -1,13 +1,12 @@
 // The reader of a response, by what its schema binds.
 ghost use Rattle.std.specs.Prelude.{◌≡◌, [], true, false, IfOk};
-ghost use Rattle.std.specs.List.{list_any};
-ghost use Rattle.smithy_schema.specs.Nodes.{members_of, is_response_bound};
 ghost use Rattle.smithy_schema.specs.References.{schema_of};
 ghost use Rattle.smithy_response.specs.ResponseReaders.{is_body_only as is_body_only_told, reads_whole, IsReader};
 
 use crate::composite::CompositeReader;
+use crate::member_search::{Sought, has_member};
 use crate::parts::BoundMember;
-use crate::transport::{Transport, has_unbound};
+use crate::transport::Transport;
 use smithy_http::{NonUtf8HeaderHandling, Response};
 use smithy_schema::SchemaRef;
 use smithy_serde::{Group, ReadScalar, ScalarKind, SerdeError, ShapeDeserializer};
@@ -218,20 +217,5 @@ fn copied(alloc: Global, response: &Response) -> Result<Response, OutOfMemory>
 fn is_body_only(schema: SchemaRef<'_>) -> bool
     ensures { result ≡ is_body_only_told (schema_of schema.entry) }
 {
-    has_unbound(schema) && !has_bound(schema)
-}
-
-fn has_bound(schema: SchemaRef<'_>) -> bool
-    ensures { result ≡ list_any is_response_bound (members_of (schema_of schema.entry)) }
-{
-    let mut position: usize = 0;
-    while position < schema.members().len() {
-        if let Some(member) = schema.member_schema_by_index(position) {
-            if member.has_http_response_binding() {
-                return true;
-            }
-        }
-        position += 1;
-    }
-    false
+    has_member(schema, Sought::Unbound) && !has_member(schema, Sought::Bound)
 }

@@ -5,10 +5,11 @@ ghost use Rattle.smithy_schema.specs.References.{schema_of};
 ghost use Rattle.smithy_serde.specs.Held as held;
 ghost use Rattle.smithy_serde.specs.ReadCalls.{read_at};
 ghost use Rattle.smithy_response.specs.GivenScalars.{GivesScalar, GivesRaw};
-ghost use Rattle.smithy_response.specs.Handed.{has_no_bytes as has_no_bytes_told, has_payload as has_payload_told, has_unbound as has_unbound_told};
+ghost use Rattle.smithy_response.specs.Handed.{has_no_bytes as has_no_bytes_told};
 ghost use Rattle.smithy_response.specs.Settling.{skips as skips_told};
 
 use crate::header_reads::shape_type;
+use crate::member_search::{Sought, has_member};
 use crate::opening::{next_entry, open_entries, opened_type, read_entries};
 use crate::parts::BoundMember;
 use crate::prefixes::{has_unreadable, has_unreadable_behind};
@@ -104,8 +105,8 @@ impl Transport {
     pub(crate) fn reads_body(&self, schema: SchemaRef<'_>) -> bool
         ensures { result ≡ reads_body (schema_of schema.entry) self.now.response self.now.is_error }
     {
-        !has_payload(schema)
-            && has_unbound(schema)
+        !has_member(schema, Sought::Payload)
+            && has_member(schema, Sought::Unbound)
             && !(self.is_error && has_no_bytes(&self.response))
     }
 
@@ -321,36 +322,4 @@ fn has_no_bytes(response: &Response) -> bool
         Some(body) => body.as_slice().is_empty(),
         None => true,
     }
-}
-
-// Whether some member is the payload.
-fn has_payload(schema: SchemaRef<'_>) -> bool
-    ensures { result ≡ has_payload_told (schema_of schema.entry) }
-{
-    let mut position: usize = 0;
-    while position < schema.members().len() {
-        if let Some(member) = schema.member_schema_by_index(position) {
-            if member.http_payload().is_some() {
-                return true;
-            }
-        }
-        position += 1;
-    }
-    false
-}
-
-// Whether some member stands in the body.
-pub(crate) fn has_unbound(schema: SchemaRef<'_>) -> bool
-    ensures { result ≡ has_unbound_told (schema_of schema.entry) }
-{
-    let mut position: usize = 0;
-    while position < schema.members().len() {
-        if let Some(member) = schema.member_schema_by_index(position) {
-            if !member.has_http_response_binding() {
-                return true;
-            }
-        }
-        position += 1;
-    }
-    false
 }

@@ -1,4 +1,4 @@
-use Rattle.std.proofs.Common.{rules, ◌≡◌, refl, ap, sym, ◌∙◌, ◌++◌, ◌∷◌, [], Some, None, option_map, IfErr}
+use Rattle.std.proofs.Common.{rules, ◌≡◌, refl, ap, sym, ◌∙◌, [], Some, None, option_map, IfErr}
 use Rattle.smithy_serde.specs.StoredValues as stored
 use Rattle.smithy_serde.specs.StoredValues.{writes_in, value_in, label_at}
 use Rattle.smithy_serde.specs.Values.{Write, list_of}
@@ -7,7 +7,7 @@ use Rattle.smithy_strings.specs.Lists.{listed}
 use Rattle.smithy_binding.specs.Bindings.{element_text}
 use Rattle.smithy_binding.specs.Faults.{no_year}
 use Rattle.smithy_binding.specs.Refusing.{TellsFault}
-use Rattle.smithy_binding.proofs.ElementSteps.{AreTexts-none, AreTexts-more, AreTexts-stop, AreTexts-end, some_texts, left}
+use Rattle.smithy_binding.proofs.ElementSteps.{AreTexts-none, AreTexts-stop, AreTexts-end, written-more, some_texts, left}
 use Rattle.smithy_binding.proofs.Refusals.{IfErr-then}
 use Rattle.smithy_binding.proofs.elements.listed_text.Goals as goal
 
@@ -20,33 +20,15 @@ loop-node-init c =
 
 pub loop-node-preserved : goal.loop-node-preserved
 loop-node-preserved c =
-    let t = c.args.table.now in
-    let ws = list_of (writes_in t c.args.elements.now) in
     let so_far = c.loop-node.invariant.0 in
-    let text = c.as_str.result.now in
-    let found = c.in_ok-text.ensures.ok ∙ ap Some (sym c.as_str.ensures.value) in (
-      record {
-        texts = so_far.texts ++ text ∷ [];
-        are = AreTexts-more (element_text at.Header) t ws so_far.texts _ _ _ c.in-Some.ensures.steps so_far.are text found;
-        written = c.in_ok-push_listed.ensures.ok so_far.texts c.loop-node.invariant.1 so_far.written;
-      },
-      some_texts so_far.texts text,
-    )
+    let found = c.in_ok-text.ensures.ok ∙ ap Some (sym c.as_str.ensures.value) in
+    (written-more c.args.table.now c.in-Some.ensures.steps so_far found (c.in_ok-push_listed.ensures.ok so_far.texts c.loop-node.invariant.1 so_far.written), some_texts so_far.texts c.as_str.result.now)
 
 pub loop-node-preserved-in_ok-push_listed : goal.loop-node-preserved-in_ok-push_listed
 loop-node-preserved-in_ok-push_listed c =
-    let t = c.args.table.now in
-    let ws = list_of (writes_in t c.args.elements.now) in
     let so_far = c.loop-node.invariant.0 in
-    let text = c.as_str.result.now in
-    let found = c.in_ok-text.ensures.ok ∙ ap Some (sym c.as_str.ensures.value) in (
-      record {
-        texts = so_far.texts ++ text ∷ [];
-        are = AreTexts-more (element_text at.Header) t ws so_far.texts _ _ _ c.in-Some.ensures.steps so_far.are text found;
-        written = c.in_ok-push_listed.ensures.ok so_far.texts c.loop-node.invariant.1 so_far.written;
-      },
-      some_texts so_far.texts text,
-    )
+    let found = c.in_ok-text.ensures.ok ∙ ap Some (sym c.as_str.ensures.value) in
+    (written-more c.args.table.now c.in-Some.ensures.steps so_far found (c.in_ok-push_listed.ensures.ok so_far.texts c.loop-node.invariant.1 so_far.written), some_texts so_far.texts c.as_str.result.now)
 
 pub returns-in_err-text-clause-err : goal.returns-in_err-text-clause-err
 returns-in_err-text-clause-err c =

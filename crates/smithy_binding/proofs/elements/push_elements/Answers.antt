@@ -1,4 +1,4 @@
-use Rattle.std.proofs.Common.{rules, ◌≡◌, ap, sym, ◌∙◌, ◌++◌, ◌∷◌, [], string_bytes, Some, None, option_map, IfErr}
+use Rattle.std.proofs.Common.{rules, ◌≡◌, ap, sym, ◌∙◌, ◌++◌, [], string_bytes, Some, None, option_map, IfErr}
 use Rattle.std.proofs.lemmas.List.{append-nil}
 use Rattle.smithy_serde.specs.StoredValues.{writes_in, value_in, label_at, listed}
 use Rattle.smithy_serde.specs.Values.{Write, list_of}
@@ -7,7 +7,7 @@ use Rattle.smithy_binding.specs.Bindings.{element_text, pairs_with}
 use Rattle.smithy_binding.specs.Faults.{no_year}
 use Rattle.smithy_binding.specs.Refusing.{TellsFault}
 use Rattle.smithy_binding.specs.TargetParts.{queries}
-use Rattle.smithy_binding.proofs.ElementSteps.{AreTexts-none, AreTexts-more, AreTexts-stop, AreTexts-end, queries-push, left}
+use Rattle.smithy_binding.proofs.ElementSteps.{AreTexts-none, AreTexts-stop, AreTexts-end, written-more, queries-push, left}
 use Rattle.smithy_binding.proofs.Refusals.{IfErr-then}
 use Rattle.smithy_binding.proofs.elements.push_elements.Goals as goal
 
@@ -19,29 +19,17 @@ loop-node-init c =
 
 pub loop-node-preserved : goal.loop-node-preserved
 loop-node-preserved c =
-    let t = c.args.table.now in
-    let ws = list_of (writes_in t c.args.elements.now) in
     let so_far = c.loop-node.invariant in
-    let text = c.as_str.result.now in
     let found = c.in_ok-text.ensures.ok ∙ ap Some (sym c.as_str.ensures.value) in
-    record {
-      texts = so_far.texts ++ text ∷ [];
-      are = AreTexts-more (element_text at.Query) t ws so_far.texts _ _ _ c.in-Some.ensures.steps so_far.are text found;
-      written = queries-push (string_bytes c.args.query.now) (string_bytes c.loop-node.query) (string_bytes c.push_pair.new.query) c.args.name.now text so_far.texts so_far.written c.in_ok-push_pair.ensures;
-    }
+    written-more c.args.table.now c.in-Some.ensures.steps so_far found
+    (queries-push (string_bytes c.args.query.now) (string_bytes c.loop-node.query) (string_bytes c.push_pair.new.query) c.args.name.now c.as_str.result.now so_far.texts so_far.written c.in_ok-push_pair.ensures)
 
 pub loop-node-preserved-in_ok-push_pair : goal.loop-node-preserved-in_ok-push_pair
 loop-node-preserved-in_ok-push_pair c =
-    let t = c.args.table.now in
-    let ws = list_of (writes_in t c.args.elements.now) in
     let so_far = c.loop-node.invariant in
-    let text = c.as_str.result.now in
     let found = c.in_ok-text.ensures.ok ∙ ap Some (sym c.as_str.ensures.value) in
-    record {
-      texts = so_far.texts ++ text ∷ [];
-      are = AreTexts-more (element_text at.Query) t ws so_far.texts _ _ _ c.in-Some.ensures.steps so_far.are text found;
-      written = queries-push (string_bytes c.args.query.now) (string_bytes c.loop-node.query) (string_bytes c.push_pair.new.query) c.args.name.now text so_far.texts so_far.written c.in_ok-push_pair.ensures;
-    }
+    written-more c.args.table.now c.in-Some.ensures.steps so_far found
+    (queries-push (string_bytes c.args.query.now) (string_bytes c.loop-node.query) (string_bytes c.push_pair.new.query) c.args.name.now c.as_str.result.now so_far.texts so_far.written c.in_ok-push_pair.ensures)
 
 pub returns-in_err-text-clause-err : goal.returns-in_err-text-clause-err
 returns-in_err-text-clause-err c =

@@ -1,8 +1,7 @@
-use Rattle.std.proofs.Common.{◌≡◌, ap, sym, ◌∙◌, ◌+◌, ◌*◌, ◌<◌, ◌++◌, length, string_bytes, arith}
+use Rattle.std.proofs.Common.{ap, sym, ◌∙◌, ◌+◌, ◌*◌, ◌++◌, string_bytes}
 use Rattle.std.proofs.lemmas.List.{append-nil}
 use Rattle.smithy_schema.specs.References.{schema_of}
 use Rattle.smithy_serde.specs.StoredValues.{writes_in}
-use Rattle.smithy_serde.specs.Values.{list_of}
 use Rattle.smithy_binding.specs.Bindings.{query_names}
 use Rattle.smithy_binding.specs.Entries.{has_key, unnamed, pairs_at_place}
 use Rattle.smithy_binding.specs.TargetParts.{queries}
@@ -19,18 +18,15 @@ loop-place-preserved c = λ t m.
     let ws = writes_in t c.args.entries.now in
     let i = c.loop-place.place in
     let names = has_key c.in_ok-names.names in
-    let all : c.len-place-end.result ≡ length (list_of ws) = c.len-place-end.ensures t in
-    let within : 2 * i + 1 < length (list_of ws) = omega (arith, all, c.loop-place-test.true) in
     let key = c.text_at-key.result.now in
     pairs-push (string_bytes c.loop-place.query) (string_bytes c.push_entry.new.query) (unnamed c.in_ok-names.names key (pairs_at_place ws (2 * i + 1) key)) (kept_from names ws (i + 1))
     (c.in_ok-push_entry.ensures t)
-    ∙ sym (ap (λ ps. string_bytes c.loop-place.query ++ queries ps) (kept-at names ws i key within (c.text_at-key.ensures t)))
+    ∙ sym (ap (λ ps. string_bytes c.loop-place.query ++ queries ps) (kept-at names ws i key (c.len-place-end.ensures t) c.loop-place-test.true (c.text_at-key.ensures t)))
     ∙ c.loop-place.invariant t m
 
 pub returns : goal.returns
 returns c = λ t m.
     let ws = writes_in t c.args.entries.now in
-    let all : c.len-place-end.result ≡ length (list_of ws) = c.len-place-end.ensures t in
-    sym (ap (λ ps. string_bytes c.loop-place.query ++ queries ps) (kept-end (has_key c.in_ok-names.names) ws c.loop-place.place (omega (arith, all, c.loop-place-test.false)))
+    sym (ap (λ ps. string_bytes c.loop-place.query ++ queries ps) (kept-end (has_key c.in_ok-names.names) ws c.loop-place.place (c.len-place-end.ensures t) c.loop-place-test.false)
     ∙ append-nil (string_bytes c.loop-place.query))
     ∙ c.loop-place.invariant t m

@@ -1,7 +1,6 @@
-use Rattle.std.proofs.Common.{rules, ◌≡◌, refl, ap, sym, ◌∙◌, ◌+◌, ◌*◌, ◌<◌, ◌∷◌, [], length, Some, IfErr, arith}
+use Rattle.std.proofs.Common.{rules, ◌≡◌, refl, ap, sym, ◌∙◌, ◌+◌, ◌∷◌, [], Some, IfErr}
 use Rattle.smithy_schema.specs.References.{schema_of}
 use Rattle.smithy_serde.specs.StoredValues.{writes_in}
-use Rattle.smithy_serde.specs.Values.{list_of}
 use Rattle.smithy_http.specs.Headers.{put_all}
 use Rattle.smithy_binding.specs.Faults.{pairs_fault}
 use Rattle.smithy_binding.specs.Refusing.{TellsFault}
@@ -21,10 +20,7 @@ loop-place-preserved c =
     let i = c.loop-place.place in
     let e = header_of prefix c.text_at-key.result.now c.text_at-value.result.now in
     let rest = headers_from prefix ws (i + 1) in
-    let all : c.len-place-end.result ≡ length (list_of ws) = c.len-place-end.ensures t in
-    let within : 2 * i + 1 < length (list_of ws) = omega (arith, all, c.loop-place-test.true) in
-    let here : headers_from prefix ws i ≡ e ∷ rest =
-    headers-at prefix ws i c.text_at-key.result.now c.text_at-value.result.now within (c.text_at-key.ensures t) (c.text_at-value.ensures t) in
+    let here = headers-at prefix ws i c.text_at-key.result.now c.text_at-value.result.now (c.len-place-end.ensures t) c.loop-place-test.true (c.text_at-key.ensures t) (c.text_at-value.ensures t) in
     record {
       legal = sym (pairs_fault-more m e rest c.in_ok-put_entry.ensures.ok) ∙ sym (ap (pairs_fault m) here) ∙ c.loop-place.invariant.legal;
       put = ap (λ hs. put_all hs rest) c.in_ok-put_entry.ensures.put ∙ sym (ap (put_all c.loop-place.headers) here) ∙ c.loop-place.invariant.put;
@@ -39,22 +35,16 @@ returns-in_err-put_entry-clause-err c =
     let i = c.loop-place.place in
     let e = header_of prefix c.text_at-key.result.now c.text_at-value.result.now in
     let rest = headers_from prefix ws (i + 1) in
-    let all : c.len-place-end.result ≡ length (list_of ws) = c.len-place-end.ensures t in
-    let within : 2 * i + 1 < length (list_of ws) = omega (arith, all, c.loop-place-test.true) in
-    let here : headers_from prefix ws i ≡ e ∷ rest =
-    headers-at prefix ws i c.text_at-key.result.now c.text_at-value.result.now within (c.text_at-key.ensures t) (c.text_at-value.ensures t) in
+    let here = headers-at prefix ws i c.text_at-key.result.now c.text_at-value.result.now (c.len-place-end.ensures t) c.loop-place-test.true (c.text_at-key.ensures t) (c.text_at-value.ensures t) in
     let told : IfErr c.from_residual.result (λ r. TellsFault r (λ f. pairs_fault m (e ∷ []) ≡ Some f)) = search rules in
     IfErr-then c.from_residual.result _ _ (λ f one. sym c.loop-place.invariant.legal ∙ ap (pairs_fault m) here ∙ pairs_fault-stop m e rest f one) told
 
 pub returns-clause-ok : goal.returns-clause-ok
 returns-clause-ok c =
-    let m = schema_of c.args.member in
     let ws = writes_in c.args.table.now c.args.entries.now in
-    let all : c.len-place-end.result ≡ length (list_of ws) = c.len-place-end.ensures c.args.table.now in
-    sym c.loop-place.invariant.legal ∙ ap (pairs_fault m) (headers-end c.args.prefix.now ws c.loop-place.place (omega (arith, all, c.loop-place-test.false)))
+    sym c.loop-place.invariant.legal ∙ ap (pairs_fault (schema_of c.args.member)) (headers-end c.args.prefix.now ws c.loop-place.place (c.len-place-end.ensures c.args.table.now) c.loop-place-test.false)
 
 pub returns-clause-put : goal.returns-clause-put
 returns-clause-put c =
     let ws = writes_in c.args.table.now c.args.entries.now in
-    let all : c.len-place-end.result ≡ length (list_of ws) = c.len-place-end.ensures c.args.table.now in
-    sym (ap (put_all c.loop-place.headers) (headers-end c.args.prefix.now ws c.loop-place.place (omega (arith, all, c.loop-place-test.false)))) ∙ c.loop-place.invariant.put
+    sym (ap (put_all c.loop-place.headers) (headers-end c.args.prefix.now ws c.loop-place.place (c.len-place-end.ensures c.args.table.now) c.loop-place-test.false)) ∙ c.loop-place.invariant.put

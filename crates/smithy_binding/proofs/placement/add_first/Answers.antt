@@ -1,5 +1,4 @@
 use Rattle.std.proofs.Common.{rules, ◌≡◌, ap, sym, ◌∙◌, true, Some}
-use Rattle.std.proofs.lemmas.Result.{on_ok_weaker}
 use Rattle.smithy_schema.specs.References.{schema_of}
 use Rattle.smithy_serde.specs.Fits.{fits_member}
 use Rattle.smithy_serde.specs.StoredValues.{value_in, writes_in}
@@ -7,7 +6,6 @@ use Rattle.smithy_serde.specs.Values.{list, map}
 use Rattle.smithy_serde.specs.declared.value.ShapeValue.{ShapeValue}
 use Rattle.smithy_binding.specs.Placed.{first_fault, IsSingle}
 use Rattle.smithy_binding.proofs.FirstKinds.{list-fits, map-fits, single-fits}
-use Rattle.smithy_binding.proofs.Refusals.{IfErr-at}
 use Rattle.smithy_binding.proofs.placement.add_first.Goals as goal
 
 pub add_list-requires : goal.add_list-requires
@@ -34,11 +32,4 @@ add_single-requires-clause-placed c =
     single-fits (schema_of c.args.member) v single c.requires.placed c.requires.kinds c.requires.fits
 
 pub returns-in_default : goal.returns-in_default
-returns-in_default c =
-    let t = c.args.table.now in
-    record {
-      ok = on_ok_weaker c.add_single.result (λ told. told t) c.add_single.ensures.ok;
-      put = on_ok_weaker c.add_single.result (λ told. told t) c.add_single.ensures.put;
-      body = c.add_single.ensures.body;
-      err = IfErr-at c.add_single.result (λ t f. first_fault (schema_of c.args.member) (value_in t c.args.value.now) ≡ Some f) t c.add_single.ensures.err;
-    }
+returns-in_default c = c.add_single.ensures c.args.table.now

@@ -3,19 +3,22 @@ use Rattle.smithy_schema.specs.Nodes.{binding_of}
 use Rattle.smithy_schema.specs.References.{schema_of}
 use Rattle.smithy_serde.specs.StoredValues.{value_in}
 use Rattle.smithy_binding.specs.Bindings.{place_of, member_text}
-use Rattle.smithy_binding.specs.Placed.{first_fault}
 use Rattle.smithy_binding.specs.Faults.{no_year}
 use Rattle.smithy_binding.specs.Refusing.{TellsFault}
 use Rattle.smithy_binding.proofs.FirstWrites.{text-placed, first_fault-value, single-no_year}
-use Rattle.smithy_binding.proofs.Refusals.{IfErr-then, IfErr-all}
+use Rattle.smithy_binding.proofs.Refusals.{IfErr-then}
 use Rattle.smithy_binding.proofs.placement.add_single.Goals as goal
 
-pub returns-in_err-text-clause-err : goal.returns-in_err-text-clause-err
-returns-in_err-text-clause-err c =
+pub returns-in_err-text : goal.returns-in_err-text
+returns-in_err-text c = λ t.
     let m = schema_of c.args.member in
-    IfErr-all c.from_residual.result (λ t f. first_fault m (value_in t c.args.value.now) ≡ Some f)
-    (λ t. let v = value_in t c.args.value.now in
+    let v = value_in t c.args.value.now in
     let refused = c.in_err-text.ensures.err t in
     let told : IfErr c.from_residual.result (λ e. TellsFault e (λ f. (f ≡ no_year) × (member_text (place_of m) m v ≡ None))) = search rules in
-    IfErr-then c.from_residual.result _ _
-    (λ f e. first_fault-value m v f (text-placed (binding_of m) c.requires.placed) (single-no_year m v (c.requires.single t) e.1 ∙ ap Some (sym e.0))) told)
+    record {
+      ok = search rules;
+      put = search rules;
+      body = search rules;
+      err = IfErr-then c.from_residual.result _ _
+          (λ f e. first_fault-value m v f (text-placed (binding_of m) c.requires.placed) (single-no_year m v (c.requires.single t) e.1 ∙ ap Some (sym e.0))) told;
+    }

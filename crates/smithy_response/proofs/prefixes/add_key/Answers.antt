@@ -5,7 +5,8 @@ use Rattle.std.specs.Cmp.Lexicographic.{slice_cmp}
 use Rattle.std.specs.Ordering.{nat_cmp}
 use Rattle.std.proofs.lemmas.Map.Text.{btree_map_updates_str}
 use Rattle.smithy_types.specs.Texts.{is_one_of}
-use Rattle.smithy_response.proofs.KnownKeys.{is_some-copied, known-more, key-known, key-new}
+use Rattle.smithy_binding.proofs.DistinctNames.{is_some-copied}
+use Rattle.smithy_response.proofs.KnownKeys.{known-more, key-known, key-new}
 use Rattle.smithy_response.proofs.prefixes.add_key.Goals as goal
 
 abbrev place_in : BTreeMap (Bor (List ℕ)) ℕ → List ℕ → Option ℕ
