@@ -1,5 +1,5 @@
 // The nodes of members and shapes.
-ghost use Rattle.std.specs.Prelude.{◌≡◌, ◌∷◌, [], true, false, None, Some, map, IfOk, OnOk};
+ghost use Rattle.std.specs.Prelude.{◌≡◌, ◌∷◌, [], true, false, None, Some, map, string_bytes, IfOk, OnOk};
 ghost use Rattle.std.specs.List.{range_with_len};
 ghost use Rattle.smithy_ids.specs.ShapeIds.{has_hash};
 ghost use Rattle.smithy_ids.specs.ShapeIdParts.{parts_of};
@@ -72,6 +72,18 @@ fn member_schema<'a>(
     holding(schema, spot.shape.kind, spot.first)
 }
 
+// The full name of a member.
+fn member_id(alloc: Global, shape: &str, name: &str) -> Result<String, OutOfMemory>
+    ensures { IfOk result (λ id. string_bytes id ≡ defined.member_id shape.now name.now) }
+{
+    let len = place_behind(place_behind(shape.len(), 1)?, name.len())?;
+    let mut id = String::with_capacity(alloc, len)?;
+    id.push_str(shape)?;
+    id.push_str("$")?;
+    id.push_str(name)?;
+    Ok(id)
+}
+
 /// Gives a place the node of a member of the shape of this name, of the shape at a spot. Takes memory.
 pub fn define_member<'v, 's>(
     alloc: Global,
@@ -91,7 +103,7 @@ pub fn define_member<'v, 's>(
 {
     let traits = passed_traits(spots, &member.traits, spot.shape);
     let name = member.name;
-    let full_name = format!(in alloc; "{shape}${name}")?;
+    let full_name = member_id(alloc, shape, name)?;
     let schema = member_schema(shape_id(full_name.as_str()), spot, name, position)?;
     define(table, place, with_traits(alloc, schema, traits)?)
 }
@@ -100,7 +112,7 @@ pub fn define_member<'v, 's>(
 fn places_from(alloc: Global, first: usize, count: usize) -> Result<Vec<SchemaIndex>, OutOfMemory>
     ensures { IfOk result (λ places. places_of places.items ≡ range_with_len first count) }
 {
-    let mut places = Vec::new(alloc);
+    let mut places = Vec::with_capacity(alloc, count)?;
     for position in 0..count {
         places.push(SchemaIndex(place_behind(first, position)?))?;
     }

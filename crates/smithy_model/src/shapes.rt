@@ -44,7 +44,7 @@ fn members_in<'v>(
     ensures { Reads (λ v. map member_view v.items)
         (each member_in (map entry_view members.now.entries)) result }
 {
-    let mut found = Vec::new(alloc);
+    let mut found = Vec::with_capacity(alloc, members.len())?;
     for (name, value) in members.iter() {
         let Some(member) = read_member(name.as_str(), value) else {
             return Err(JobError::NoJob);

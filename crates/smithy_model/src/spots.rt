@@ -58,7 +58,7 @@ pub fn spots_from<'v, 's>(
     ensures { IfOk result (λ v.
         map spot_view v.items ≡ defined.spots_from 0 place (map shape_view shapes.now)) }
 {
-    let mut spots = Vec::new(alloc);
+    let mut spots = Vec::with_capacity(alloc, shapes.len())?;
     let mut first = 0;
     let mut next = place;
     for shape in shapes {
