@@ -1,7 +1,7 @@
 // Structures as documents and back, and what documents and their texts are read as.
 ghost use Rattle.std.specs.Prelude.{◌≡◌, IsTrue};
 ghost use Rattle.smithy_types.specs.DocumentView.{view};
-ghost use Rattle.smithy_serde.specs.Lawful.{is_canonical as lawful};
+ghost use Rattle.smithy_serde.specs.Lawful.{is_canonical};
 
 use crate::codecs::{inserted, shape};
 use crate::consumers::reader_over;
@@ -22,7 +22,7 @@ use std::test::Fail;
 
 // Whether a reader of documents takes it.
 pub(crate) fn is_canonical(document: &Document) -> bool
-    ensures { result ≡ lawful (view document.now) }
+    ensures { result ≡ is_canonical (view document.now) }
 {
     canonical_documents_are_told();
     document.is_canonical()
@@ -88,7 +88,7 @@ fn structures_come_back_from_their_documents(rt: HostRuntime) -> Result<(), Fail
 
 // The document of a JSON text.
 fn document_of(rt: &impl Abort, alloc: Global, text: &str) -> Document
-    ensures { IsTrue (lawful (view result)) }
+    ensures { IsTrue (is_canonical (view result)) }
 {
     let node = SchemaRef::prelude(ShapeType::Document);
     let mut reader = reader_over(rt, alloc, text);

@@ -12,7 +12,7 @@ ghost use Rattle.smithy_binding.specs.Faults.{Fault};
 ghost use Rattle.smithy_binding.specs.Protocols.{codec_of, protocol_of};
 ghost use Rattle.smithy_binding.specs.Refusing.{Answers};
 ghost use Rattle.smithy_bind.specs.Generating as generating;
-ghost use Rattle.smithy_bind.specs.Outcome.{generated_by, summed as summed_up};
+ghost use Rattle.smithy_bind.specs.Outcome.{generated_by, summed};
 ghost use Rattle.smithy_bind.specs.AnswerView.{Gives};
 
 use crate::answer::Answer;
@@ -102,7 +102,7 @@ fn summed_input<C: Codec>(
     requires checked { IsTrue (checked_input (schema_of schema)) }
     ensures { let sent = list_of (writes input.now) in
         let protocol = protocol_of C.text protocol.now in
-        Gives (summed_up (answer protocol (schema_of schema.entry) sent endpoint.now (omit_of omit))) result }
+        Gives (summed (answer protocol (schema_of schema.entry) sent endpoint.now (omit_of omit))) result }
 {
     summed(
         alloc,
@@ -112,7 +112,7 @@ fn summed_input<C: Codec>(
 
 // What is told of a request that was made or refused: four lines on it, or the line of the refusal.
 fn summed(alloc: Global, made: Result<Request, SerdeError>) -> Result<Answer, JobError>
-    ensures { (answer : Result Sent Fault) → Answers made answer → Gives (summed_up answer) result }
+    ensures { (answer : Result Sent Fault) → Answers made answer → Gives (summed answer) result }
 {
     match made {
         Ok(request) => Ok(Answer::Output(summary(alloc, &request)?)),

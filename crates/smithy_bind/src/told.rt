@@ -3,7 +3,7 @@ ghost use Rattle.std.specs.Prelude.{Result};
 ghost use Rattle.smithy_http.specs.Requests.{Request as Sent};
 ghost use Rattle.smithy_binding.specs.Faults.{Fault};
 ghost use Rattle.smithy_binding.specs.Refusing.{Answers};
-ghost use Rattle.smithy_bind.specs.Outcome.{told as outcome_told};
+ghost use Rattle.smithy_bind.specs.Outcome.{told};
 ghost use Rattle.smithy_bind.specs.AnswerView.{Gives, TellsRefusal};
 
 use crate::answer::Answer;
@@ -15,7 +15,7 @@ use std::alloc::Global;
 
 /// What is told of a request that was made or refused: itself as text, or the line of the refusal. Takes memory.
 pub fn told(alloc: Global, made: Result<Request, SerdeError>) -> Result<Answer, JobError>
-    ensures { (answer : Result Sent Fault) → Answers made answer → Gives (outcome_told answer) result }
+    ensures { (answer : Result Sent Fault) → Answers made answer → Gives (told answer) result }
 {
     match made {
         Ok(request) => Ok(Answer::Output(shown(alloc, &request)?)),

@@ -1,7 +1,7 @@
 // Where a member stands in a request (Smithy, HTTP protocol bindings).
 ghost use Rattle.std.specs.Prelude.{◌≡◌, false, length, not};
 ghost use Rattle.std.specs.Option.{option_map_or};
-ghost use Rattle.smithy_schema.specs.Nodes.{name_of as name, is_bound as bound, member_at};
+ghost use Rattle.smithy_schema.specs.Nodes.{name_of, is_bound, member_at};
 ghost use Rattle.smithy_schema.specs.References.{schema_of};
 ghost use Rattle.smithy_schema.specs.ShownBindings.{binding_shown};
 ghost use Rattle.smithy_binding.specs.Bodies.{has_unbound_member as has_unbound};
@@ -11,7 +11,7 @@ use smithy_schema::{Binding, SchemaRef};
 
 /// Whether the member stands outside the body.
 pub fn is_bound(member: SchemaRef<'_>) -> bool
-    ensures { result ≡ bound (schema_of member.entry) }
+    ensures { result ≡ is_bound (schema_of member.entry) }
 {
     !matches!(member.request_binding(), Binding::Body)
 }
@@ -26,7 +26,7 @@ pub fn is_placed(binding: Binding<'_>) -> bool
 // Whether an unbound member stands at the position.
 fn is_unbound_at(schema: SchemaRef<'_>, position: usize) -> bool
     ensures { result
-        ≡ option_map_or (λ m. not (bound m)) (member_at (schema_of schema.entry) position) false }
+        ≡ option_map_or (λ m. not (is_bound m)) (member_at (schema_of schema.entry) position) false }
 {
     match schema.member_schema_by_index(position) {
         Some(member) => !is_bound(member),
@@ -56,7 +56,7 @@ pub fn has_unbound_members(schema: SchemaRef<'_>) -> bool
 
 /// The member's name in messages, empty where it has none.
 pub fn name_of<'t>(member: SchemaRef<'t>) -> &'t str
-    ensures { result.now ≡ name (schema_of member.entry) }
+    ensures { result.now ≡ name_of (schema_of member.entry) }
 {
     member.member_name().unwrap_or("")
 }

@@ -8,7 +8,7 @@ ghost use Rattle.smithy_serde.specs.DocumentOf.{document_fault};
 ghost use Rattle.smithy_serde.specs.Refusing.{IsFaultRefusal};
 ghost use Rattle.smithy_serde.specs.Finishing.{IsTextOf, IsReady};
 ghost use Rattle.smithy_serde.specs.StoredValues.{value_in, IsDefined};
-ghost use Rattle.smithy_binding.specs.Bodies.{raw_bytes as bytes_of_raw, text_of_document, document_by, bytes_by};
+ghost use Rattle.smithy_binding.specs.Bodies.{raw_bytes, text_of_document, document_by, bytes_by};
 ghost use Rattle.smithy_binding.specs.Faults.{fault_of_document};
 ghost use Rattle.smithy_binding.specs.Refusing.{IsTold};
 ghost use Rattle.smithy_binding.specs.KeptWrites.{value_of, unbound_in, AreDefinedWrites, kept_in, IsKeptDefined};
@@ -61,7 +61,7 @@ pub fn text_of_writes<S: FinishSerializer + Drop>(
 // The bytes of a text or a blob.
 #[tactic(auto, unfolding(smithy_serde::specs::StoredValues::value_in))]
 fn raw_bytes(value: &ShapeValue) -> &[u8]
-    ensures { (t : Table) → result.now ≡ bytes_of_raw (value_in t value.now) }
+    ensures { (t : Table) → result.now ≡ raw_bytes (value_in t value.now) }
 {
     match value {
         ShapeValue::String(text) => text.as_str().as_bytes(),
@@ -73,7 +73,7 @@ fn raw_bytes(value: &ShapeValue) -> &[u8]
 // The bytes of a text or blob payload, none where it was not written.
 fn raw_body(alloc: Global, payload: Option<BodyWrite<'_, '_>>) -> Result<Blob, OutOfMemory>
     ensures { IfOk result (λ b. (t : Table) →
-        b ≡ unwrap_or (option_map bytes_of_raw (option_map (value_of t) payload.entry)) []) }
+        b ≡ unwrap_or (option_map raw_bytes (option_map (value_of t) payload.entry)) []) }
 {
     match payload {
         Some(write) => Blob::new(alloc, raw_bytes(write.value)),

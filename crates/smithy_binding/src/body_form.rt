@@ -3,7 +3,7 @@ ghost use Rattle.std.specs.Prelude.{◌≡◌, Some, false, not};
 ghost use Rattle.std.specs.Option.{option_map_or};
 ghost use Rattle.smithy_schema.specs.Nodes.{member_at, is_bound};
 ghost use Rattle.smithy_schema.specs.References.{schema_of};
-ghost use Rattle.smithy_binding.specs.Bodies.{has_unbound_member as has_unbound, form_at, form_in, is_codec, is_raw_kind as raw_kind, is_codec_kind as codec_kind, unbound_form as form_without};
+ghost use Rattle.smithy_binding.specs.Bodies.{has_unbound_member as has_unbound, form_at, form_in, is_codec, is_raw_kind, is_codec_kind, unbound_form};
 ghost use Rattle.smithy_binding.specs.PayloadKinds.{kind_if_payload};
 
 use crate::binding::{has_unbound_members, member_count};
@@ -34,14 +34,14 @@ impl BodyForm {
 
 /// A Blob or a String: the kinds of a payload whose bytes are the body.
 pub fn is_raw_kind(kind: ShapeType) -> bool
-    ensures { result ≡ raw_kind kind }
+    ensures { result ≡ is_raw_kind kind }
 {
     matches!(kind, ShapeType::Blob | ShapeType::String)
 }
 
 /// The kinds of a payload whose document is the root of the body.
 pub fn is_codec_kind(kind: ShapeType) -> bool
-    ensures { result ≡ codec_kind kind }
+    ensures { result ≡ is_codec_kind kind }
 {
     matches!(
         kind,
@@ -96,7 +96,7 @@ fn part_at(schema: SchemaRef<'_>, position: usize) -> BodyPart
 }
 
 fn unbound_form(has_unbound: bool) -> BodyForm
-    ensures { result ≡ form_without has_unbound }
+    ensures { result ≡ unbound_form has_unbound }
 {
     if has_unbound {
         BodyForm::Unbound

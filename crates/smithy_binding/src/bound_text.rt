@@ -6,7 +6,7 @@ ghost use Rattle.smithy_schema.specs.References.{schema_of};
 ghost use Rattle.smithy_schema.specs.ShownBindings.{binding_shown};
 ghost use Rattle.smithy_serde.specs.StoredValues.{value_in, label_at};
 ghost use Rattle.smithy_strings.specs.Wire.{wire};
-ghost use Rattle.smithy_binding.specs.Bindings.{place_at, member_text, element_text as element};
+ghost use Rattle.smithy_binding.specs.Bindings.{place_at, member_text, element_text};
 ghost use Rattle.smithy_binding.specs.Refusing.{LacksYear};
 ghost use Rattle.smithy_binding.specs.Seen.{write_at};
 
@@ -98,8 +98,8 @@ pub fn element_text<'w>(
     value: &'w ShapeValue,
 ) -> Result<CowStr<'w, Global>, SerdeError>
     ensures ok { IfOk result
-        (λ s. element place (write_at table.now node.0 value.now) ≡ Some (cow_str_bytes s)) }
-    ensures err { IfErr result (LacksYear (element place (write_at table.now node.0 value.now))) }
+        (λ s. element_text place (write_at table.now node.0 value.now) ≡ Some (cow_str_bytes s)) }
+    ensures err { IfErr result (LacksYear (element_text place (write_at table.now node.0 value.now))) }
 {
     text_or_no_year(alloc, format_at(table, node), false, place, value)
 }

@@ -4,8 +4,8 @@ ghost use Rattle.std.specs.Option.{option_map_or};
 ghost use Rattle.smithy_ids.specs.Kinds.{is_structure_or_union as struct_or_union};
 ghost use Rattle.smithy_schema.specs.Nodes.{members_of};
 ghost use Rattle.smithy_schema.specs.References.{schema_of};
-ghost use Rattle.smithy_binding.specs.Checked.{checked_input as checked, agrees as hint_agrees, has_sound_names, has_sound_http};
-ghost use Rattle.smithy_binding.specs.Checking.{shown, are_sound as sound, has_true_flags_for};
+ghost use Rattle.smithy_binding.specs.Checked.{checked_input, agrees, has_sound_names, has_sound_http};
+ghost use Rattle.smithy_binding.specs.Checking.{shown, are_sound, has_true_flags_for};
 
 use crate::clear::is_clear;
 use crate::member_check::{Direction, is_structure_or_union};
@@ -33,7 +33,7 @@ fn is_struct_payload(kind: Option<ShapeType>) -> bool
 
 // The hint says nothing, or whether there is a structure payload.
 fn agrees(hint: PayloadHint, has_struct_payload: bool) -> bool
-    ensures { result ≡ hint_agrees hint has_struct_payload }
+    ensures { result ≡ agrees hint has_struct_payload }
 {
     match hint {
         PayloadHint::Unknown => true,
@@ -53,7 +53,7 @@ fn has_true_flags(schema: SchemaRef<'_>, members: &[SchemaRef<'_>]) -> bool
 
 // What needs no memory.
 fn are_sound(schema: SchemaRef<'_>, members: &[SchemaRef<'_>]) -> bool
-    ensures { result ≡ sound (schema_of schema.entry) (shown members.now) }
+    ensures { result ≡ are_sound (schema_of schema.entry) (shown members.now) }
 {
     are_sound_members(members, Direction::Request)
         && has_sound_payload(members, Direction::Request)
@@ -93,7 +93,7 @@ fn are_checked<'t>(
     members: &[SchemaRef<'t>],
 ) -> Result<bool, AllocError>
     requires { shown members.now ≡ members_of (schema_of schema) }
-    ensures { IfOk result (λ b. b ≡ (sound (schema_of schema.entry) (members_of (schema_of schema.entry))
+    ensures { IfOk result (λ b. b ≡ (are_sound (schema_of schema.entry) (members_of (schema_of schema.entry))
         && has_sound_names (schema_of schema.entry) && has_sound_http (schema_of schema.entry))) }
 {
     if !are_sound(schema, members) {
@@ -111,7 +111,7 @@ fn are_checked<'t>(
 /// each sort, distinct header and query names, a flag and a hint that say what holds, and a clear template (Smithy,
 /// HTTP protocol bindings). Linear in the number of members, but for the names, which are sorted. Takes memory.
 pub fn checked_input(alloc: Global, schema: SchemaRef<'_>) -> Result<bool, OutOfMemory>
-    ensures { IfOk result (λ b. b ≡ checked (schema_of schema.entry)) }
+    ensures { IfOk result (λ b. b ≡ checked_input (schema_of schema.entry)) }
 {
     match named_members(alloc, schema)? {
         Some(members) => Ok(are_checked(alloc, schema, members.as_slice())?),

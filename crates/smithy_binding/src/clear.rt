@@ -2,8 +2,8 @@
 ghost use Rattle.std.specs.Prelude.{◌≡◌, ◌&&◌, ◌==◌, ℕ, List, IfOk, length, map, string_bytes};
 ghost use Rattle.std.specs.List.{after_last, list_all};
 ghost use Rattle.smithy_types.specs.Grammars.{is_legal_target};
-ghost use Rattle.smithy_schema.specs.Templates.{has_unclosed_brace as has_unclosed, holes_of};
-ghost use Rattle.smithy_binding.specs.Clear.{filled_by_a as filled_text, ends_segment as ends_test, begins_segment as begins_test, are_whole_segments as whole_test, has_whole_authority as authority_test, is_greedy_last as greedy_test, holes_named};
+ghost use Rattle.smithy_schema.specs.Templates.{has_unclosed_brace, holes_of};
+ghost use Rattle.smithy_binding.specs.Clear.{filled_by_a, ends_segment, begins_segment, are_whole_segments, has_whole_authority, is_greedy_last, holes_named};
 ghost use Rattle.smithy_binding.specs.Checking.{is_clear_for, texts_shown};
 ghost use Rattle.smithy_binding.specs.ClearParts.{mark_in, is_marked_once, once_mark, times_named};
 ghost use Rattle.smithy_binding.specs.CutTemplate.{hole_shown, template_shown};
@@ -29,14 +29,14 @@ fn behind_last_close(bytes: &[u8]) -> &[u8]
 
 /// Whether a `{` stands behind the last `}`.
 pub fn has_unclosed_brace(text: &str) -> bool
-    ensures { result ≡ has_unclosed text.now }
+    ensures { result ≡ has_unclosed_brace text.now }
 {
     behind_last_close(text.as_bytes()).contains(&b'{')
 }
 
 /// The template with each hole filled by `a`.
 pub fn filled_by_a(alloc: Global, template: &CutTemplate<'_>) -> Result<String, AllocError>
-    ensures { IfOk result (λ t. string_bytes t ≡ filled_text (template_shown template.now)) }
+    ensures { IfOk result (λ t. string_bytes t ≡ filled_by_a (template_shown template.now)) }
 {
     let mut out = String::new(alloc);
     for hole in template.holes.iter() {
@@ -49,21 +49,21 @@ pub fn filled_by_a(alloc: Global, template: &CutTemplate<'_>) -> Result<String, 
 
 // The literal may stand before a hole.
 fn ends_segment(literal: &[u8]) -> bool
-    ensures { result ≡ ends_test literal.now }
+    ensures { result ≡ ends_segment literal.now }
 {
     literal.ends_with(b"/") && !literal.contains(&b'?')
 }
 
 // The literal may stand behind a hole.
 fn begins_segment(literal: &[u8]) -> bool
-    ensures { result ≡ begins_test literal.now }
+    ensures { result ≡ begins_segment literal.now }
 {
     literal.is_empty() || literal.starts_with(b"/") || literal.starts_with(b"?")
 }
 
 /// Whether every hole is a whole segment of the path.
 pub fn are_whole_segments(template: &CutTemplate<'_>) -> bool
-    ensures { let shown = template_shown template.now in result ≡ whole_test shown.first shown.rest }
+    ensures { let shown = template_shown template.now in result ≡ are_whole_segments shown.first shown.rest }
 {
     let mut is_behind = false;
     for hole in template.holes.iter() {
@@ -91,7 +91,7 @@ fn first_literal<'t>(template: &CutTemplate<'t>) -> &'t str
 
 /// Whether, in absolute form, the authority and the `/` behind it stand before the first hole.
 pub fn has_whole_authority(template: &CutTemplate<'_>) -> bool
-    ensures { result ≡ authority_test (template_shown template.now) }
+    ensures { result ≡ has_whole_authority (template_shown template.now) }
 {
     let first = first_literal(template).as_bytes();
     let rest = behind_scheme(first);
@@ -100,7 +100,7 @@ pub fn has_whole_authority(template: &CutTemplate<'_>) -> bool
 
 /// Whether no hole but the last is greedy.
 pub fn is_greedy_last(template: &CutTemplate<'_>) -> bool
-    ensures { result ≡ greedy_test (holes_of (template_shown template.now)) }
+    ensures { result ≡ is_greedy_last (holes_of (template_shown template.now)) }
 {
     let mut is_greedy = false;
     for hole in template.holes.iter() {
@@ -169,7 +169,7 @@ fn hole_count(template: &CutTemplate<'_>) -> usize
 // With `a` in each hole it is a legal target, and the holes are whole segments of its path.
 fn is_clear_path(template: &CutTemplate<'_>, filled: &str) -> bool
     ensures { let shown = template_shown template.now in
-        result ≡ (is_legal_target filled.now && whole_test shown.first shown.rest && authority_test shown) }
+        result ≡ (is_legal_target filled.now && are_whole_segments shown.first shown.rest && has_whole_authority shown) }
 {
     legal_target(filled) && are_whole_segments(template) && has_whole_authority(template)
 }
@@ -177,7 +177,7 @@ fn is_clear_path(template: &CutTemplate<'_>, filled: &str) -> bool
 // Of the label names `have_one` says whether each is that of one hole; there is no other hole, and only the last is greedy.
 fn are_clear_holes(template: &CutTemplate<'_>, have_one: bool, count: usize) -> bool
     ensures { let holes = holes_of (template_shown template.now) in
-        result ≡ (have_one && (length holes == count) && greedy_test holes) }
+        result ≡ (have_one && (length holes == count) && is_greedy_last holes) }
 {
     have_one && hole_count(template) == count && is_greedy_last(template)
 }

@@ -2,7 +2,7 @@
 ghost use Rattle.std.specs.Prelude.{◌≡◌};
 ghost use Rattle.smithy_schema.specs.Nodes.{Table};
 ghost use Rattle.smithy_schema.specs.References.{schema_of};
-ghost use Rattle.smithy_serde.specs.Fits.{fits_member as fits};
+ghost use Rattle.smithy_serde.specs.Fits.{fits_member};
 ghost use Rattle.smithy_serde.specs.StoredValues.{value_in};
 
 use crate::binding::is_bound;
@@ -11,7 +11,7 @@ use smithy_serde::ShapeValue;
 
 /// Whether the value may be written to the member: one of its kind, or a null to an unbound one.
 pub fn fits_member(member: SchemaRef<'_>, value: &ShapeValue) -> bool
-    ensures { (t : Table) → result ≡ fits (schema_of member.entry) (value_in t value.now) }
+    ensures { (t : Table) → result ≡ fits_member (schema_of member.entry) (value_in t value.now) }
 {
     match value.written_kind() {
         Some(_kind) => value.fits(member.shape_type()),

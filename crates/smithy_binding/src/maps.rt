@@ -7,9 +7,9 @@ ghost use Rattle.smithy_schema.specs.References.{schema_of};
 ghost use Rattle.smithy_serde.specs.StoredValues.{value_in, writes_in};
 ghost use Rattle.smithy_serde.specs.Values.{list, map, text_of_key};
 ghost use Rattle.smithy_http.specs.Headers.{put_all};
-ghost use Rattle.smithy_binding.specs.Bindings.{inserted_at, entry_pairs, pairs_at, query_names as names_of_queries};
-ghost use Rattle.smithy_binding.specs.Entries.{text_at as text_in, pairs_at_place, has_key, unnamed};
-ghost use Rattle.smithy_binding.specs.Faults.{nested_fault, part_fault, item_fault, value_fault, pairs_fault, ends_with_value as ends_whole};
+ghost use Rattle.smithy_binding.specs.Bindings.{inserted_at, entry_pairs, pairs_at, query_names};
+ghost use Rattle.smithy_binding.specs.Entries.{text_at, pairs_at_place, has_key, unnamed};
+ghost use Rattle.smithy_binding.specs.Faults.{nested_fault, part_fault, item_fault, value_fault, pairs_fault, ends_with_value};
 ghost use Rattle.smithy_binding.specs.Refusing.{IsTold};
 ghost use Rattle.smithy_binding.specs.Reporting.{Reports};
 ghost use Rattle.smithy_binding.specs.TargetParts.{queries};
@@ -100,7 +100,7 @@ pub fn test_entries(
 
 // Whether keys and values in turn end with a value.
 fn ends_with_value(entries: &WriteList) -> bool
-    ensures { (t : Table) → result ≡ ends_whole (writes_in t entries.now) }
+    ensures { (t : Table) → result ≡ ends_with_value (writes_in t entries.now) }
 {
     entries.len() % 2 == 0
 }
@@ -135,7 +135,7 @@ fn text_or_empty<'w>(value: &'w ShapeValue) -> &'w str
 
 // The text at a place.
 fn text_at<'w>(entries: &'w WriteList, place: usize) -> &'w str
-    ensures { (t : Table) → result.now ≡ text_in (writes_in t entries.now) place }
+    ensures { (t : Table) → result.now ≡ text_at (writes_in t entries.now) place }
 {
     match entries.write(place) {
         Some((_node, value)) => text_or_empty(value),
@@ -215,7 +215,7 @@ fn query_name_at<'t>(schema: SchemaRef<'t>, position: usize) -> Option<&'t str>
 #[tactic(auto, unfolding(crate::specs::Entries::has_key))]
 fn query_names<'t>(alloc: Global, schema: SchemaRef<'t>) -> Result<QueryNames<'t>, AllocError>
     ensures { IfOk result (λ names. (name : List ℕ) → has_key names name
-        ≡ is_one_of name (names_of_queries (schema_of schema.entry))) }
+        ≡ is_one_of name (query_names (schema_of schema.entry))) }
 {
     let mut names = BTreeMap::new(alloc);
     for position in 0..member_count(schema) {
@@ -287,7 +287,7 @@ pub fn push_entries<'n>(
 ) -> Result<(), OutOfMemory>
     ensures { OnOk result ((t : Table) (m : Schema) →
         string_bytes query.new ≡ string_bytes query.old ++ queries (pairs_at to_query_map
-        (names_of_queries (schema_of schema.entry)) m (map (writes_in t entries.now)))) }
+        (query_names (schema_of schema.entry)) m (map (writes_in t entries.now)))) }
 {
     let names = query_names(alloc, schema)?;
     for place in 0..entries.len() / 2 {

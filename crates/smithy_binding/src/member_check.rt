@@ -1,13 +1,13 @@
 // What is asked of each member of a checked schema.
 ghost use Rattle.std.specs.Prelude.{◌≡◌, ◌&&◌, false, true, option_map, if◌then◌else◌, None};
-ghost use Rattle.smithy_ids.specs.Kinds.{same_kind, is_scalar as scalar, is_unwritable as unwritable, is_structure_or_union as struct_or_union};
+ghost use Rattle.smithy_ids.specs.Kinds.{same_kind, is_scalar, is_unwritable, is_structure_or_union};
 ghost use Rattle.smithy_ids.specs.declared.shape_type.ShapeType.TheVariants as kind;
 ghost use Rattle.smithy_schema.specs.Nodes.{element_of, binding_of as binding};
 ghost use Rattle.smithy_schema.specs.References.{schema_of};
-ghost use Rattle.smithy_binding.specs.Checked.{one_if as one, is_bound_once as bound_once, is_header_kind as header_kind, has_label_kind as label_kind, has_query_kind as query_kind, has_header_kind as header_test, is_plain_element as plain_element, is_element_plain as element_plain, has_plain_elements as plain_elements, is_plain_string as plain_string, is_plain_list as plain_list, is_text_map as text_map, is_query_map as query_map, has_prefix_kind as prefix_kind, has_map_kind as map_kind, is_payload_kind as payload_test, is_sound_member as sound_request_member};
-ghost use Rattle.smithy_binding.specs.CheckedOutput.{is_response_bound_once as response_bound_once, has_plain_header_elements as plain_header_elements, has_code_kind as code_kind, is_sound_response_member as sound_response_member};
-ghost use Rattle.smithy_binding.specs.Checking.{is_sound_in, is_payload_in, is_bound_in as bound_in};
-ghost use Rattle.smithy_binding.specs.Bodies.{is_payload as payload};
+ghost use Rattle.smithy_binding.specs.Checked.{one_if, is_bound_once, is_header_kind, has_label_kind, has_query_kind, has_header_kind, is_plain_element, is_element_plain, has_plain_elements, is_plain_string, is_plain_list, is_text_map, is_query_map, has_prefix_kind, has_map_kind, is_payload_kind, is_sound_member};
+ghost use Rattle.smithy_binding.specs.CheckedOutput.{is_response_bound_once, has_plain_header_elements, has_code_kind, is_sound_response_member};
+ghost use Rattle.smithy_binding.specs.Checking.{is_sound_in, is_payload_in, is_bound_in};
+ghost use Rattle.smithy_binding.specs.Bodies.{is_payload};
 
 use crate::binding::is_bound;
 use crate::body_form::{is_codec_kind, is_raw_kind};
@@ -23,14 +23,14 @@ pub enum Direction {
 }
 
 fn one_if(test: bool) -> u8
-    ensures { result ≡ one test }
+    ensures { result ≡ one_if test }
 {
     if test { 1 } else { 0 }
 }
 
 // At most one binding of a request.
 fn is_bound_once(member: SchemaRef<'_>) -> bool
-    ensures { result ≡ bound_once (schema_of member.entry) }
+    ensures { result ≡ is_bound_once (schema_of member.entry) }
 {
     let count = one_if(member.http_header().is_some())
         + one_if(member.http_query().is_some())
@@ -43,7 +43,7 @@ fn is_bound_once(member: SchemaRef<'_>) -> bool
 
 // At most one binding of a response.
 fn is_response_bound_once(member: SchemaRef<'_>) -> bool
-    ensures { result ≡ response_bound_once (schema_of member.entry) }
+    ensures { result ≡ is_response_bound_once (schema_of member.entry) }
 {
     let count = one_if(member.http_header().is_some())
         + one_if(member.http_prefix_headers().is_some())
@@ -54,7 +54,7 @@ fn is_response_bound_once(member: SchemaRef<'_>) -> bool
 
 // The kinds that a label and a query take.
 fn is_scalar(kind: ShapeType) -> bool
-    ensures { result ≡ scalar kind }
+    ensures { result ≡ is_scalar kind }
 {
     matches!(
         kind,
@@ -71,7 +71,7 @@ fn is_scalar(kind: ShapeType) -> bool
 }
 
 fn is_header_kind(kind: ShapeType) -> bool
-    ensures { result ≡ header_kind kind }
+    ensures { result ≡ is_header_kind kind }
 {
     match kind {
         ShapeType::Blob => true,
@@ -81,7 +81,7 @@ fn is_header_kind(kind: ShapeType) -> bool
 
 // The kinds of no value here.
 fn is_unwritable(kind: ShapeType) -> bool
-    ensures { result ≡ unwritable kind }
+    ensures { result ≡ is_unwritable kind }
 {
     matches!(
         kind,
@@ -91,14 +91,14 @@ fn is_unwritable(kind: ShapeType) -> bool
 
 /// A structure or a union.
 pub fn is_structure_or_union(kind: ShapeType) -> bool
-    ensures { result ≡ struct_or_union kind }
+    ensures { result ≡ is_structure_or_union kind }
 {
     matches!(kind, ShapeType::Structure | ShapeType::Union)
 }
 
 /// The kinds of a payload.
 pub fn is_payload_kind(kind: ShapeType) -> bool
-    ensures { result ≡ payload_test kind }
+    ensures { result ≡ is_payload_kind kind }
 {
     is_raw_kind(kind) || is_codec_kind(kind)
 }
@@ -115,13 +115,13 @@ fn list_element<'t>(member: SchemaRef<'t>) -> Option<SchemaRef<'t>>
 }
 
 fn has_label_kind(member: SchemaRef<'_>) -> bool
-    ensures { result ≡ label_kind (schema_of member.entry) }
+    ensures { result ≡ has_label_kind (schema_of member.entry) }
 {
     member.http_label().is_none() || is_scalar(member.shape_type())
 }
 
 fn has_query_kind(member: SchemaRef<'_>) -> bool
-    ensures { result ≡ query_kind (schema_of member.entry) }
+    ensures { result ≡ has_query_kind (schema_of member.entry) }
 {
     if member.http_query().is_none() || is_scalar(member.shape_type()) {
         return true;
@@ -133,7 +133,7 @@ fn has_query_kind(member: SchemaRef<'_>) -> bool
 }
 
 fn has_header_kind(member: SchemaRef<'_>) -> bool
-    ensures { result ≡ header_test (schema_of member.entry) }
+    ensures { result ≡ has_header_kind (schema_of member.entry) }
 {
     if member.http_header().is_none() || is_header_kind(member.shape_type()) {
         return true;
@@ -145,14 +145,14 @@ fn has_header_kind(member: SchemaRef<'_>) -> bool
 }
 
 fn is_plain_element(member: SchemaRef<'_>, element: SchemaRef<'_>) -> bool
-    ensures { result ≡ plain_element (schema_of member.entry) (schema_of element.entry) }
+    ensures { result ≡ is_plain_element (schema_of member.entry) (schema_of element.entry) }
 {
     element.media_type().is_none() && format_in(element) == format_in(member)
 }
 
 // The elements, where the member is a list, have no media type and the member's time format.
 fn is_element_plain(member: SchemaRef<'_>) -> bool
-    ensures { result ≡ element_plain (schema_of member.entry) }
+    ensures { result ≡ is_element_plain (schema_of member.entry) }
 {
     match list_element(member) {
         Some(element) => is_plain_element(member, element),
@@ -162,20 +162,20 @@ fn is_element_plain(member: SchemaRef<'_>) -> bool
 
 // So are those of a list in a header or the query.
 fn has_plain_elements(member: SchemaRef<'_>) -> bool
-    ensures { result ≡ plain_elements (schema_of member.entry) }
+    ensures { result ≡ has_plain_elements (schema_of member.entry) }
 {
     (member.http_query().is_none() && member.http_header().is_none()) || is_element_plain(member)
 }
 
 // So are those of a list in a header.
 fn has_plain_header_elements(member: SchemaRef<'_>) -> bool
-    ensures { result ≡ plain_header_elements (schema_of member.entry) }
+    ensures { result ≡ has_plain_header_elements (schema_of member.entry) }
 {
     member.http_header().is_none() || is_element_plain(member)
 }
 
 fn is_plain_string(node: Option<SchemaRef<'_>>) -> bool
-    ensures { result ≡ plain_string (option_map schema_of node.entry) }
+    ensures { result ≡ is_plain_string (option_map schema_of node.entry) }
 {
     match node {
         Some(node) => match node.shape_type() {
@@ -188,7 +188,7 @@ fn is_plain_string(node: Option<SchemaRef<'_>>) -> bool
 
 // A list of texts.
 fn is_plain_list(node: Option<SchemaRef<'_>>) -> bool
-    ensures { result ≡ plain_list (option_map schema_of node.entry) }
+    ensures { result ≡ is_plain_list (option_map schema_of node.entry) }
 {
     match node {
         Some(node) => match node.shape_type() {
@@ -201,7 +201,7 @@ fn is_plain_list(node: Option<SchemaRef<'_>>) -> bool
 
 // A map from texts to texts.
 fn is_text_map(member: SchemaRef<'_>) -> bool
-    ensures { result ≡ text_map (schema_of member.entry) }
+    ensures { result ≡ is_text_map (schema_of member.entry) }
 {
     match member.shape_type() {
         ShapeType::Map => is_plain_string(member.key()) && is_plain_string(member.value()),
@@ -211,7 +211,7 @@ fn is_text_map(member: SchemaRef<'_>) -> bool
 
 // A map from texts to texts or to lists of these.
 fn is_query_map(member: SchemaRef<'_>) -> bool
-    ensures { result ≡ query_map (schema_of member.entry) }
+    ensures { result ≡ is_query_map (schema_of member.entry) }
 {
     match member.shape_type() {
         ShapeType::Map => {
@@ -223,20 +223,20 @@ fn is_query_map(member: SchemaRef<'_>) -> bool
 }
 
 fn has_prefix_kind(member: SchemaRef<'_>) -> bool
-    ensures { result ≡ prefix_kind (schema_of member.entry) }
+    ensures { result ≡ has_prefix_kind (schema_of member.entry) }
 {
     member.http_prefix_headers().is_none() || is_text_map(member)
 }
 
 fn has_map_kind(member: SchemaRef<'_>) -> bool
-    ensures { result ≡ map_kind (schema_of member.entry) }
+    ensures { result ≡ has_map_kind (schema_of member.entry) }
 {
     has_prefix_kind(member) && (member.http_query_params().is_none() || is_query_map(member))
 }
 
 // What is asked of each member of an input.
 fn is_sound_request_member(member: SchemaRef<'_>) -> bool
-    ensures { result ≡ sound_request_member (schema_of member.entry) }
+    ensures { result ≡ is_sound_member (schema_of member.entry) }
 {
     member.has_cited_nodes()
         && is_bound_once(member)
@@ -255,14 +255,14 @@ fn is_integer(member: SchemaRef<'_>) -> bool
 }
 
 fn has_code_kind(member: SchemaRef<'_>) -> bool
-    ensures { result ≡ code_kind (schema_of member.entry) }
+    ensures { result ≡ has_code_kind (schema_of member.entry) }
 {
     member.http_response_code().is_none() || is_integer(member)
 }
 
 // What is asked of each member of an output.
 fn is_sound_response_member(member: SchemaRef<'_>) -> bool
-    ensures { result ≡ sound_response_member (schema_of member.entry) }
+    ensures { result ≡ is_sound_response_member (schema_of member.entry) }
 {
     member.has_cited_nodes()
         && is_response_bound_once(member)
@@ -286,7 +286,7 @@ pub fn is_sound_member(member: SchemaRef<'_>, way: Direction) -> bool
 }
 
 fn is_request_payload(member: SchemaRef<'_>) -> bool
-    ensures { result ≡ payload (binding (schema_of member.entry)) }
+    ensures { result ≡ is_payload (binding (schema_of member.entry)) }
 {
     matches!(member.request_binding(), Binding::Payload)
 }
@@ -303,7 +303,7 @@ pub fn is_payload(member: SchemaRef<'_>, way: Direction) -> bool
 
 /// Whether the member stands outside the body.
 pub fn is_bound_in(member: SchemaRef<'_>, way: Direction) -> bool
-    ensures { result ≡ bound_in way (schema_of member.entry) }
+    ensures { result ≡ is_bound_in way (schema_of member.entry) }
 {
     match way {
         Direction::Request => is_bound(member),

@@ -5,7 +5,7 @@ ghost use Rattle.smithy_ids.specs.Kinds.{same_kind};
 ghost use Rattle.smithy_ids.specs.declared.shape_type.ShapeType.TheVariants as kind;
 ghost use Rattle.smithy_schema.specs.Nodes.{members_of};
 ghost use Rattle.smithy_schema.specs.References.{schema_of};
-ghost use Rattle.smithy_binding.specs.Checked.{is_sound_payload as sound_payload, has_defined_members, has_named_members};
+ghost use Rattle.smithy_binding.specs.Checked.{is_sound_payload, has_defined_members, has_named_members};
 ghost use Rattle.smithy_binding.specs.Checking.{shown, counted_test, count_of, is_sound_in, payload_in, has_unbound_in, has_sound_payload_in};
 
 use crate::member_check::{Direction, is_bound_in, is_payload, is_payload_kind, is_sound_member};
@@ -77,7 +77,7 @@ pub fn has_unbound_member(members: &[SchemaRef<'_>], way: Direction) -> bool
 
 // A payload, if there is one, has a payload's kind and no unbound member beside it.
 fn is_sound_payload(kind: Option<ShapeType>, is_beside_unbound: bool) -> bool
-    ensures { result ≡ sound_payload kind is_beside_unbound }
+    ensures { result ≡ is_sound_payload kind is_beside_unbound }
 {
     match kind {
         Some(kind) => is_payload_kind(kind) && !is_beside_unbound,

@@ -2,10 +2,10 @@
 ghost use Rattle.std.specs.Prelude.{◌≡◌, nat_eq, IfOk, map, option_map, string_bytes};
 ghost use Rattle.std.specs.List.{list_all, list_any, starts_with};
 ghost use Rattle.smithy_types.specs.Grammars.{is_token as token};
-ghost use Rattle.smithy_types.specs.Texts.{are_distinct as distinct, is_one_of};
+ghost use Rattle.smithy_types.specs.Texts.{are_distinct, is_one_of};
 ghost use Rattle.smithy_schema.specs.References.{schema_of};
 ghost use Rattle.smithy_binding.specs.declared.name_check.NameKind.TheVariants as names;
-ghost use Rattle.smithy_binding.specs.Checking.{shown, name_under as name_of_kind, names_under, texts_shown, lower_names as lowered, is_sound_prefix_of as sound_prefix, have_sound_headers as sound_headers, have_sound_names as sound_names};
+ghost use Rattle.smithy_binding.specs.Checking.{shown, name_under, names_under, texts_shown, lower_names, is_sound_prefix_of as sound_prefix, have_sound_headers, have_sound_names};
 
 use smithy_schema::SchemaRef;
 use smithy_types::is_token;
@@ -24,7 +24,7 @@ pub enum NameKind {
 
 // The name of this kind that the member has.
 fn name_under<'t>(member: SchemaRef<'t>, kind: NameKind) -> Option<&'t str>
-    ensures { option_map (λ n. n.now) result ≡ name_of_kind kind (schema_of member.entry) }
+    ensures { option_map (λ n. n.now) result ≡ name_under kind (schema_of member.entry) }
 {
     match kind {
         NameKind::Member => member.member_name(),
@@ -66,7 +66,7 @@ fn is_among(name: &str, names: &[&str]) -> bool
 
 // Whether no two of the names are the same, each compared with those behind it.
 fn are_few_distinct(names: &[&str]) -> bool
-    ensures { result ≡ distinct (texts_shown names.now) }
+    ensures { result ≡ are_distinct (texts_shown names.now) }
 {
     for (place, name) in names.iter().enumerate() {
         if is_among(*name, &names[place + 1..]) {
@@ -78,7 +78,7 @@ fn are_few_distinct(names: &[&str]) -> bool
 
 /// Whether no two of the names are the same. Takes memory.
 pub fn are_distinct<'t>(alloc: Global, names: &[&'t str]) -> Result<bool, AllocError>
-    ensures { IfOk result (λ b. b ≡ distinct (texts_shown names.now)) }
+    ensures { IfOk result (λ b. b ≡ are_distinct (texts_shown names.now)) }
 {
     if names.len() <= FEW_NAMES {
         return Ok(are_few_distinct(names));
@@ -98,7 +98,7 @@ pub fn are_distinct<'t>(alloc: Global, names: &[&'t str]) -> Result<bool, AllocE
 
 // The names in lower case.
 fn lower_names(alloc: Global, names: &[&str]) -> Result<Vec<String>, AllocError>
-    ensures { IfOk result (λ v. map string_bytes v.items ≡ lowered (texts_shown names.now)) }
+    ensures { IfOk result (λ v. map string_bytes v.items ≡ lower_names (texts_shown names.now)) }
 {
     let mut lower = Vec::with_capacity(alloc, names.len())?;
     for name in names {
@@ -160,7 +160,7 @@ fn are_sound_prefixes(
 
 /// Whether no two of the members have one name; a member without a name has none in common. Takes memory.
 pub fn have_distinct_names(alloc: Global, members: &[SchemaRef<'_>]) -> Result<bool, AllocError>
-    ensures { IfOk result (λ b. b ≡ distinct (names_under names.Member (shown members.now))) }
+    ensures { IfOk result (λ b. b ≡ are_distinct (names_under names.Member (shown members.now))) }
 {
     let names = names_of(alloc, members, NameKind::Member)?;
     are_distinct(alloc, names.as_slice())
@@ -169,7 +169,7 @@ pub fn have_distinct_names(alloc: Global, members: &[SchemaRef<'_>]) -> Result<b
 /// Whether header names are tokens (RFC 7230, section 3.2.6), distinct without case, and begun by no prefix, and
 /// prefixes are empty or tokens (httpHeader, httpPrefixHeaders). Takes memory.
 pub fn have_sound_headers(alloc: Global, members: &[SchemaRef<'_>]) -> Result<bool, AllocError>
-    ensures { IfOk result (λ b. b ≡ sound_headers (shown members.now)) }
+    ensures { IfOk result (λ b. b ≡ have_sound_headers (shown members.now)) }
 {
     let headers = names_of(alloc, members, NameKind::Header)?;
     let lower_headers = lower_names(alloc, headers.as_slice())?;
@@ -183,7 +183,7 @@ pub fn have_sound_headers(alloc: Global, members: &[SchemaRef<'_>]) -> Result<bo
 
 /// The same, and whether query names are distinct (httpQuery). Takes memory.
 pub fn have_sound_names(alloc: Global, members: &[SchemaRef<'_>]) -> Result<bool, AllocError>
-    ensures { IfOk result (λ b. b ≡ sound_names (shown members.now)) }
+    ensures { IfOk result (λ b. b ≡ have_sound_names (shown members.now)) }
 {
     if !have_sound_headers(alloc, members)? {
         return Ok(false);

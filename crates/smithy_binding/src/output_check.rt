@@ -1,7 +1,7 @@
 // Schemas that a response can be read by (Smithy, HTTP protocol bindings).
 ghost use Rattle.std.specs.Prelude.{◌≡◌, ◌&&◌, IfOk};
 ghost use Rattle.smithy_schema.specs.References.{schema_of};
-ghost use Rattle.smithy_binding.specs.CheckedOutput.{checked_output as checked};
+ghost use Rattle.smithy_binding.specs.CheckedOutput.{checked_output};
 ghost use Rattle.smithy_binding.specs.Checking.{shown, are_sound_response, have_sound_headers as sound_headers};
 
 use crate::member_check::Direction;
@@ -38,7 +38,7 @@ fn are_checked(alloc: Global, members: &[SchemaRef<'_>]) -> Result<bool, AllocEr
 /// code, an Integer (Smithy, HTTP protocol bindings). The bindings of a request are not looked at: a member that has
 /// no other stands in the body. Linear in the number of members, but for the names, which are sorted. Takes memory.
 pub fn checked_output(alloc: Global, schema: SchemaRef<'_>) -> Result<bool, OutOfMemory>
-    ensures { IfOk result (λ b. b ≡ checked (schema_of schema.entry)) }
+    ensures { IfOk result (λ b. b ≡ checked_output (schema_of schema.entry)) }
 {
     match named_members(alloc, schema)? {
         Some(members) => Ok(are_checked(alloc, members.as_slice())?),

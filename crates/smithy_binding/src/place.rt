@@ -6,7 +6,7 @@ ghost use Rattle.smithy_serde.specs.StoredValues.{writes_in, AreDefined};
 ghost use Rattle.smithy_serde.specs.Finishing.{IsReady};
 ghost use Rattle.smithy_binding.specs.Checked.{checked_input};
 ghost use Rattle.smithy_binding.specs.Answer.{legal_request};
-ghost use Rattle.smithy_binding.specs.Placing.{method_of as method, template_of as template, endpoint_or_slash};
+ghost use Rattle.smithy_binding.specs.Placing.{method_of, template_of, endpoint_or_slash};
 ghost use Rattle.smithy_binding.specs.Protocols.{protocol_with, IsAnswer};
 ghost use Rattle.smithy_binding.specs.Refusing.{Answers};
 
@@ -26,7 +26,7 @@ use std::alloc::Global;
 mod tests;
 
 fn method_of<'t>(schema: SchemaRef<'t>) -> &'t str
-    ensures { result.now ≡ method (schema_of schema.entry) }
+    ensures { result.now ≡ method_of (schema_of schema.entry) }
 {
     match schema.http() {
         Some(http) => http.method(),
@@ -36,7 +36,7 @@ fn method_of<'t>(schema: SchemaRef<'t>) -> &'t str
 
 // The template: that of `@http`, else the endpoint, else `/`.
 fn template_of<'t>(schema: SchemaRef<'t>, endpoint: &'t str) -> &'t str
-    ensures { result.now ≡ template (schema_of schema.entry) endpoint.now }
+    ensures { result.now ≡ template_of (schema_of schema.entry) endpoint.now }
 {
     if let Some(http) = schema.http() {
         return http.uri();

@@ -4,8 +4,8 @@ ghost use Rattle.smithy_schema.specs.Nodes.{Table};
 ghost use Rattle.smithy_schema.specs.References.{schema_of};
 ghost use Rattle.smithy_serde.specs.StoredValues.{value_in};
 ghost use Rattle.smithy_serde.specs.Values.{label_of};
-ghost use Rattle.smithy_binding.specs.Faults.{wrong_kind as wrong_kind_fault, wrong_item_kind as wrong_item_fault, wrong_header as wrong_header_fault, header_words as words_of, header_or_prefix as given_name};
-ghost use Rattle.smithy_binding.specs.Faults.{missing_hole as missing_fault, too_long as too_long_fault, not_legal as not_legal_fault, no_year as no_year_fault, unmatched_key as unmatched_fault, no_member};
+ghost use Rattle.smithy_binding.specs.Faults.{wrong_kind, wrong_item_kind as wrong_item_fault, wrong_header, header_words, header_or_prefix};
+ghost use Rattle.smithy_binding.specs.Faults.{missing_hole, too_long, not_legal, no_year, unmatched_key, no_member};
 ghost use Rattle.smithy_binding.specs.Refusing.{TellsFault};
 
 use crate::binding::name_of;
@@ -28,7 +28,7 @@ pub fn unknown_member(alloc: Global, written: SchemaRef<'_>) -> SerdeError
 /// The member is not of the value's kind.
 pub fn wrong_kind(alloc: Global, member: SchemaRef<'_>, value: &ShapeValue) -> SerdeError
     ensures { (t : Table) →
-        TellsFault result (λ f. f ≡ wrong_kind_fault (schema_of member.entry) (value_in t value.now)) }
+        TellsFault result (λ f. f ≡ wrong_kind (schema_of member.entry) (value_in t value.now)) }
 {
     let written = value.written_word();
     let name = name_of(member);
@@ -62,7 +62,7 @@ pub fn wrong_item(
 
 /// The member's map ends with a key.
 pub fn unmatched_key(alloc: Global, member: SchemaRef<'_>) -> SerdeError
-    ensures { TellsFault result (λ f. f ≡ unmatched_fault (schema_of member.entry)) }
+    ensures { TellsFault result (λ f. f ≡ unmatched_key (schema_of member.entry)) }
 {
     let name = name_of(member);
     match format!(in alloc; "map member {name} ends with a key without a value") {
@@ -73,14 +73,14 @@ pub fn unmatched_key(alloc: Global, member: SchemaRef<'_>) -> SerdeError
 
 /// The value has no text: a time whose year is not in the calendar of its format.
 pub fn no_year(alloc: Global) -> SerdeError
-    ensures { TellsFault result (λ f. f ≡ no_year_fault) }
+    ensures { TellsFault result (λ f. f ≡ no_year) }
 {
     SerdeError::custom(alloc, YEAR_OUT_OF_RANGE)
 }
 
 // What stands before the name or the prefix of the member's trait.
 fn header_words(member: SchemaRef<'_>) -> &'static str
-    ensures { result.now ≡ words_of (schema_of member.entry) }
+    ensures { result.now ≡ header_words (schema_of member.entry) }
 {
     match member.http_header() {
         Some(_) => " to header `",
@@ -90,7 +90,7 @@ fn header_words(member: SchemaRef<'_>) -> &'static str
 
 // The name or the prefix of the member's trait.
 fn header_or_prefix<'t>(member: SchemaRef<'t>) -> &'t str
-    ensures { result.now ≡ given_name (schema_of member.entry) }
+    ensures { result.now ≡ header_or_prefix (schema_of member.entry) }
 {
     if let Some(header) = member.http_header() {
         return header.value();
@@ -103,7 +103,7 @@ fn header_or_prefix<'t>(member: SchemaRef<'t>) -> &'t str
 
 /// A header of the member has a name or a value that no header has.
 pub fn wrong_header(alloc: Global, member: SchemaRef<'_>, what: &str) -> SerdeError
-    ensures { TellsFault result (λ f. f ≡ wrong_header_fault (schema_of member.entry) what.now) }
+    ensures { TellsFault result (λ f. f ≡ wrong_header (schema_of member.entry) what.now) }
 {
     let name = name_of(member);
     let words = header_words(member);
@@ -116,7 +116,7 @@ pub fn wrong_header(alloc: Global, member: SchemaRef<'_>, what: &str) -> SerdeEr
 
 /// No label has a text for the hole.
 pub fn missing_hole(alloc: Global, hole: &str) -> SerdeError
-    ensures { TellsFault result (λ f. f ≡ missing_fault hole.now) }
+    ensures { TellsFault result (λ f. f ≡ missing_hole hole.now) }
 {
     match format!(in alloc; "{hole} was missing: cannot be empty or unset") {
         Ok(text) => SerdeError::invalid_input(alloc, text.as_str()),
@@ -126,14 +126,14 @@ pub fn missing_hole(alloc: Global, hole: &str) -> SerdeError
 
 /// The target is longer than a target may be.
 pub fn too_long(alloc: Global) -> SerdeError
-    ensures { TellsFault result (λ f. f ≡ too_long_fault) }
+    ensures { TellsFault result (λ f. f ≡ too_long) }
 {
     SerdeError::custom(alloc, "invalid endpoint URI: longer than 65534 bytes")
 }
 
 /// The target is none.
 pub fn not_legal(alloc: Global) -> SerdeError
-    ensures { TellsFault result (λ f. f ≡ not_legal_fault) }
+    ensures { TellsFault result (λ f. f ≡ not_legal) }
 {
     SerdeError::custom(alloc, "invalid endpoint URI: not a legal request target")
 }

@@ -2,13 +2,13 @@
 ghost use Rattle.std.specs.Prelude.{◌≡◌};
 ghost use Rattle.smithy_schema.specs.References.{schema_of};
 ghost use Rattle.smithy_serde.specs.Values.{label_of};
-ghost use Rattle.smithy_serde.specs.Writes.{resolve as resolve_label};
+ghost use Rattle.smithy_serde.specs.Writes.{resolve};
 
 use smithy_schema::SchemaRef;
 
 /// The position of the member whose index the written node has, or, where it has none, of the first member with its name.
 pub fn resolve(schema: SchemaRef<'_>, written: SchemaRef<'_>) -> Option<usize>
-    ensures { result ≡ resolve_label (schema_of schema.entry) (label_of (schema_of written.entry)) }
+    ensures { result ≡ resolve (schema_of schema.entry) (label_of (schema_of written.entry)) }
 {
     match written.member_index() {
         Some(index) => match schema.member_schema_by_index(index) {

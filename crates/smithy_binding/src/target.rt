@@ -3,7 +3,7 @@ ghost use Rattle.std.specs.Prelude.{◌≡◌, ◌∷◌, ◌++◌, [], Err, IfO
 ghost use Rattle.smithy_types.specs.Texts.{has_byte};
 ghost use Rattle.smithy_types.specs.Results.{then_give};
 ghost use Rattle.smithy_schema.specs.Templates.{pieces};
-ghost use Rattle.smithy_binding.specs.Filling.{fill as filled, filled_by, hole_text, keep_slashes, text_in};
+ghost use Rattle.smithy_binding.specs.Filling.{fill, filled_by, hole_text, keep_slashes, text_in};
 ghost use Rattle.smithy_binding.specs.Faults.{hole_fault};
 ghost use Rattle.smithy_binding.specs.Faults.{missing_hole as missing_fault};
 ghost use Rattle.smithy_binding.specs.Refusing.{TellsFault, IsTold};
@@ -102,9 +102,9 @@ fn fill<'l>(
     room: usize,
 ) -> Result<String, SerdeError>
     ensures ok { IfOk result
-        (λ t. filled (pieces template.now) (map label_pair labels.now) ≡ Ok (string_bytes t)) }
+        (λ t. fill (pieces template.now) (map label_pair labels.now) ≡ Ok (string_bytes t)) }
     ensures err { IfErr result
-        (IsTold (hole_fault (filled (pieces template.now) (map label_pair labels.now)))) }
+        (IsTold (hole_fault (fill (pieces template.now) (map label_pair labels.now)))) }
 {
     let texts = texts_by_name(alloc, labels)?;
     fill_by(alloc, template, &texts, room)

@@ -5,10 +5,10 @@ ghost use Rattle.smithy_http.specs.DateLists.{dates_of};
 ghost use Rattle.smithy_http.specs.HeaderValues.{tokens_of, one_text_of};
 ghost use Rattle.smithy_schema.specs.References.{schema_of};
 ghost use Rattle.smithy_serde.specs.declared.read_scalar.ScalarKind.TheVariants as k;
-ghost use Rattle.smithy_serde.specs.HeaderReads.{or_parse_refusal, one_of, one_token as one_token_of, item_of_text as item_told, decoded_text as decoded_told, header_format as format_told, scalar_of_element as element_told, scalar_of_date as date_told, has_dates as dates_told};
+ghost use Rattle.smithy_serde.specs.HeaderReads.{or_parse_refusal, one_of, one_token, item_of_text, decoded_text, header_format, scalar_of_element, scalar_of_date, has_dates};
 ghost use Rattle.smithy_serde.specs.Held.{IsAnswer};
 ghost use Rattle.smithy_serde.specs.ReadCalls.{type_of};
-ghost use Rattle.smithy_response.specs.GivenScalars.{GivesScalar, header_text as header_text_told, header_time, header_elements, header_scalar, token_scalar as token_scalar_told, AnswersText, AnswersTime, AnswersItems};
+ghost use Rattle.smithy_response.specs.GivenScalars.{GivesScalar, header_text, header_time, header_elements, header_scalar, token_scalar, AnswersText, AnswersTime, AnswersItems};
 ghost use Rattle.smithy_response.specs.PrefixedHeaders.{values_named};
 
 use crate::parts::ListItems;
@@ -110,7 +110,7 @@ fn one_token(
     name: &str,
     kind: ShapeType,
 ) -> Result<Text, SerdeError>
-    ensures { IsAnswer (one_token_of kind name.now (values_named name.now headers.now)) result }
+    ensures { IsAnswer (one_token kind name.now (values_named name.now headers.now)) result }
 {
     let words = header_tokens(alloc, headers, name)?;
     only_text(alloc, kind, name, words.as_slice())
@@ -118,7 +118,7 @@ fn one_token(
 
 // A text as a value of the kind.
 fn item_of_text(alloc: Global, kind: ScalarKind, text: &str) -> Result<ReadScalar, SerdeError>
-    ensures { GivesScalar kind (Some (item_told (type_of kind) text.now)) result }
+    ensures { GivesScalar kind (Some (item_of_text (type_of kind) text.now)) result }
 {
     match scalar_of_text(alloc, kind, text)? {
         Some(scalar) => Ok(scalar),
@@ -128,7 +128,7 @@ fn item_of_text(alloc: Global, kind: ScalarKind, text: &str) -> Result<ReadScala
 
 // The text that a base64 text tells.
 fn decoded_text(alloc: Global, text: &str) -> Result<Text, SerdeError>
-    ensures { AnswersText (decoded_told text.now) result }
+    ensures { AnswersText (decoded_text text.now) result }
 {
     match STANDARD.decode(alloc, text.as_bytes()) {
         Ok(bytes) => match String::from_utf8(bytes) {
@@ -148,7 +148,7 @@ fn decoded_text(alloc: Global, text: &str) -> Result<Text, SerdeError>
 
 // The format of dates in headers.
 fn header_format(schema: SchemaRef<'_>) -> Format
-    ensures { result ≡ format_told (schema_of schema.entry) }
+    ensures { result ≡ header_format (schema_of schema.entry) }
 {
     match schema.timestamp_format() {
         Some(named) => match named.format() {
@@ -167,7 +167,7 @@ fn text_of_header(
     name: &str,
     schema: SchemaRef<'_>,
 ) -> Result<Text, SerdeError>
-    ensures { AnswersText (header_text_told (schema_of schema.entry) name.now headers.now) result }
+    ensures { AnswersText (header_text (schema_of schema.entry) name.now headers.now) result }
 {
     if schema.media_type().is_some() {
         let token = one_token(alloc, headers, name, ShapeType::String)?;
@@ -223,7 +223,7 @@ fn token_scalar(
     name: &str,
     kind: ScalarKind,
 ) -> Result<ReadScalar, SerdeError>
-    ensures { GivesScalar kind (token_scalar_told kind name.now headers.now) result }
+    ensures { GivesScalar kind (token_scalar kind name.now headers.now) result }
 {
     let token = one_token(alloc, headers, name, shape_type(kind))?;
     item_of_text(alloc, kind, token.as_str())
@@ -235,7 +235,7 @@ pub(crate) fn scalar_of_element(
     text: &str,
     kind: ScalarKind,
 ) -> Result<ReadScalar, SerdeError>
-    ensures { GivesScalar kind (Some (element_told (type_of kind) text.now)) result }
+    ensures { GivesScalar kind (Some (scalar_of_element (type_of kind) text.now)) result }
 {
     match kind {
         ScalarKind::Timestamp => Err(SerdeError::invalid_input(
@@ -256,7 +256,7 @@ pub(crate) fn scalar_of_date(
     seconds: i64,
     kind: ScalarKind,
 ) -> Result<ReadScalar, SerdeError>
-    ensures { GivesScalar kind (Some (date_told (type_of kind) seconds)) result }
+    ensures { GivesScalar kind (Some (scalar_of_date (type_of kind) seconds)) result }
 {
     match kind {
         ScalarKind::Timestamp => Ok(ReadScalar::Timestamp(DateTime::from_secs(seconds))),
@@ -270,7 +270,7 @@ pub(crate) fn scalar_of_date(
 
 // Whether the list's elements are points in time.
 fn has_dates(schema: SchemaRef<'_>) -> bool
-    ensures { result ≡ dates_told (schema_of schema.entry) }
+    ensures { result ≡ has_dates (schema_of schema.entry) }
 {
     match schema.element() {
         Some(element) => element.shape_type() == ShapeType::Timestamp,

@@ -3,7 +3,7 @@ ghost use Rattle.std.specs.Prelude.{◌≡◌, false};
 ghost use Rattle.std.specs.List.{list_any};
 ghost use Rattle.smithy_schema.specs.Nodes.{members_of};
 ghost use Rattle.smithy_schema.specs.References.{schema_of};
-ghost use Rattle.smithy_response.specs.Sought.{is_sought as is_sought_told};
+ghost use Rattle.smithy_response.specs.Sought.{is_sought};
 
 use smithy_schema::SchemaRef;
 
@@ -19,7 +19,7 @@ pub(crate) enum Sought {
 }
 
 fn is_sought(member: SchemaRef<'_>, sought: Sought) -> bool
-    ensures { result ≡ is_sought_told sought (schema_of member.entry) }
+    ensures { result ≡ is_sought sought (schema_of member.entry) }
 {
     match sought {
         Sought::Payload => member.http_payload().is_some(),
@@ -30,7 +30,7 @@ fn is_sought(member: SchemaRef<'_>, sought: Sought) -> bool
 
 /// Whether some member is one of these.
 pub(crate) fn has_member(schema: SchemaRef<'_>, sought: Sought) -> bool
-    ensures { result ≡ list_any (is_sought_told sought) (members_of (schema_of schema.entry)) }
+    ensures { result ≡ list_any (is_sought sought) (members_of (schema_of schema.entry)) }
 {
     let mut position: usize = 0;
     while position < schema.members().len() {

@@ -5,7 +5,7 @@ ghost use Rattle.std.specs.Option.{option_copied};
 ghost use Rattle.std.specs.Str.{is_utf8};
 ghost use Rattle.smithy_response.specs.PrefixedHeaders.{behind_lower, with_key, keys_behind_lower};
 ghost use Rattle.smithy_response.specs.KnownKeys.{AreKnown};
-ghost use Rattle.smithy_response.specs.Settling.{has_unreadable as has_unreadable_told, unreadable_behind_lower};
+ghost use Rattle.smithy_response.specs.Settling.{has_unreadable, unreadable_behind_lower};
 
 use smithy_http::{GetAllBytes, HeaderPairs};
 use smithy_types::{OutOfMemory, Words};
@@ -66,7 +66,7 @@ fn is_text(value: &[u8]) -> bool
 
 /// Whether some value is not UTF-8.
 pub(crate) fn has_unreadable(values: GetAllBytes<'_>) -> bool
-    ensures { result ≡ has_unreadable_told values.entry }
+    ensures { result ≡ has_unreadable values.entry }
 {
     for value in values {
         if !is_text(value) {

@@ -2,12 +2,12 @@
 ghost use Rattle.std.specs.Prelude.{◌≡◌, ◌++◌, codes, IfOk};
 ghost use Rattle.smithy_http.specs.declared.error.HttpError.TheVariants as http_error;
 ghost use Rattle.smithy_serde.specs.declared.error.SerdeError.TheVariants as refusal;
-ghost use Rattle.smithy_serde.specs.HeaderReads.{parse_refusal, no_value as no_value_told};
-ghost use Rattle.smithy_serde.specs.HeldReads.{status_refusal as status_told, prefix_refusal as prefix_told, raw_refusal as raw_told, element_refusal as element_told, header_refusal as header_told};
+ghost use Rattle.smithy_serde.specs.HeaderReads.{parse_refusal, no_value};
+ghost use Rattle.smithy_serde.specs.HeldReads.{status_refusal, prefix_refusal, raw_refusal, element_refusal, header_refusal};
 ghost use Rattle.smithy_serde.specs.Refusals.{IsRefusal};
-ghost use Rattle.smithy_serde.specs.Requests.{requested as requested_words, plain_word as plain};
-ghost use Rattle.smithy_response.specs.GivenScalars.{item_refusal as item_told, date_text as date_text_told};
-ghost use Rattle.smithy_response.specs.Routes.{not_buffered as not_buffered_told};
+ghost use Rattle.smithy_serde.specs.Requests.{requested, plain_word};
+ghost use Rattle.smithy_response.specs.GivenScalars.{item_refusal as item_told, date_text};
+ghost use Rattle.smithy_response.specs.Routes.{not_buffered};
 ghost use Rattle.smithy_response.specs.Settling.{header_context, prefix_context, in_header_for, behind_prefix_for};
 
 use smithy_http::{HttpError, ListFault};
@@ -49,7 +49,7 @@ pub(crate) fn no_item(alloc: Global, kind: ShapeType) -> SerdeError
 
 // What the read of a kind asks for, without an article.
 fn plain_word(kind: ShapeType) -> &'static str
-    ensures { result.now ≡ plain kind }
+    ensures { result.now ≡ plain_word kind }
 {
     match kind {
         ShapeType::BigInteger => "big integer",
@@ -60,7 +60,7 @@ fn plain_word(kind: ShapeType) -> &'static str
 
 /// What the read of a kind asks for.
 pub(crate) fn requested(alloc: Global, kind: ShapeType) -> Result<Text, OutOfMemory>
-    ensures { IfOk result (λ text. text ≡ requested_words kind) }
+    ensures { IfOk result (λ text. text ≡ requested kind) }
 {
     match kind {
         ShapeType::Integer => Text::from_str(alloc, "an integer"),
@@ -73,7 +73,7 @@ pub(crate) fn requested(alloc: Global, kind: ShapeType) -> Result<Text, OutOfMem
 
 // The text, then what the kind's read asks for, then that it was requested.
 fn request_text(alloc: Global, before: &str, kind: ShapeType) -> Result<Text, OutOfMemory>
-    ensures { IfOk result (λ text. text ≡ before.now ++ requested_words kind ++ codes " was requested") }
+    ensures { IfOk result (λ text. text ≡ before.now ++ requested kind ++ codes " was requested") }
 {
     let what = requested(alloc, kind)?;
     joined(alloc, before, what.as_str(), " was requested")
@@ -81,7 +81,7 @@ fn request_text(alloc: Global, before: &str, kind: ShapeType) -> Result<Text, Ou
 
 /// Another kind than an integer was requested of the status.
 pub(crate) fn status_refusal(alloc: Global, kind: ShapeType) -> SerdeError
-    ensures { IsRefusal (status_told kind) result }
+    ensures { IsRefusal (status_refusal kind) result }
 {
     match request_text(
         alloc,
@@ -95,7 +95,7 @@ pub(crate) fn status_refusal(alloc: Global, kind: ShapeType) -> SerdeError
 
 /// Another kind than a map was requested of the headers behind a prefix.
 pub(crate) fn prefix_refusal(alloc: Global, kind: ShapeType) -> SerdeError
-    ensures { IsRefusal (prefix_told kind) result }
+    ensures { IsRefusal (prefix_refusal kind) result }
 {
     match request_text(alloc, "@httpPrefixHeaders must target a map, but ", kind) {
         Ok(message) => SerdeError::InvalidInput { message },
@@ -105,7 +105,7 @@ pub(crate) fn prefix_refusal(alloc: Global, kind: ShapeType) -> SerdeError
 
 /// Another kind than a text or bytes was requested of a raw payload.
 pub(crate) fn raw_refusal(alloc: Global, kind: ShapeType) -> SerdeError
-    ensures { IsRefusal (raw_told kind) result }
+    ensures { IsRefusal (raw_refusal kind) result }
 {
     match request_text(alloc, "a raw @httpPayload is a blob or string, but ", kind) {
         Ok(message) => SerdeError::InvalidInput { message },
@@ -115,7 +115,7 @@ pub(crate) fn raw_refusal(alloc: Global, kind: ShapeType) -> SerdeError
 
 /// A map or a structure was requested of a header.
 pub(crate) fn header_refusal(alloc: Global, kind: ShapeType) -> SerdeError
-    ensures { IsRefusal (header_told kind) result }
+    ensures { IsRefusal (header_refusal kind) result }
 {
     match kind {
         ShapeType::Map => {
@@ -127,7 +127,7 @@ pub(crate) fn header_refusal(alloc: Global, kind: ShapeType) -> SerdeError
 
 /// A container was requested of an element of a header list.
 pub(crate) fn element_refusal(alloc: Global, kind: ShapeType) -> SerdeError
-    ensures { IsRefusal (element_told kind) result }
+    ensures { IsRefusal (element_refusal kind) result }
 {
     match kind {
         ShapeType::List => {
@@ -146,7 +146,7 @@ pub(crate) fn element_refusal(alloc: Global, kind: ShapeType) -> SerdeError
 
 // The text of a date that was read as another kind.
 fn date_text(alloc: Global, kind: ShapeType) -> Result<Text, OutOfMemory>
-    ensures { IfOk result (λ text. text ≡ date_text_told kind) }
+    ensures { IfOk result (λ text. text ≡ date_text kind) }
 {
     let what = requested(alloc, kind)?;
     joined(
@@ -159,7 +159,7 @@ fn date_text(alloc: Global, kind: ShapeType) -> Result<Text, OutOfMemory>
 
 /// Another kind than a timestamp was requested of a date.
 pub(crate) fn date_refusal(alloc: Global, kind: ShapeType) -> SerdeError
-    ensures { IsRefusal (refusal.InvalidInput (date_text_told kind)) result }
+    ensures { IsRefusal (refusal.InvalidInput (date_text kind)) result }
 {
     match date_text(alloc, kind) {
         Ok(message) => SerdeError::InvalidInput { message },
@@ -169,7 +169,7 @@ pub(crate) fn date_refusal(alloc: Global, kind: ShapeType) -> SerdeError
 
 // The text of a header without an item.
 fn no_value_text(alloc: Global, kind: ShapeType, name: &str) -> Result<Text, OutOfMemory>
-    ensures { IfOk result (λ text. refusal.InvalidInput text ≡ no_value_told kind name.now) }
+    ensures { IfOk result (λ text. refusal.InvalidInput text ≡ no_value kind name.now) }
 {
     let what = requested(alloc, kind)?;
     let head = joined(alloc, "expected ", what.as_str(), " in header `")?;
@@ -178,7 +178,7 @@ fn no_value_text(alloc: Global, kind: ShapeType, name: &str) -> Result<Text, Out
 
 /// The header has no item.
 pub(crate) fn no_value(alloc: Global, kind: ShapeType, name: &str) -> SerdeError
-    ensures { IsRefusal (no_value_told kind name.now) result }
+    ensures { IsRefusal (no_value kind name.now) result }
 {
     match no_value_text(alloc, kind, name) {
         Ok(message) => SerdeError::InvalidInput { message },
@@ -238,7 +238,7 @@ fn behind_prefix(alloc: Global, member: &str, prefix: &str, what: &str) -> Serde
 
 /// The payload is not there to be read.
 pub(crate) fn not_buffered(alloc: Global, member: &str) -> SerdeError
-    ensures { IsRefusal (not_buffered_told member.now) result }
+    ensures { IsRefusal (not_buffered member.now) result }
 {
     match format!(in alloc;
         "member `{member}` has a non-streaming @httpPayload but the response body was not buffered"

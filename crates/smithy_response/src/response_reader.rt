@@ -1,7 +1,7 @@
 // The reader of a response, by what its schema binds.
 ghost use Rattle.std.specs.Prelude.{◌≡◌, [], true, false, IfOk};
 ghost use Rattle.smithy_schema.specs.References.{schema_of};
-ghost use Rattle.smithy_response.specs.ResponseReaders.{is_body_only as is_body_only_told, reads_whole, IsReader};
+ghost use Rattle.smithy_response.specs.ResponseReaders.{is_body_only, reads_whole, IsReader};
 
 use crate::composite::CompositeReader;
 use crate::member_search::{Sought, has_member};
@@ -215,7 +215,7 @@ fn copied(alloc: Global, response: &Response) -> Result<Response, OutOfMemory>
 
 // Whether the schema has members, and none is bound to a part of the response.
 fn is_body_only(schema: SchemaRef<'_>) -> bool
-    ensures { result ≡ is_body_only_told (schema_of schema.entry) }
+    ensures { result ≡ is_body_only (schema_of schema.entry) }
 {
     has_member(schema, Sought::Unbound) && !has_member(schema, Sought::Bound)
 }

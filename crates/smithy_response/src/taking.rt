@@ -2,7 +2,7 @@
 ghost use Rattle.std.specs.Prelude.{◌≡◌, ◌∷◌, IfOk};
 ghost use Rattle.smithy_schema.specs.Nodes.{name_of};
 ghost use Rattle.smithy_schema.specs.References.{schema_of};
-ghost use Rattle.smithy_response.specs.Routes.{in_header, in_payload, source_of, is_plain_text as is_plain_text_told, is_raw as is_raw_told, are_empty as are_empty_told, has_nothing as has_nothing_told};
+ghost use Rattle.smithy_response.specs.Routes.{in_header, in_payload, source_of, is_plain_text, is_raw, are_empty, has_nothing};
 ghost use Rattle.smithy_response.specs.Transporting.{IsTakenAt, TakesAt, TakesPrefix};
 
 use crate::parts::{BoundMember, HeaderAtHand};
@@ -106,28 +106,28 @@ fn name_in<'s>(member: SchemaRef<'s>) -> &'s str
 
 // Whether the member is a text that is read whole.
 fn is_plain_text(member: SchemaRef<'_>) -> bool
-    ensures { result ≡ is_plain_text_told (schema_of member.entry) }
+    ensures { result ≡ is_plain_text (schema_of member.entry) }
 {
     matches!(member.shape_type(), ShapeType::String) && member.media_type().is_none()
 }
 
 // Whether the payload is taken as it is.
 fn is_raw(member: SchemaRef<'_>) -> bool
-    ensures { result ≡ is_raw_told (schema_of member.entry).node.kind }
+    ensures { result ≡ is_raw (schema_of member.entry).node.kind }
 {
     matches!(member.shape_type(), ShapeType::Blob | ShapeType::String)
 }
 
 // Whether the values of a header have nothing for the member, the first one beside the others.
 fn has_nothing(member: SchemaRef<'_>, first: &[u8], values: GetAllBytes<'_>) -> bool
-    ensures { result ≡ has_nothing_told (schema_of member.entry) (first.now ∷ values.entry) }
+    ensures { result ≡ has_nothing (schema_of member.entry) (first.now ∷ values.entry) }
 {
     !is_plain_text(member) && first.is_empty() && are_empty(values)
 }
 
 // Whether no value has a byte.
 fn are_empty(values: GetAllBytes<'_>) -> bool
-    ensures { result ≡ are_empty_told values.entry }
+    ensures { result ≡ are_empty values.entry }
 {
     for value in values {
         if !value.is_empty() {

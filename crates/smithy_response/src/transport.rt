@@ -5,8 +5,8 @@ ghost use Rattle.smithy_schema.specs.References.{schema_of};
 ghost use Rattle.smithy_serde.specs.Held as held;
 ghost use Rattle.smithy_serde.specs.ReadCalls.{read_at};
 ghost use Rattle.smithy_response.specs.GivenScalars.{GivesScalar, GivesRaw};
-ghost use Rattle.smithy_response.specs.Handed.{has_no_bytes as has_no_bytes_told};
-ghost use Rattle.smithy_response.specs.Settling.{skips as skips_told};
+ghost use Rattle.smithy_response.specs.Handed.{has_no_bytes};
+ghost use Rattle.smithy_response.specs.Settling.{skips};
 
 use crate::header_reads::shape_type;
 use crate::member_search::{Sought, has_member};
@@ -307,7 +307,7 @@ fn read_raw(
 }
 
 fn skips(policy: NonUtf8HeaderHandling) -> bool
-    ensures { result ≡ skips_told policy }
+    ensures { result ≡ skips policy }
 {
     match policy {
         NonUtf8HeaderHandling::Reject => false,
@@ -316,7 +316,7 @@ fn skips(policy: NonUtf8HeaderHandling) -> bool
 }
 
 fn has_no_bytes(response: &Response) -> bool
-    ensures { result ≡ has_no_bytes_told response.now }
+    ensures { result ≡ has_no_bytes response.now }
 {
     match response.body() {
         Some(body) => body.as_slice().is_empty(),
