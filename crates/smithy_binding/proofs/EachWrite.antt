@@ -1,9 +1,9 @@
 -- A loop that takes the writes of a list one by one.
-use Rattle.std.proofs.Common.{◌≡◌, refl, ap, sym, ◌∙◌, List, [], ◌∷◌, ◌++◌, append_assoc, map, subst}
+use Rattle.std.proofs.Common.{◌≡◌, refl, ap, sym, ◌∙◌, List, [], ◌∷◌, ◌++◌, append_assoc}
 use Rattle.std.proofs.lemmas.List.{append-nil, map-append}
 use Rattle.smithy_schema.specs.Nodes.{Table}
 use Rattle.smithy_serde.specs.StoredValues.{IsDefined, listed, label_at, value_in}
-use Rattle.smithy_serde.specs.Values.{Write, Writes, no_writes, write, writes_of, list_of}
+use Rattle.smithy_serde.specs.Values.{Writes, no_writes, write, writes_of, list_of}
 use Rattle.smithy_serde.specs.declared.value.OneWrite.{OneWrite}
 use Rattle.smithy_binding.specs.declared.body_writes.BodyWrite.{BodyWrite}
 use Rattle.smithy_binding.specs.KeptWrites.{write_in, unbound_in, AreDefinedWrites}

@@ -6,7 +6,7 @@ use Rattle.std.specs.Str.{bytes_eq, str_to_ascii_lowercase}
 use Rattle.std.proofs.Math.ListN.{drop_of_length-le}
 use Rattle.std.proofs.lemmas.List.{append-nil}
 use Rattle.smithy_types.specs.Texts.{is_one_of, same_text}
-use Rattle.smithy_schema.specs.Nodes.{Schema, Table, at_place, member_at, to_query_map}
+use Rattle.smithy_schema.specs.Nodes.{Schema, Table, member_at, to_query_map}
 use Rattle.smithy_serde.specs.Fits.{fits}
 use Rattle.smithy_serde.specs.StoredValues.{value_in, listed}
 use Rattle.smithy_serde.specs.Values.{Value, list, Writes, no_writes, write, Write, list_of, text_of_key}

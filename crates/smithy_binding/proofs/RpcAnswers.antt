@@ -1,16 +1,15 @@
 -- The answer of a remote procedure call, by the text of its document.
-use Rattle.std.proofs.Common.{◌≡◌, ap, sym, ◌∙◌, ℕ, List, [], length, true, codes, Result, Ok, Err, Option, Some, None, option_map, unwrap_or}
-use Rattle.std.specs.Result.{result_ok, result_err}
+use Rattle.std.proofs.Common.{◌≡◌, ap, sym, ◌∙◌, ℕ, List, Ok, Err, Some}
 use Rattle.smithy_http.specs.Requests.{Request}
-use Rattle.smithy_serde.specs.DocumentOf.{document_fault, document_fault_text}
+use Rattle.smithy_serde.specs.DocumentOf.{document_fault}
 use Rattle.smithy_serde.specs.Finishing.{IsTextOf}
 use Rattle.smithy_serde.specs.Refusing.{IsFaultRefusal}
 use Rattle.smithy_serde.specs.Values.{structure, Writes}
 use Rattle.smithy_serde.specs.declared.error.SerdeError.{SerdeError}
 use Rattle.smithy_binding.specs.Bodies.{text_of_document}
-use Rattle.smithy_binding.specs.Faults.{Fault, behind, fault_of_document, custom}
+use Rattle.smithy_binding.specs.Faults.{Fault, behind, fault_of_document}
 use Rattle.smithy_binding.specs.Placing.{Protocol, Omit}
-use Rattle.smithy_binding.specs.Refusing.{TellsFault, Answers}
+use Rattle.smithy_binding.specs.Refusing.{Answers}
 use Rattle.smithy_binding.specs.Rpc.{posted, rpc_answer}
 use Rattle.smithy_binding.proofs.Refusals.{TellsFault-then}
 use Rattle.smithy_binding.proofs.TellingUnbound.{refused-document, text-fault, text-bytes}

@@ -1,6 +1,6 @@
-use Rattle.std.proofs.Common.{◌≡◌, ap, sym, ◌∙◌, subst, ◌++◌}
+use Rattle.std.proofs.Common.{ap, sym, ◌∙◌, subst, ◌++◌}
 use Rattle.smithy_serde.specs.StoredValues.{listed, value_in}
-use Rattle.smithy_serde.specs.Values.{Label, Write, list_of}
+use Rattle.smithy_serde.specs.Values.{Label, list_of}
 use Rattle.smithy_binding.specs.declared.body_writes.BodyWrite.{BodyWrite}
 use Rattle.smithy_binding.specs.KeptWrites.{unbound_in, AreDefinedWrites}
 use Rattle.smithy_binding.proofs.EachWrite.{each-step, AreDefinedWrites-push}

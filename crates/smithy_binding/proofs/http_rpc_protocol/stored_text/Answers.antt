@@ -1,4 +1,4 @@
-use Rattle.std.proofs.Common.{◌≡◌, ap, ◌∙◌, subst, IfOk, IfErr}
+use Rattle.std.proofs.Common.{ap, ◌∙◌, subst, IfOk, IfErr}
 use Rattle.smithy_serde.specs.DocumentOf.{document_fault}
 use Rattle.smithy_serde.specs.Finishing.{IsTextOf}
 use Rattle.smithy_serde.specs.Refusing.{IsFaultRefusal}
