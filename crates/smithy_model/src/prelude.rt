@@ -10,7 +10,7 @@ use smithy_ids::ShapeType;
 use std::alloc::Global;
 
 /// How many shapes the prelude has.
-pub const COUNT: usize = 21;
+pub const PRELUDE_SHAPES: usize = 21;
 
 /// The kind of the prelude's shape of this name (Smithy, prelude model). Takes no memory.
 #[tactic(auto, unfolding(crate::specs::Prelude::prelude_kind))]

@@ -2,14 +2,14 @@
 ghost use Rattle.std.specs.Prelude.{◌≡◌, ◌++◌, ◌∷◌, [], false, map, IfOk, OnOk, Some};
 ghost use Rattle.serde_json.specs.View.{view};
 ghost use Rattle.smithy_model.specs.Reached.{is_among, with_name, with_names, with_targets, reached};
-ghost use Rattle.smithy_model.specs.Models.{with_http as with_http_lem};
+ghost use Rattle.smithy_model.specs.Models.{with_http};
 ghost use Rattle.smithy_model.specs.Reads.{Reads};
 ghost use Rattle.smithy_model.specs.ModelView.{member_view, shape_view};
 ghost use Rattle.smithy_model.specs.PlaceView.{texts, ArePlaces};
 ghost use Rattle.smithy_model.specs.ReachedView.{IsWhole};
 
 use crate::error::JobError;
-use crate::prelude::COUNT;
+use crate::prelude::PRELUDE_SHAPES;
 use crate::shape::{Member, Shape};
 use crate::shapes::shape_at;
 use crate::spots::place_behind;
@@ -112,7 +112,7 @@ pub fn shapes_from<'v>(
     let mut names = Vec::new(alloc);
     let mut places = BTreeMap::new(alloc);
     meet_names(&mut names, &mut places, roots)?;
-    let mut rest = place_behind(object.len(), COUNT)?;
+    let mut rest = place_behind(object.len(), PRELUDE_SHAPES)?;
     'walk: while let Some(name) = names.as_slice().get(found.as_slice().len()) {
         let shape = shape_at(alloc, shapes, name)?;
         meet_targets(&mut names, &mut places, shape.members.as_slice())?;
@@ -129,7 +129,7 @@ pub fn shapes_from<'v>(
 }
 
 fn set_http<'v>(shapes: &mut [Shape<'v>], http: HttpTrait<'v>)
-    ensures { map shape_view shapes.new ≡ with_http_lem (Some http.entry) (map shape_view shapes.old) }
+    ensures { map shape_view shapes.new ≡ with_http (Some http.entry) (map shape_view shapes.old) }
 {
     if let [first, ..] = shapes {
         first.traits.plain.http = Some(http);
@@ -140,7 +140,7 @@ fn set_http<'v>(shapes: &mut [Shape<'v>], http: HttpTrait<'v>)
 pub fn with_http<'v>(reached: Reached<'v>, http: Option<HttpTrait<'v>>) -> Reached<'v>
     requires { IsWhole reached }
     ensures shapes { map shape_view result.shapes.items
-        ≡ with_http_lem http.entry (map shape_view reached.entry.shapes.items) }
+        ≡ with_http http.entry (map shape_view reached.entry.shapes.items) }
     ensures whole { IsWhole result }
 {
     let Reached { mut shapes, places } = reached;
