@@ -4,7 +4,7 @@ ghost use Rattle.std.specs.Option.{option_map_or};
 ghost use Rattle.smithy_schema.specs.Nodes.{name_of, is_bound, member_at};
 ghost use Rattle.smithy_schema.specs.References.{schema_of};
 ghost use Rattle.smithy_schema.specs.ShownBindings.{binding_shown};
-ghost use Rattle.smithy_binding.specs.Bodies.{has_unbound_member as has_unbound};
+ghost use Rattle.smithy_binding.specs.Bodies.{has_unbound_member};
 ghost use Rattle.smithy_binding.specs.Faults.{is_placed_at};
 
 use smithy_schema::{Binding, SchemaRef};
@@ -44,7 +44,7 @@ pub fn member_count(schema: SchemaRef<'_>) -> usize
 /// Whether some member stands in the body. Linear in the number of members.
 #[tactic(auto, using(crate::proofs::UnboundMembers::finding_unbound))]
 pub fn has_unbound_members(schema: SchemaRef<'_>) -> bool
-    ensures { result ≡ has_unbound (schema_of schema.entry) }
+    ensures { result ≡ has_unbound_member (schema_of schema.entry) }
 {
     for position in 0..member_count(schema) {
         if is_unbound_at(schema, position) {

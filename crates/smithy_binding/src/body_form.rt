@@ -3,7 +3,7 @@ ghost use Rattle.std.specs.Prelude.{◌≡◌, Some, false, not};
 ghost use Rattle.std.specs.Option.{option_map_or};
 ghost use Rattle.smithy_schema.specs.Nodes.{member_at, is_bound};
 ghost use Rattle.smithy_schema.specs.References.{schema_of};
-ghost use Rattle.smithy_binding.specs.Bodies.{has_unbound_member as has_unbound, form_at, form_in, is_codec, is_raw_kind, is_codec_kind, unbound_form};
+ghost use Rattle.smithy_binding.specs.Bodies.{has_unbound_member, form_at, form_in, is_codec, is_raw_kind, is_codec_kind, unbound_form};
 ghost use Rattle.smithy_binding.specs.PayloadKinds.{kind_if_payload};
 
 use crate::binding::{has_unbound_members, member_count};
@@ -107,7 +107,7 @@ fn unbound_form(has_unbound: bool) -> BodyForm
 
 // The form beside a payload of this kind.
 fn payload_form(schema: SchemaRef<'_>, kind: ShapeType) -> BodyForm
-    ensures { result ≡ form_at (Some kind) (has_unbound (schema_of schema.entry)) }
+    ensures { result ≡ form_at (Some kind) (has_unbound_member (schema_of schema.entry)) }
 {
     if is_raw_kind(kind) {
         BodyForm::Raw

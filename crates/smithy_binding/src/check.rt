@@ -1,7 +1,7 @@
 // Schemas that a request can be placed by (Smithy, HTTP protocol bindings).
 ghost use Rattle.std.specs.Prelude.{◌≡◌, ◌&&◌, IfOk, false};
 ghost use Rattle.std.specs.Option.{option_map_or};
-ghost use Rattle.smithy_ids.specs.Kinds.{is_structure_or_union as struct_or_union};
+ghost use Rattle.smithy_ids.specs.Kinds.{is_structure_or_union};
 ghost use Rattle.smithy_schema.specs.Nodes.{members_of};
 ghost use Rattle.smithy_schema.specs.References.{schema_of};
 ghost use Rattle.smithy_binding.specs.Checked.{checked_input, agrees, has_sound_names, has_sound_http};
@@ -23,7 +23,7 @@ use std::alloc::{AllocError, Global};
 mod tests;
 
 fn is_struct_payload(kind: Option<ShapeType>) -> bool
-    ensures { result ≡ option_map_or struct_or_union kind false }
+    ensures { result ≡ option_map_or is_structure_or_union kind false }
 {
     match kind {
         Some(kind) => is_structure_or_union(kind),

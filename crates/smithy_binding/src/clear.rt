@@ -169,7 +169,8 @@ fn hole_count(template: &CutTemplate<'_>) -> usize
 // With `a` in each hole it is a legal target, and the holes are whole segments of its path.
 fn is_clear_path(template: &CutTemplate<'_>, filled: &str) -> bool
     ensures { let shown = template_shown template.now in
-        result ≡ (is_legal_target filled.now && are_whole_segments shown.first shown.rest && has_whole_authority shown) }
+        result ≡ (is_legal_target filled.now && are_whole_segments shown.first shown.rest
+        && has_whole_authority shown) }
 {
     legal_target(filled) && are_whole_segments(template) && has_whole_authority(template)
 }

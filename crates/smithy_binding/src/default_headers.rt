@@ -24,7 +24,7 @@ fn has_name(headers: &Headers, name: &str) -> bool
 }
 
 // Adds a header behind the others.
-fn append(headers: &mut Headers, name: &str, value: &str) -> Result<(), OutOfMemory>
+fn append_default(headers: &mut Headers, name: &str, value: &str) -> Result<(), OutOfMemory>
     requires token { IsTrue (is_token name.now) }
     requires lower { str_to_ascii_lowercase name.now ≡ name.now }
     requires value { IsTrue (is_header_value value.now) }
@@ -51,7 +51,7 @@ fn add_content_type(
     if !is_wanted || has_name(headers, "content-type") {
         return Ok(());
     }
-    append(headers, "content-type", content_type)
+    append_default(headers, "content-type", content_type)
 }
 
 // Adds the length, where it is wanted and none stands.
@@ -68,7 +68,7 @@ fn add_length(
         return Ok(());
     }
     let text = format!(in alloc; "{length}")?;
-    append(headers, "content-length", text.as_str())
+    append_default(headers, "content-length", text.as_str())
 }
 
 /// Adds the content type where the body is the codec's (RFC 7231, section 3.1.1.5), and the length where it is or has

@@ -7,7 +7,7 @@ ghost use Rattle.smithy_serde.specs.StoredValues.{writes_in};
 ghost use Rattle.smithy_serde.specs.Values.{list_of};
 ghost use Rattle.smithy_strings.specs.Lists.{listed};
 ghost use Rattle.smithy_strings.specs.declared.wire.Place.TheVariants as at;
-ghost use Rattle.smithy_binding.specs.Bindings.{element_text as element, kind_or_none, pairs_with};
+ghost use Rattle.smithy_binding.specs.Bindings.{element_text, kind_or_none, pairs_with};
 ghost use Rattle.smithy_binding.specs.Faults.{element_fault};
 ghost use Rattle.smithy_binding.specs.Refusing.{LacksYear};
 ghost use Rattle.smithy_binding.specs.Reporting.{Reports};
@@ -68,9 +68,9 @@ pub fn listed_text(
     elements: &WriteList,
 ) -> Result<Text, SerdeError>
     ensures ok { IfOk result (λ s. option_map (listed kind)
-        (each (element at.Header) (list_of (writes_in table.now elements.now))) ≡ Some s) }
+        (each (element_text at.Header) (list_of (writes_in table.now elements.now))) ≡ Some s) }
     ensures err { IfErr result
-        (LacksYear (each (element at.Header) (list_of (writes_in table.now elements.now)))) }
+        (LacksYear (each (element_text at.Header) (list_of (writes_in table.now elements.now)))) }
 {
     let mut list = String::new(alloc);
     let mut is_first = true;
@@ -93,10 +93,10 @@ pub fn push_elements(
 ) -> Result<(), SerdeError>
     ensures ok { OnOk result
         (option_map (λ texts. string_bytes query.old ++ queries (pairs_with name.now texts))
-        (each (element at.Query) (list_of (writes_in table.now elements.now)))
+        (each (element_text at.Query) (list_of (writes_in table.now elements.now)))
         ≡ Some (string_bytes query.new)) }
     ensures err { IfErr result
-        (LacksYear (each (element at.Query) (list_of (writes_in table.now elements.now)))) }
+        (LacksYear (each (element_text at.Query) (list_of (writes_in table.now elements.now)))) }
 {
     for (node, value) in elements.iter() {
         let text = element_text(alloc, table, Place::Query, node, value)?;

@@ -14,8 +14,10 @@ use smithy_serde::SerdeError;
 use std::alloc::Global;
 use std::borrow::CowStr;
 
-/// Puts a header of the member, in place of an earlier one with its name; an owned text is given over. `InvalidInput` where the name is no token, or
-/// else the value has a byte that no header value has (RFC 7230, section 3.2). Takes memory.
+/// Puts a header of the member, in place of an earlier one with its name; an owned text is taken over.
+///
+/// `InvalidInput` where the name is no token, or else the value has a byte that no header value has (RFC 7230, section 3.2).
+/// Takes memory.
 pub fn put_header(
     alloc: Global,
     member: SchemaRef<'_>,
@@ -25,8 +27,8 @@ pub fn put_header(
 ) -> Result<(), SerdeError>
     ensures ok { IfOk result (λ _. pairs_fault (schema_of member.entry)
         ((str_to_ascii_lowercase name.now, cow_str_bytes text.entry) ∷ []) ≡ None) }
-    ensures put { OnOk result
-        (headers.new ≡ put_all headers.old ((str_to_ascii_lowercase name.now, cow_str_bytes text.entry) ∷ [])) }
+    ensures put { OnOk result (headers.new
+        ≡ put_all headers.old ((str_to_ascii_lowercase name.now, cow_str_bytes text.entry) ∷ [])) }
     ensures err { IfErr result (IsTold (pairs_fault (schema_of member.entry)
         ((str_to_ascii_lowercase name.now, cow_str_bytes text.entry) ∷ []))) }
 {

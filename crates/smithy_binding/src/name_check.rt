@@ -1,11 +1,11 @@
 // The names of a schema's members, and whether they are distinct.
 ghost use Rattle.std.specs.Prelude.{◌≡◌, nat_eq, IfOk, map, option_map, string_bytes};
 ghost use Rattle.std.specs.List.{list_all, list_any, starts_with};
-ghost use Rattle.smithy_types.specs.Grammars.{is_token as token};
+ghost use Rattle.smithy_types.specs.Grammars.{is_token};
 ghost use Rattle.smithy_types.specs.Texts.{are_distinct, is_one_of};
 ghost use Rattle.smithy_schema.specs.References.{schema_of};
 ghost use Rattle.smithy_binding.specs.declared.name_check.NameKind.TheVariants as names;
-ghost use Rattle.smithy_binding.specs.Checking.{shown, name_under, names_under, texts_shown, lower_names, is_sound_prefix_of as sound_prefix, have_sound_headers, have_sound_names};
+ghost use Rattle.smithy_binding.specs.Checking.{shown, name_under, names_under, texts_shown, lower_names, is_sound_prefix_of, have_sound_headers, have_sound_names};
 
 use smithy_schema::SchemaRef;
 use smithy_types::is_token;
@@ -58,7 +58,7 @@ pub fn names_of<'t>(
 // So many names are compared with each other: that costs less than a map.
 const FEW_NAMES: usize = 16;
 
-fn is_among(name: &str, names: &[&str]) -> bool
+fn is_one_of(name: &str, names: &[&str]) -> bool
     ensures { result ≡ is_one_of name.now (texts_shown names.now) }
 {
     names.iter().any(|other| name == *other)
@@ -69,14 +69,14 @@ fn are_few_distinct(names: &[&str]) -> bool
     ensures { result ≡ are_distinct (texts_shown names.now) }
 {
     for (place, name) in names.iter().enumerate() {
-        if is_among(*name, &names[place + 1..]) {
+        if is_one_of(*name, &names[place + 1..]) {
             return false;
         }
     }
     true
 }
 
-/// Whether no two of the names are the same. Takes memory.
+/// Whether no two of the names are the same. Takes memory for more than sixteen.
 pub fn are_distinct<'t>(alloc: Global, names: &[&'t str]) -> Result<bool, AllocError>
     ensures { IfOk result (λ b. b ≡ are_distinct (texts_shown names.now)) }
 {
@@ -118,7 +118,7 @@ fn as_texts<'s>(alloc: Global, names: &'s [String]) -> Result<Vec<&'s str>, Allo
 }
 
 fn are_tokens(names: &[&str]) -> bool
-    ensures { result ≡ list_all token (texts_shown names.now) }
+    ensures { result ≡ list_all is_token (texts_shown names.now) }
 {
     names.iter().all(|name| is_token(name))
 }
@@ -133,7 +133,7 @@ fn begins_any(prefix: &str, names: &[&str]) -> bool
 }
 
 fn is_sound_prefix(alloc: Global, headers: &[&str], prefix: &str) -> Result<bool, AllocError>
-    ensures { IfOk result (λ b. b ≡ sound_prefix (texts_shown headers.now) prefix.now) }
+    ensures { IfOk result (λ b. b ≡ is_sound_prefix_of (texts_shown headers.now) prefix.now) }
 {
     if !prefix.is_empty() && !is_token(prefix) {
         return Ok(false);
@@ -148,7 +148,7 @@ fn are_sound_prefixes(
     prefixes: &[&str],
 ) -> Result<bool, AllocError>
     ensures { IfOk result
-        (λ b. b ≡ list_all (sound_prefix (texts_shown headers.now)) (texts_shown prefixes.now)) }
+        (λ b. b ≡ list_all (is_sound_prefix_of (texts_shown headers.now)) (texts_shown prefixes.now)) }
 {
     for prefix in prefixes {
         if !is_sound_prefix(alloc, headers, prefix)? {

@@ -2,7 +2,7 @@
 ghost use Rattle.std.specs.Prelude.{◌≡◌, ◌&&◌, IfOk};
 ghost use Rattle.smithy_schema.specs.References.{schema_of};
 ghost use Rattle.smithy_binding.specs.CheckedOutput.{checked_output};
-ghost use Rattle.smithy_binding.specs.Checking.{shown, are_sound_response, have_sound_headers as sound_headers};
+ghost use Rattle.smithy_binding.specs.Checking.{shown, are_sound_response, have_sound_headers};
 
 use crate::member_check::Direction;
 use crate::members::{Counted, are_sound_members, count, has_sound_payload, named_members};
@@ -24,7 +24,7 @@ fn are_sound(members: &[SchemaRef<'_>]) -> bool
 // What is asked of a structure whose members are defined and have distinct names.
 fn are_checked(alloc: Global, members: &[SchemaRef<'_>]) -> Result<bool, AllocError>
     ensures { IfOk result
-        (λ b. b ≡ (are_sound_response (shown members.now) && sound_headers (shown members.now))) }
+        (λ b. b ≡ (are_sound_response (shown members.now) && have_sound_headers (shown members.now))) }
 {
     if !are_sound(members) {
         return Ok(false);

@@ -4,7 +4,7 @@ ghost use Rattle.std.specs.List.{list_all};
 ghost use Rattle.smithy_schema.specs.Nodes.{Table, element_of, members_of, to_header, binding_of};
 ghost use Rattle.smithy_schema.specs.References.{schema_of};
 ghost use Rattle.smithy_schema.specs.ShownBindings.{binding_shown};
-ghost use Rattle.smithy_serde.specs.Fits.{fits_member as fits};
+ghost use Rattle.smithy_serde.specs.Fits.{fits_member};
 ghost use Rattle.smithy_serde.specs.StoredValues.{value_in, writes_in, AreDefined, HasNode};
 ghost use Rattle.smithy_serde.specs.Values.{list, list_of, map};
 ghost use Rattle.smithy_serde.specs.Writes.{all_resolved};
@@ -207,7 +207,7 @@ fn add_first<'t, 'w>(
     requires bound { binding_shown binding ≡ binding_of (schema_of member) }
     requires placed { IsTrue (is_placed_at (binding_of (schema_of member))) }
     requires kinds { IsTrue (has_placed_kind (schema_of member)) }
-    requires fits { IsTrue (fits (schema_of member) (value_in table.now value.now)) }
+    requires fits { IsTrue (fits_member (schema_of member) (value_in table.now value.now)) }
     ensures { PutsFirst (schema_of schema.entry) (schema_of member.entry)
         (value_in table.now value.now) parts.old parts.new result }
 {

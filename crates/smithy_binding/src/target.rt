@@ -5,7 +5,7 @@ ghost use Rattle.smithy_types.specs.Results.{then_give};
 ghost use Rattle.smithy_schema.specs.Templates.{pieces};
 ghost use Rattle.smithy_binding.specs.Filling.{fill, filled_by, hole_text, keep_slashes, text_in};
 ghost use Rattle.smithy_binding.specs.Faults.{hole_fault};
-ghost use Rattle.smithy_binding.specs.Faults.{missing_hole as missing_fault};
+ghost use Rattle.smithy_binding.specs.Faults.{missing_hole};
 ghost use Rattle.smithy_binding.specs.Refusing.{TellsFault, IsTold};
 ghost use Rattle.smithy_binding.specs.Seen.{label_pair};
 ghost use Rattle.smithy_binding.specs.LabelTexts.{text_under};
@@ -57,7 +57,7 @@ fn push_label<'l>(
     ensures ok { OnOk result
         (then_give (text_in (text_under texts.now) (record { name = name.now; greedy = is_greedy }))
         (λ t. string_bytes out.old ++ t) ≡ Ok (string_bytes out.new)) }
-    ensures err { IfErr result (λ e. TellsFault e (λ f. (f ≡ missing_fault name.now)
+    ensures err { IfErr result (λ e. TellsFault e (λ f. (f ≡ missing_hole name.now)
         × (text_in (text_under texts.now) (record { name = name.now; greedy = is_greedy }) ≡ Err name.now))) }
 {
     let Some(text) = text_of_label(texts, name) else {

@@ -3,7 +3,7 @@ ghost use Rattle.std.specs.Prelude.{◌≡◌, codes, find, map, option_map};
 ghost use Rattle.serde_json.specs.View.{view};
 ghost use Rattle.serde_json.specs.Find.{get};
 ghost use Rattle.smithy_types.specs.Results.{each};
-ghost use Rattle.smithy_model.specs.Operations.{target_in, target_given, targets_given, http_among, http_given, is_operation, operation_with, operation_in, operation_at as defined_at};
+ghost use Rattle.smithy_model.specs.Operations.{target_in, target_given, targets_given, http_among, http_given, is_operation, operation_with, operation_in, operation_at};
 ghost use Rattle.smithy_model.specs.Names.{is};
 ghost use Rattle.smithy_model.specs.Models.{name_asked};
 ghost use Rattle.smithy_model.specs.Reads.{Reads};
@@ -128,7 +128,7 @@ pub fn operation_at<'v>(
     shapes: &'v Value,
     name: &str,
 ) -> Result<Operation<'v>, JobError>
-    ensures { Reads operation_view (defined_at (view shapes.now) name.now) result }
+    ensures { Reads operation_view (operation_at (view shapes.now) name.now) result }
 {
     match found_at(shapes, name) {
         Some(shape) => operation_in(alloc, shape),

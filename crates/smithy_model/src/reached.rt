@@ -112,6 +112,7 @@ pub fn shapes_from<'v>(
     let mut names = Vec::new(alloc);
     let mut places = BTreeMap::new(alloc);
     meet_names(&mut names, &mut places, roots)?;
+    // So many shapes can be met.
     let mut rest = place_behind(object.len(), PRELUDE_SHAPES)?;
     'walk: while let Some(name) = names.as_slice().get(found.as_slice().len()) {
         let shape = shape_at(alloc, shapes, name)?;
@@ -128,6 +129,7 @@ pub fn shapes_from<'v>(
     })
 }
 
+// Gives the first shape this `@http`.
 fn set_http<'v>(shapes: &mut [Shape<'v>], http: HttpTrait<'v>)
     ensures { map shape_view shapes.new ≡ with_http (Some http.entry) (map shape_view shapes.old) }
 {

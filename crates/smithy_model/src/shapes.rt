@@ -264,6 +264,7 @@ pub fn found_at<'v>(shapes: &'v Value, name: &str) -> Option<&'v Value>
     shapes.get(name)
 }
 
+// The shape that a model itself has at this name.
 fn own_shape_at<'v>(alloc: Global, shapes: &'v Value, name: &'v str) -> Result<Shape<'v>, JobError>
     ensures { Reads shape_view (own_shape_at (view shapes.now) name.now) result }
 {

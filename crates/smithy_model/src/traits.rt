@@ -138,10 +138,11 @@ fn add_trait<'v>(traits: &mut Traits<'v>, id: &str, value: &'v Value)
         "smithy.api#hostLabel" => traits.host_label = true,
         "smithy.api#eventHeader" => traits.event_header = true,
         "smithy.api#eventPayload" => traits.event_payload = true,
-        _ => return,
+        _ => {}
     }
 }
 
+// The traits with a field of their own among an object's members.
 fn traits_in<'v>(object: &'v Map<String, Value>) -> Traits<'v>
     ensures { traits_described result ≡ with_traits without_traits (map entry_view object.now.entries) }
 {

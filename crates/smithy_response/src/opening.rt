@@ -3,7 +3,7 @@ ghost use Rattle.std.specs.Prelude.{◌≡◌, None, IfOk};
 ghost use Rattle.std.specs.Str.{str_to_ascii_lowercase};
 ghost use Rattle.smithy_schema.specs.References.{schema_of};
 ghost use Rattle.smithy_response.specs.Openings.{OpensList, OpensPrefix, ReadsEntries, NextOfEntries, IsAtEntries, opened_kind};
-ghost use Rattle.smithy_response.specs.PrefixedHeaders.{keys_behind as keys_behind_told};
+ghost use Rattle.smithy_response.specs.PrefixedHeaders.{keys_behind};
 
 use crate::header_reads::{
     elements_of_header, scalar_of_date, scalar_of_element, scalar_of_header, shape_type,
@@ -68,7 +68,7 @@ pub(crate) fn open_entries(
 
 // The headers behind a prefix, before the first of them.
 fn entries_of(alloc: Global, headers: &Headers, prefix: &str) -> Result<OpenMap, OutOfMemory>
-    ensures keys { IfOk result (λ m. m.keys ≡ keys_behind_told prefix.now headers.now) }
+    ensures keys { IfOk result (λ m. m.keys ≡ keys_behind prefix.now headers.now) }
     ensures lower { IfOk result (λ m. m.lower ≡ str_to_ascii_lowercase prefix.now) }
     ensures place { IfOk result (λ m. m.place ≡ 0) }
     ensures entry { IfOk result (λ m. m.entry.list ≡ None) }

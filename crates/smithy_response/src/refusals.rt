@@ -6,7 +6,7 @@ ghost use Rattle.smithy_serde.specs.HeaderReads.{parse_refusal, no_value};
 ghost use Rattle.smithy_serde.specs.HeldReads.{status_refusal, prefix_refusal, raw_refusal, element_refusal, header_refusal};
 ghost use Rattle.smithy_serde.specs.Refusals.{IsRefusal};
 ghost use Rattle.smithy_serde.specs.Requests.{requested, plain_word};
-ghost use Rattle.smithy_response.specs.GivenScalars.{item_refusal as item_told, date_text};
+ghost use Rattle.smithy_response.specs.GivenScalars.{item_refusal, date_text};
 ghost use Rattle.smithy_response.specs.Routes.{not_buffered};
 ghost use Rattle.smithy_response.specs.Settling.{header_context, prefix_context, in_header_for, behind_prefix_for};
 
@@ -39,7 +39,7 @@ pub(crate) fn not_parsed(alloc: Global, error: HttpError) -> SerdeError
 
 /// A list item spells no value of the kind.
 pub(crate) fn no_item(alloc: Global, kind: ShapeType) -> SerdeError
-    ensures { IsRefusal (item_told kind) result }
+    ensures { IsRefusal (item_refusal kind) result }
 {
     match kind {
         ShapeType::Blob => SerdeError::invalid_input(alloc, "failed to decode base64"),
