@@ -138,7 +138,7 @@ fn add_trait<'v>(traits: &mut Traits<'v>, id: &str, value: &'v Value)
         "smithy.api#hostLabel" => traits.host_label = true,
         "smithy.api#eventHeader" => traits.event_header = true,
         "smithy.api#eventPayload" => traits.event_payload = true,
-        _ => {}
+        _ => return,
     }
 }
 
