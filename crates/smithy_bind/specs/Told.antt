@@ -1,7 +1,7 @@
 -- What can be told of a job.
 use Rattle.std.specs.Prelude.{ℕ, List, Option, Some, None}
 use Rattle.serde_json.specs.Data.{Data}
-use Rattle.smithy_model.specs.Json.{json_of}
+use Rattle.smithy_json.specs.FromText.{json_of}
 
 pub data Outcome : Type 0 where
   usage : Outcome

@@ -13,10 +13,10 @@ use crate::response::JsonResponses;
 use crate::sending::Sending;
 use crate::texts::{help, version};
 use crate::top_call::Status;
-use crate::work::Work;
+use crate::work::{Work, answer_to};
 use smithy_binding::{HttpBindingProtocol, HttpRpcProtocol};
 use smithy_io::MAX_JOB_LEN;
-use smithy_model::{JobError, read_json};
+use smithy_model::JobError;
 use std::alloc::Global;
 
 /// How a command ends, and what it writes.
@@ -64,16 +64,7 @@ fn worked<W: Work>(alloc: Global, work: &W, bytes: &[u8]) -> Ended
     if bytes.len() > MAX_JOB_LEN {
         return silent(alloc, Status::TooLong);
     }
-    end_of(alloc, answer(alloc, work, bytes))
-}
-
-// What is to be told of the bytes of a job.
-fn answer<W: Work>(alloc: Global, work: &W, bytes: &[u8]) -> Result<Answer, JobError>
-    requires { W.may work.now }
-    ensures { Gives (by_json (W.does work.now) bytes.now) result }
-{
-    let value = read_json(alloc, bytes)?;
-    work.answer(alloc, &value)
+    end_of(alloc, answer_to(alloc, work, bytes))
 }
 
 // The end of what was answered.

@@ -13,10 +13,10 @@ use crate::coded::error_of_code;
 use crate::json_value::{document_told, json_reader};
 use crate::told::refused;
 use crate::work::Work;
-use serde_json::Value;
 use smithy_binding::checked_output;
 use smithy_http::{NonUtf8HeaderHandling, Response};
 use smithy_job::{CodedError, Expected, Received, read_received};
+use smithy_json::JsonValue;
 use smithy_model::JobError;
 use smithy_registry::sanitize_error_code;
 use smithy_response::response_value;
@@ -36,7 +36,7 @@ impl Work for JsonResponses {
     ghost does = { λ _ d. responded_to d };
 
     #[tactic(auto, unfolding(crate::specs::Responding::responded_to))]
-    fn answer(&self, alloc: Global, value: &Value) -> Result<Answer, JobError> {
+    fn answer(&self, alloc: Global, value: &JsonValue<'_>) -> Result<Answer, JobError> {
         let Received {
             response,
             policy,

@@ -1,8 +1,8 @@
 // The jobs whose inputs are sent.
 use crate::answer::Answer;
 use crate::work::Work;
-use serde_json::Value;
 use smithy_job::{Job, read_job};
+use smithy_json::JsonValue;
 use smithy_model::JobError;
 use smithy_schema::SchemaRef;
 use smithy_serde::{OmitFlags, StructValue};
@@ -50,7 +50,7 @@ impl<P: Sends> Work for Sending<P> {
     ghost does = { λ s d. sent_job (P.sends s.protocol) d };
 
     #[tactic(auto, unfolding(crate::specs::Outcome::sent_job))]
-    fn answer(&self, alloc: Global, value: &Value) -> Result<Answer, JobError> {
+    fn answer(&self, alloc: Global, value: &JsonValue<'_>) -> Result<Answer, JobError> {
         let Job {
             table,
             place,

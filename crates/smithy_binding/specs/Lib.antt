@@ -8,7 +8,6 @@ pub mod DefaultHeaders
 pub mod Entries
 pub mod Faults
 pub mod Filling
-pub mod FirstPuts
 pub mod Gather
 pub mod LabelTexts
 pub mod Laws
@@ -16,7 +15,6 @@ pub mod NormalForm
 pub mod Placing
 pub mod Protocols
 pub mod Refusing
-pub mod Reporting
 pub mod Seen
 pub mod CutTemplate
 pub mod ClearParts

@@ -1,7 +1,8 @@
 -- What a refusal of the placing tells.
-use Rattle.std.specs.Prelude.{◌≡◌, Result, Ok, Err, Option, Some, None}
+use Rattle.std.specs.Prelude.{◌≡◌, Result, Ok, Err, Option, Some, None, OnOk, IfErr}
 use Rattle.smithy_serde.specs.declared.error.SerdeError.{SerdeError}
 use Rattle.smithy_serde.specs.declared.error.SerdeError.TheVariants.{UnknownMember, InvalidInput, UnsupportedOperation, Custom, OutOfMemory}
+use Rattle.smithy_serde.specs.Held.{Answer}
 use Rattle.smithy_binding.specs.Faults.{Fault, unknown_member, invalid_input, unsupported, custom, no_year}
 
 -- what holds of the fault that a refusal tells; want of memory tells none, and no other refusal comes
@@ -29,3 +30,8 @@ LacksYear text = λ e. TellsFault e (λ f. (f ≡ no_year) × (text ≡ None))
 abbrev pub Answers : {A : Type 0} → Result A SerdeError → Result A Fault → Type 0
 Answers (Ok value) answer = answer ≡ Ok value
 Answers (Err e) answer = IsFaultOf answer e
+
+-- what the test of a value answers: Ok where there is no fault, and else the fault is told
+pub record Reports (fault : Option Fault) (result : Answer) : Type 0 where
+  pub ok : OnOk result (fault ≡ None)
+  pub err : IfErr result (IsTold fault)

@@ -19,9 +19,6 @@ use smithy_schema::SchemaRef;
 use smithy_types::{OutOfMemory, is_token};
 use std::alloc::{AllocError, Global};
 
-#[cfg(test)]
-mod tests;
-
 fn is_struct_payload(kind: Option<ShapeType>) -> bool
     ensures { result ≡ option_map_or is_structure_or_union kind false }
 {
@@ -93,8 +90,8 @@ fn are_checked<'t>(
     members: &[SchemaRef<'t>],
 ) -> Result<bool, AllocError>
     requires { shown members.now ≡ members_of (schema_of schema) }
-    ensures { IfOk result (λ b. b ≡ (are_sound (schema_of schema.entry) (members_of (schema_of schema.entry))
-        && has_sound_names (schema_of schema.entry) && has_sound_http (schema_of schema.entry))) }
+    ensures { let s = schema_of schema.entry in
+        IfOk result (λ b. b ≡ (are_sound s (members_of s) && has_sound_names s && has_sound_http s)) }
 {
     if !are_sound(schema, members) {
         return Ok(false);

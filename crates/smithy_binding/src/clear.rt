@@ -63,7 +63,8 @@ fn begins_segment(literal: &[u8]) -> bool
 
 /// Whether every hole is a whole segment of the path.
 pub fn are_whole_segments(template: &CutTemplate<'_>) -> bool
-    ensures { let shown = template_shown template.now in result ≡ are_whole_segments shown.first shown.rest }
+    ensures { let shown = template_shown template.now in
+        result ≡ are_whole_segments shown.first shown.rest }
 {
     let mut is_behind = false;
     for hole in template.holes.iter() {

@@ -9,8 +9,7 @@ ghost use Rattle.smithy_strings.specs.Lists.{listed};
 ghost use Rattle.smithy_strings.specs.declared.wire.Place.TheVariants as at;
 ghost use Rattle.smithy_binding.specs.Bindings.{element_text, kind_or_none, pairs_with};
 ghost use Rattle.smithy_binding.specs.Faults.{element_fault};
-ghost use Rattle.smithy_binding.specs.Refusing.{LacksYear};
-ghost use Rattle.smithy_binding.specs.Reporting.{Reports};
+ghost use Rattle.smithy_binding.specs.Refusing.{LacksYear, Reports};
 ghost use Rattle.smithy_binding.specs.TargetParts.{queries};
 
 use crate::bound_text::element_text;

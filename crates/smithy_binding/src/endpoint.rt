@@ -10,9 +10,6 @@ use smithy_serde::SerdeError;
 use smithy_types::OutOfMemory;
 use std::alloc::Global;
 
-#[cfg(test)]
-mod tests;
-
 /// Points the request at the endpoint: its target is joined to the endpoint's address (RFC 3986, section 3), behind the
 /// prefix, and the endpoint's headers stand in place of those of their names, behind the others.
 ///

@@ -9,9 +9,6 @@ use smithy_schema::SchemaRef;
 use smithy_serde::{Codec, OmitFlags, SerdeError, SerializableStruct, record_members};
 use std::alloc::Global;
 
-#[cfg(test)]
-mod tests;
-
 /// Places each bound member where its trait names it, and writes the others into a body by its codec.
 #[derive(Drop)]
 pub struct HttpBindingProtocol<C> {

@@ -22,9 +22,6 @@ use smithy_types::Blob;
 use std::alloc::{AllocError, Global};
 use std::marker::Model;
 
-#[cfg(test)]
-mod tests;
-
 /// Posts the document of a whole input, as its codec's text, to the endpoint. Seen as its parts.
 #[derive(Drop)]
 pub struct HttpRpcProtocol<C> {

@@ -30,8 +30,6 @@ mod resolve;
 mod service_names;
 mod target;
 mod template;
-#[cfg(test)]
-mod testing;
 
 pub use check::checked_input;
 pub use endpoint::apply_http_endpoint;

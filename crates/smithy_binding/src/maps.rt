@@ -10,8 +10,7 @@ ghost use Rattle.smithy_http.specs.Headers.{put_all};
 ghost use Rattle.smithy_binding.specs.Bindings.{inserted_at, entry_pairs, pairs_at, query_names};
 ghost use Rattle.smithy_binding.specs.Entries.{text_at, pairs_at_place, has_key, unnamed};
 ghost use Rattle.smithy_binding.specs.Faults.{nested_fault, part_fault, item_fault, value_fault, pairs_fault, ends_with_value};
-ghost use Rattle.smithy_binding.specs.Refusing.{IsTold};
-ghost use Rattle.smithy_binding.specs.Reporting.{Reports};
+ghost use Rattle.smithy_binding.specs.Refusing.{IsTold, Reports};
 ghost use Rattle.smithy_binding.specs.TargetParts.{queries};
 
 use crate::binding::member_count;

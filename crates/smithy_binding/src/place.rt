@@ -22,9 +22,6 @@ use smithy_serde::{FinishSerializer, OmitFlags, SerdeError, WriteList};
 use smithy_types::{Blob, MAX_TARGET_LEN, Text};
 use std::alloc::Global;
 
-#[cfg(test)]
-mod tests;
-
 fn method_of<'t>(schema: SchemaRef<'t>) -> &'t str
     ensures { result.now ≡ method_of (schema_of schema.entry) }
 {

@@ -11,11 +11,10 @@ ghost use Rattle.smithy_serde.specs.Writes.{all_resolved};
 ghost use Rattle.smithy_http.specs.Headers.{put_all};
 ghost use Rattle.smithy_binding.specs.Bindings.{kind_or_none, inserted_at};
 ghost use Rattle.smithy_binding.specs.Faults.{element_fault, is_placed_at};
-ghost use Rattle.smithy_binding.specs.FirstPuts.{PutsFirst};
 ghost use Rattle.smithy_binding.specs.Gather.{gather_one, gather, add_or_fault, nothing_yet};
 ghost use Rattle.smithy_binding.specs.Placed.{has_placed_kind, is_text_member, is_list_binding, takes_map, first_fault, write_of, IsSingle};
 ghost use Rattle.smithy_binding.specs.Refusing.{IsTold, IsFaultOf};
-ghost use Rattle.smithy_binding.specs.Seen.{gathered_of, write_at};
+ghost use Rattle.smithy_binding.specs.Seen.{gathered_of, write_at, PutsFirst};
 ghost use Rattle.smithy_binding.specs.Bodies.{body_parts};
 ghost use Rattle.smithy_binding.specs.KeptWrites.{kept_in, IsEmpty, IsKeptDefined, KeepsAll, KeepsDefined};
 

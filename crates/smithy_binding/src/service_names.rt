@@ -6,9 +6,6 @@ ghost use Rattle.smithy_binding.specs.ServiceNames.{shape_name, shape_namespace,
 use smithy_types::OutOfMemory;
 use std::alloc::Global;
 
-#[cfg(test)]
-mod tests;
-
 /// The name of a service's shape, without its namespace.
 #[derive(Debug, PartialEq, Eq, Drop)]
 pub struct ServiceShapeName {

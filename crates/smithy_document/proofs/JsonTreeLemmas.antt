@@ -32,7 +32,7 @@ use Rattle.smithy_types.specs.DocumentView.{number_view}
 use Rattle.smithy_types.specs.declared.number.Number.{Number}
 use Rattle.smithy_json.specs.FromData.{number_of_data, of_data, items_of_data, pairs_of_data}
 use Rattle.smithy_document.specs.FromJson.{document_of_json, items_of_json, members_of_json, IsFound}
-use Rattle.smithy_json.specs.FromText.{document_of_text}
+use Rattle.smithy_json.specs.FromText.{json_of, document_of_text}
 use Rattle.smithy_document.specs.JsonTree.{text_at, node_view, nodes_view, fields_view, Grows, StaysIn}
 use Rattle.smithy_document.specs.declared.json_tree.Node.{Node, Null, Bool as TheBool, Number as TheNumber, Text as TheText, Array, Object, the_lemmas}
 use Rattle.smithy_document.proofs.JsonFound.{Member, pairs_of_json, pair_found, members_found}
@@ -279,7 +279,7 @@ ended old None new e h = h.0
 ended old (Some t) new e h = absurd (cc e)
 
 pub tree_read : (bytes : List ℕ) (j : Json) (d : Document) → IsUtf8 bytes → spec.value 127 (tokens bytes) ≡ Some (j, []) → document_of_json j ≡ Some d → document_of_text bytes ≡ Some d
-unfolding document_of_text
+unfolding json_of
 tree_read bytes j d utf8 is found = rw (is_utf8-from_IsUtf8 bytes utf8, is) found
 
 -- ---- depths

@@ -1,10 +1,9 @@
 -- The document of JSON's data is canonical, and has the names of each object in byte order.
 use Rattle.std.proofs.Common.{◌≡◌, ℕ, List, [], ◌∷◌, pos, negsuc, IsTrue, Option, Some, None, option_map, option_and_then, Ordering, Less, Equal, Greater, nat_cmp, refl, ap, ◌∙◌, subst}
-use Rattle.std.specs.Prelude.{IfSome, if◌then◌else◌}
+use Rattle.std.specs.Prelude.{IfSome}
 use Rattle.std.specs.Ordering.{match_ordering, ordering_reverse}
 use Rattle.std.specs.Cmp.Lexicographic.{slice_cmp}
 use Rattle.std.specs.List.{AllByRecursion}
-use Rattle.std.specs.Str.{is_utf8}
 use Rattle.std.proofs.lemmas.Bool.{and_parts, and_from}
 use Rattle.std.proofs.lemmas.Cmp.{nat_list_cmp_total}
 use Rattle.serde_json.specs.Read.{read}
@@ -15,7 +14,7 @@ use Rattle.smithy_types.specs.Documents.{Document, Items, Members, put, put_all}
 use Rattle.smithy_serde.specs.Lawful.{is_canonical, are_items_canonical, are_members_canonical}
 use Rattle.smithy_serde.specs.Ranges.{is_before}
 use Rattle.smithy_json.specs.FromData.{number_of_data, of_data, items_of_data, pairs_of_data}
-use Rattle.smithy_json.specs.FromText.{document_of_text}
+use Rattle.smithy_json.specs.FromText.{json_of, document_of_text}
 use Rattle.smithy_document.specs.InOrder.{is_in_order, are_items_in_order, are_members_in_order, is_read}
 use Rattle.smithy_document.proofs.PartLemmas.{IsCanonical, IsInOrder, member_ordered}
 
@@ -108,7 +107,6 @@ found_read (Some d) = data_read d
 
 -- what a text is read as is canonical and in order
 pub text_is_read : (bytes : List ℕ) (d : Document) → document_of_text bytes ≡ Some d → IsTrue (is_read d)
-unfolding document_of_text
 text_is_read bytes d is =
-    let both = subst (λ o. IfSome o IsRead) is (found_read (if is_utf8 bytes then read bytes else None)) in
+    let both = subst (λ o. IfSome o IsRead) is (found_read (json_of bytes)) in
     and_from (is_canonical d) (is_in_order d) both.0 both.1

@@ -1,5 +1,5 @@
 -- A reader of documents, with the containers that are open.
-use Rattle.std.specs.Prelude.{ℕ, max, Bool, true, false, ◌&&◌, List, [], ◌∷◌, map, flat_map, length, Option, Some, None, option_map, Ok, Err}
+use Rattle.std.specs.Prelude.{ℕ, Bool, true, false, List, [], ◌∷◌, map, flat_map, length, Option, Some, None, option_map, Ok, Err}
 use Rattle.smithy_types.specs.Documents as doc
 use Rattle.smithy_types.specs.Documents.{Document, Items, nesting, list_of_members}
 use Rattle.smithy_ids.specs.declared.shape_type.ShapeType.{ShapeType}
@@ -10,7 +10,6 @@ use Rattle.smithy_serde.specs.declared.scalar.Group.TheVariants as group
 use Rattle.smithy_serde.specs.Held as held
 use Rattle.smithy_serde.specs.Held.{Held}
 use Rattle.smithy_serde.specs.HeldReads.{known}
-use Rattle.smithy_serde.specs.Lawful.{is_canonical}
 use Rattle.smithy_serde.specs.Listings.{Listing, at_member, at_element, at_key, listing_of, contents_at, told_at}
 use Rattle.smithy_serde.specs.ReadCalls.{Frame, AtHand}
 use Rattle.smithy_serde.specs.Writes.{only_if}
@@ -41,15 +40,6 @@ abbrev pub kind_of_group : Group → ShapeType
 kind_of_group group.List = kind.List
 kind_of_group group.Map = kind.Map
 kind_of_group group.Structure = kind.Structure
-
--- the greatest nesting of parts
-abbrev pub parts_nesting : List Part → ℕ
-parts_nesting [] = 0
-parts_nesting (p ∷ ps) = max (nesting p.1) (parts_nesting ps)
-
-abbrev pub are_parts_canonical : List Part → Bool
-are_parts_canonical [] = true
-are_parts_canonical (p ∷ ps) = is_canonical p.1 && are_parts_canonical ps
 
 -- an open container with its parts that are still to come
 pub record Opened : Type 0 where

@@ -75,7 +75,7 @@ fn node_of(alloc: Global, texts: &mut TextList, value: &Value<'_>) -> Result<Nod
         Value::Bool(truth) => Ok(Node::Bool(*truth)),
         Value::Number(text) => match number_of(*text) {
             Some(number) => Ok(Node::Number(number)),
-            None => Err(JsonError::NoDocument),
+            None => Err(JsonError::Unreadable),
         },
         Value::String(text) => Ok(Node::Text(texts.push(*text)?)),
         Value::Array(items) => Ok(Node::Array(nodes_of(alloc, texts, items)?)),
@@ -201,7 +201,7 @@ fn plain_tree(alloc: Global, text: &[u8]) -> Result<JsonTree, JsonError>
     ensures { IfOk result (λ t. document_of_text text.now ≡ Some (tree_view t)) }
 {
     let Ok(text) = from_utf8(text) else {
-        return Err(JsonError::NoDocument);
+        return Err(JsonError::Unreadable);
     };
     let mut scratch = Scratch::new(alloc);
     tree_of_text(alloc, text, &mut scratch)
@@ -216,10 +216,10 @@ fn tree_of_text(alloc: Global, text: &str, scratch: &mut Scratch) -> Result<Json
     let value = match Value::read(alloc, &mut reader, MAX_DEPTH) {
         Ok(value) => value,
         Err(json::Error::OutOfMemory) => return Err(JsonError::OutOfMemory),
-        Err(_) => return Err(JsonError::NoDocument),
+        Err(_) => return Err(JsonError::Unreadable),
     };
     if reader.next().is_some() {
-        return Err(JsonError::NoDocument);
+        return Err(JsonError::Unreadable);
     }
     let mut texts = TextList::with_capacity(alloc, text.len())?;
     let root = node_of(alloc, &mut texts, &value)?;
@@ -235,9 +235,9 @@ pub(crate) fn read_tree(alloc: Global, text: &[u8]) -> Result<Option<JsonTree>, 
     match plain_tree(alloc, text) {
         Ok(tree) => Ok(Some(tree)),
         Err(JsonError::OutOfMemory) => Err(SerdeError::OutOfMemory),
-        Err(JsonError::NoDocument) => match read_document(alloc, text) {
+        Err(JsonError::Unreadable) => match read_document(alloc, text) {
             Ok(document) => Ok(Some(tree_of(alloc, &document)?)),
-            Err(JsonError::NoDocument) => Ok(None),
+            Err(JsonError::Unreadable) => Ok(None),
             Err(JsonError::OutOfMemory) => Err(SerdeError::OutOfMemory),
         },
     }

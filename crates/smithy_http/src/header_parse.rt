@@ -1,5 +1,5 @@
 // What is read from the values of a header (RFC 7230, sections 3.2.2 and 7).
-ghost use Rattle.std.specs.Prelude.{◌≡◌, Ok, Err, IfOk, IfErr, OnOk, MatchResult, option_map, string_bytes};
+ghost use Rattle.std.specs.Prelude.{◌≡◌, Ok, Err, IfOk, IfErr, OnOk, MatchResult, option_map};
 ghost use Rattle.std.specs.Str.{str_to_ascii_lowercase, trim};
 ghost use Rattle.smithy_http.specs.DateLists.{value_dates, dates_of};
 ghost use Rattle.smithy_http.specs.Facts.{values_at};
@@ -11,8 +11,9 @@ use crate::date_list::push_date_list;
 use crate::error::{HttpError, ListFault};
 use crate::headers::Headers;
 use crate::list_items::push_items;
+use crate::pairs::lower_name;
 use crate::values::{GetAllBytes, text_in};
-use smithy_types::{Format, Longs, OutOfMemory, Text, Words};
+use smithy_types::{Format, Longs, Text, Words};
 use std::alloc::Global;
 
 /// The texts of a header: those that its values spell, in order (RFC 7230, section 7, with `quoted-string` of
@@ -95,15 +96,6 @@ pub fn one_text(alloc: Global, headers: &Headers, name: &str) -> Result<Option<T
         Some(text) => Ok(Some(Text::from_str(alloc, text.trim())?)),
         None => Ok(None),
     }
-}
-
-// A name in lower case, so that no search is needed for it.
-fn lower_name(alloc: Global, name: &str) -> Result<String, OutOfMemory>
-    ensures lower { IfOk result (λ lower. string_bytes lower ≡ str_to_ascii_lowercase name.now) }
-    ensures twice { IfOk result (λ lower.
-        str_to_ascii_lowercase (string_bytes lower) ≡ str_to_ascii_lowercase name.now) }
-{
-    Ok(name.to_ascii_lowercase(alloc)?)
 }
 
 // A value as a text.

@@ -69,6 +69,8 @@ impl Headers {
     }
 
     /// `try_insert` with a text as the value, of which no copy is made where it is owned.
+    ///
+    /// Refused as `try_insert` is, with `Name`, then with `Value`. After a refusal the fields are unchanged. Takes memory.
     pub fn insert_text(&mut self, name: &str, value: CowStr<'_, Global>) -> Result<(), HttpError>
         ensures ok { OnOk result
             (self.new ≡ put self.old (str_to_ascii_lowercase name.now, cow_str_bytes value.entry)) }

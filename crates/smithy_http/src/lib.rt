@@ -24,6 +24,3 @@ pub use quote::{push_header_item, push_quoted_text, quote_header_value};
 pub use request::Request;
 pub use response::Response;
 pub use values::{GetAll, GetAllBytes};
-
-#[cfg(test)]
-mod tests;

@@ -47,13 +47,13 @@ fn test_pair(name: &str, value: &[u8]) -> Result<(), HttpError>
     Ok(())
 }
 
-// A name in lower case.
-fn in_lower_case(alloc: Global, name: &str) -> Result<String, OutOfMemory>
-    ensures { IfOk result (λ n. string_bytes n ≡ str_to_ascii_lowercase name.now) }
+// A name in lower case, so that no search is needed for it.
+pub(crate) fn lower_name(alloc: Global, name: &str) -> Result<String, OutOfMemory>
+    ensures lower { IfOk result (λ lower. string_bytes lower ≡ str_to_ascii_lowercase name.now) }
+    ensures twice { IfOk result (λ lower.
+        str_to_ascii_lowercase (string_bytes lower) ≡ str_to_ascii_lowercase name.now) }
 {
-    let mut lower = String::from_str(alloc, name)?;
-    lower.make_ascii_lowercase();
-    Ok(lower)
+    Ok(name.to_ascii_lowercase(alloc)?)
 }
 
 // The pair of a name in lower case and a value, once both are tested.
@@ -65,7 +65,7 @@ pub(crate) fn tested_pair(alloc: Global, name: &str, value: &[u8]) -> Result<Pai
 {
     test_pair(name, value)?;
     Ok(Pair {
-        name: in_lower_case(alloc, name)?,
+        name: lower_name(alloc, name)?,
         value: Blob::new(alloc, value)?,
     })
 }
@@ -76,14 +76,15 @@ pub(crate) fn tested_text_pair(
     name: &str,
     value: CowStr<'_, Global>,
 ) -> Result<Pair, HttpError>
-    ensures ok { IfOk result (λ p. pair_of p ≡ (str_to_ascii_lowercase name.now, cow_str_bytes value.entry)) }
+    ensures ok { IfOk result (λ p.
+        pair_of p ≡ (str_to_ascii_lowercase name.now, cow_str_bytes value.entry)) }
     ensures name { IsErrOf result HttpError.Name ↔ (grammar.is_token name.now ≡ false) }
     ensures value { IsErrOf result HttpError.Value ↔ (grammar.is_token name.now ≡ true)
         × (grammar.is_header_value (cow_str_bytes value.entry) ≡ false) }
 {
     test_pair(name, value.as_str().as_bytes())?;
     Ok(Pair {
-        name: in_lower_case(alloc, name)?,
+        name: lower_name(alloc, name)?,
         value: Blob::from_vec(value.into_owned(alloc)?.into_bytes()),
     })
 }

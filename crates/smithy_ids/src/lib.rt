@@ -23,6 +23,3 @@ pub use text_traits::{
     XmlName, XmlNameTrait,
 };
 pub use traits::{HttpTrait, TimestampFormat, TimestampFormatTrait, XmlNamespaceTrait};
-
-#[cfg(test)]
-mod tests;

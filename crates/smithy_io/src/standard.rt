@@ -78,6 +78,3 @@ fn write_flushed<W: Write>(writer: &mut W, bytes: &[u8]) -> std::io::Result<usiz
     writer.flush()?;
     Ok(n)
 }
-
-#[cfg(test)]
-mod tests;

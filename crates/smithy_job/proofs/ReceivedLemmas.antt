@@ -5,8 +5,8 @@ use Rattle.base64.specs.GeneralPurpose.{decode_of, decoded_of}
 use Rattle.base64.specs.declared.decode.DecodeError.{DecodeError}
 use Rattle.serde_json.specs.Data.{Data}
 use Rattle.serde_json.specs.Find.{get}
-use Rattle.serde_json.specs.View.{view}
-use Rattle.serde_json.specs.declared.value.Value.{Value}
+use Rattle.smithy_json.specs.JsonView.{view}
+use Rattle.smithy_json.specs.declared.value.JsonValue.{JsonValue}
 use Rattle.smithy_types.specs.Results.{each}
 use Rattle.smithy_http.specs.Responses.{Response}
 use Rattle.smithy_http.specs.declared.non_utf8.NonUtf8HeaderHandling.{NonUtf8HeaderHandling}
@@ -39,7 +39,7 @@ unfolding decoded_of
 undecoded t error e = rw e refl
 
 -- one more header
-module _ (items : List Value) (i : ℕ) (x : Value) (done more : List (List ℕ × List ℕ)) (all : Option (List (List ℕ × List ℕ))) (l : i < length items) (is : x ≡ get_or items i x)
+module _ (items : List JsonValue) (i : ℕ) (x : JsonValue) (done more : List (List ℕ × List ℕ)) (all : Option (List (List ℕ × List ℕ))) (l : i < length items) (is : x ≡ get_or items i x)
     (h : and_rest done (each header_in (map view (drop i items))) ≡ all) where
   pub headers-more : Has (header_in (view x)) (λ p. more ≡ done ++ p ∷ []) → and_rest more (each header_in (map view (drop (i + 1) items))) ≡ all
   headers-more k = go (header_in (view x)) refl k

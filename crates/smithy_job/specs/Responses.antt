@@ -1,5 +1,5 @@
 -- The response that a job has.
-use Rattle.std.specs.Prelude.{ℕ, nat_le, codes, List, [], ◌∷◌, Bool, ◌&&◌, is_some, Option, Some, None, option_map, option_and_then, if◌then◌else◌}
+use Rattle.std.specs.Prelude.{ℕ, nat_le, codes, List, [], Bool, ◌&&◌, is_some, Option, Some, None, option_map, option_and_then, if◌then◌else◌}
 use Rattle.std.specs.Option.{option_or}
 use Rattle.std.specs.Str.{str_to_ascii_lowercase}
 use Rattle.base64.specs.Engines.{standard}

@@ -2,11 +2,11 @@
 use Rattle.std.specs.Borrow.{Bor}
 use Rattle.std.specs.Prelude.{ℕ, List}
 use Rattle.serde_json.specs.Data.{Data}
-use Rattle.serde_json.specs.View.{view}
-use Rattle.serde_json.specs.declared.value.Value.{Value}
+use Rattle.smithy_json.specs.JsonView.{view}
+use Rattle.smithy_json.specs.declared.value.JsonValue.{JsonValue}
 
-abbrev pub seen : Bor (List ℕ) × Bor Value → List ℕ × Data
+abbrev pub seen : Bor (List ℕ) × Bor JsonValue → List ℕ × Data
 seen p = (p.0.now, view p.1.now)
 
-abbrev pub operation_seen : Bor Value × Bor (List ℕ) → Data × List ℕ
+abbrev pub operation_seen : Bor JsonValue × Bor (List ℕ) → Data × List ℕ
 operation_seen p = (view p.0.now, p.1.now)

@@ -1,22 +1,22 @@
 // The input of a job: an object, or an array of pairs of a member's name and its value.
 ghost use Rattle.std.specs.Prelude.{◌≡◌, map, option_map};
-ghost use Rattle.serde_json.specs.View.{view, items_view};
+ghost use Rattle.smithy_json.specs.JsonView.{view, items_view};
 ghost use Rattle.smithy_schema.specs.References.{schema_of};
 ghost use Rattle.smithy_job.specs.Values.{natural_label};
 ghost use Rattle.smithy_job.specs.Inputs.{named_value, pair_in, pairs_in, input};
 ghost use Rattle.smithy_job.specs.ReadingView.{KeepsNodes, ReadsWrites};
-ghost use Rattle.smithy_job.specs.Tables.{HasLabel, StandsIn};
 ghost use Rattle.smithy_job.specs.Seen.{seen};
+ghost use Rattle.smithy_job.specs.Tables.{HasLabel, StandsIn};
 
 use crate::node::{ModelNodes, member_at, member_place};
 use crate::value::{members_at, value_at};
-use serde_json::Value;
+use smithy_json::JsonValue;
 use smithy_model::{JobError, items_of};
 use smithy_schema::SchemaRef;
 use smithy_serde::WriteList;
 use std::alloc::Global;
 
-fn named_value(items: &[Value]) -> Option<(&str, &Value)>
+fn named_value<'v, 't>(items: &'v [JsonValue<'t>]) -> Option<(&'t str, &'v JsonValue<'t>)>
     ensures { option_map seen result ≡ named_value (map view items.now) }
 {
     let [name, value] = items else {
@@ -26,18 +26,18 @@ fn named_value(items: &[Value]) -> Option<(&str, &Value)>
 }
 
 /// A name and a value, of an array of exactly two items. Takes no memory.
-pub fn pair_of(value: &Value) -> Option<(&str, &Value)>
+pub fn pair_of<'v, 't>(value: &'v JsonValue<'t>) -> Option<(&'t str, &'v JsonValue<'t>)>
     ensures { option_map seen result ≡ pair_in (view value.now) }
 {
     named_value(items_of(value)?)
 }
 
-fn pairs_at<'v>(
+fn pairs_at<'t>(
     alloc: Global,
     model: ModelNodes<'_>,
-    names: &mut Vec<&'v str>,
+    names: &mut Vec<&'t str>,
     schema: SchemaRef<'_>,
-    items: &'v [Value],
+    items: &[JsonValue<'t>],
 ) -> Result<WriteList, JobError>
     requires natural { HasLabel model.table.now model.natural.0 natural_label }
     requires schema { StandsIn model.table.now (schema_of schema) }
@@ -61,12 +61,12 @@ fn pairs_at<'v>(
 /// The writes of an input at a schema. Adds the names in it that are no member's. Takes memory.
 /// What hasn't the form of an input, or has a float in it, is no job.
 #[tactic(auto, unfolding(crate::specs::Inputs::input))]
-pub fn read_input<'v>(
+pub fn read_input<'t>(
     alloc: Global,
     model: ModelNodes<'_>,
-    names: &mut Vec<&'v str>,
+    names: &mut Vec<&'t str>,
     schema: SchemaRef<'_>,
-    value: &'v Value,
+    value: &JsonValue<'t>,
 ) -> Result<WriteList, JobError>
     requires natural { HasLabel model.table.now model.natural.0 natural_label }
     requires schema { StandsIn model.table.now (schema_of schema) }
@@ -75,8 +75,14 @@ pub fn read_input<'v>(
         (input (schema_of schema.entry) (view value.now)) result }
 {
     match value {
-        Value::Object(members) => members_at(alloc, model, names, Some(schema), members),
-        Value::Array(items) => pairs_at(alloc, model, names, schema, items.as_slice()),
+        JsonValue::Object(members) => members_at(
+            alloc,
+            model,
+            names,
+            Some(schema),
+            members.as_slice(),
+        ),
+        JsonValue::Array(items) => pairs_at(alloc, model, names, schema, items.as_slice()),
         _ => Err(JobError::NoJob),
     }
 }

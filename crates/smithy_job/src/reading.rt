@@ -1,6 +1,6 @@
 // A job.
 ghost use Rattle.std.specs.Prelude.{◌≡◌, Some, IfOk, option_map, unwrap_or};
-ghost use Rattle.serde_json.specs.View.{view};
+ghost use Rattle.smithy_json.specs.JsonView.{view};
 ghost use Rattle.smithy_model.specs.Models as models;
 ghost use Rattle.smithy_model.specs.ModelView.{asked_view};
 ghost use Rattle.smithy_model.specs.PlaceView.{texts};
@@ -13,7 +13,7 @@ ghost use Rattle.smithy_job.specs.JobView.{IsJob};
 use crate::input::read_input;
 use crate::node::{ModelNodes, add_nodes};
 use crate::settings::{endpoint_of, omit_of};
-use serde_json::Value;
+use smithy_json::JsonValue;
 use smithy_model::{
     Asked, JobError, Placed, PlacedErrors, errors_of_operation, schema_of_operation, text_of,
 };
@@ -24,19 +24,19 @@ use std::alloc::Global;
 
 /// What is to be sent: the writes of an input, and the place of its schema in a table.
 #[derive(Drop)]
-pub struct Job<'v> {
+pub struct Job<'t> {
     pub table: Schemas,
     pub place: SchemaIndex,
     /// The nodes of the writes where some of their names are no member's: those of `table`, and one for
     /// each such name. Else they are those of `table`.
     pub further: Option<Schemas>,
     pub writes: WriteList,
-    pub endpoint: &'v str,
+    pub endpoint: &'t str,
     pub omit: OmitFlags,
 }
 
 // The model of a job, and the full name of its operation.
-fn operation_of(job: &Value) -> Option<(&Value, &str)>
+fn operation_of<'v, 't>(job: &'v JsonValue<'t>) -> Option<(&'v JsonValue<'t>, &'t str)>
     ensures { option_map operation_seen result ≡ operation_in (view job.now) }
 {
     Some((job.get("model")?, text_of(job, "operation")?))
@@ -44,7 +44,11 @@ fn operation_of(job: &Value) -> Option<(&Value, &str)>
 
 /// The schema of what is asked of a job's operation. Takes memory. No job where its model hasn't the form of one.
 #[tactic(auto, unfolding(crate::specs::Jobs::schema))]
-pub fn schema_asked<'v>(alloc: Global, job: &'v Value, asked: Asked<'v>) -> Result<Placed, JobError>
+pub fn schema_asked<'t>(
+    alloc: Global,
+    job: &JsonValue<'t>,
+    asked: Asked<'t>,
+) -> Result<Placed, JobError>
     ensures { Places (schema (asked_view asked.entry) (view job.now)) result }
 {
     match operation_of(job) {
@@ -55,10 +59,10 @@ pub fn schema_asked<'v>(alloc: Global, job: &'v Value, asked: Asked<'v>) -> Resu
 
 /// The errors of a job's operation, and these of its service. Takes memory. No job where its model hasn't the form of one.
 #[tactic(auto, unfolding(crate::specs::Jobs::errors))]
-pub fn errors_asked<'v>(
+pub fn errors_asked<'t>(
     alloc: Global,
-    job: &'v Value,
-    service: &[&'v str],
+    job: &JsonValue<'t>,
+    service: &[&'t str],
 ) -> Result<PlacedErrors, JobError>
     ensures { PlacesErrors (errors (texts service.now) (view job.now)) result }
 {
@@ -72,7 +76,7 @@ pub fn errors_asked<'v>(
 // The model was read before, so want of memory is all that can refuse it.
 fn further_nodes(
     alloc: Global,
-    job: &Value,
+    job: &JsonValue<'_>,
     table: &Schemas,
     names: &[&str],
 ) -> Result<Option<Schemas>, OutOfMemory>
@@ -91,7 +95,7 @@ fn further_nodes(
 }
 
 // What a job asks by a model that was read.
-fn job_by<'v>(alloc: Global, value: &'v Value, model: Placed) -> Result<Job<'v>, JobError>
+fn job_by<'t>(alloc: Global, value: &JsonValue<'t>, model: Placed) -> Result<Job<'t>, JobError>
     requires { IsPlacedAt (schema models.input (view value.now)) model }
     ensures { ReadsAs IsJob (job (view value.now)) result }
 {
@@ -130,11 +134,8 @@ fn job_by<'v>(alloc: Global, value: &'v Value, model: Placed) -> Result<Job<'v>,
 }
 
 /// The job that a JSON value is. Takes memory. What hasn't the form of one is no job.
-pub fn read_job(alloc: Global, value: &Value) -> Result<Job<'_>, JobError>
+pub fn read_job<'t>(alloc: Global, value: &JsonValue<'t>) -> Result<Job<'t>, JobError>
     ensures { ReadsAs IsJob (job (view value.now)) result }
 {
     job_by(alloc, value, schema_asked(alloc, value, Asked::Input)?)
 }
-
-#[cfg(test)]
-mod tests;

@@ -1,6 +1,6 @@
 // The job of a response.
 ghost use Rattle.std.specs.Prelude.{◌≡◌, codes, map, Some, option_map};
-ghost use Rattle.serde_json.specs.View.{view};
+ghost use Rattle.smithy_json.specs.JsonView.{view};
 ghost use Rattle.serde_json.specs.Find.{get};
 ghost use Rattle.smithy_types.specs.Results.{each};
 ghost use Rattle.smithy_model.specs.PlaceView.{texts};
@@ -12,57 +12,57 @@ ghost use Rattle.smithy_job.specs.Tables.{ReadsAs};
 
 use crate::reading::{errors_asked, schema_asked};
 use crate::response::{policy_of, read_response};
-use serde_json::Value;
 use smithy_http::{NonUtf8HeaderHandling, Response};
+use smithy_json::JsonValue;
 use smithy_model::{Asked, JobError, is_full_name, items_of};
 use smithy_schema::{SchemaIndex, Schemas};
 use std::alloc::Global;
 
 /// An error that a response names by its code: one of the operation's, or else of the service's.
 #[derive(Drop)]
-pub struct CodedError<'v> {
-    pub code: &'v str,
+pub struct CodedError<'t> {
+    pub code: &'t str,
     pub operation: Vec<SchemaIndex>,
     pub service: Vec<SchemaIndex>,
 }
 
 /// What a response is read as, by places in a table.
 #[derive(Drop)]
-pub enum Expected<'v> {
+pub enum Expected<'t> {
     /// The output of the operation.
     Output(SchemaIndex),
     /// This error.
     Error(SchemaIndex),
     /// The error of a code.
-    Coded(CodedError<'v>),
+    Coded(CodedError<'t>),
 }
 
 /// What was received: a response, and what it is read as.
 #[derive(Drop)]
-pub struct Received<'v> {
+pub struct Received<'t> {
     pub response: Response,
     pub policy: NonUtf8HeaderHandling,
     pub table: Schemas,
-    pub expected: Expected<'v>,
+    pub expected: Expected<'t>,
 }
 
 // What a response is read as, over its table.
-struct ExpectedIn<'v> {
+struct ExpectedIn<'t> {
     table: Schemas,
-    expected: Expected<'v>,
+    expected: Expected<'t>,
 }
 
-fn full_name(value: &Value) -> Option<&str>
+fn full_name<'t>(value: &JsonValue<'t>) -> Option<&'t str>
     ensures { option_map (λ t. t.now) result ≡ full_name_in (view value.now) }
 {
     let name = value.as_str()?;
     if is_full_name(name) { Some(name) } else { None }
 }
 
-fn names_in<'v>(alloc: Global, items: &'v [Value]) -> Result<Vec<&'v str>, JobError>
+fn names_in<'t>(alloc: Global, items: &[JsonValue<'t>]) -> Result<Vec<&'t str>, JobError>
     ensures { Reads (λ v. texts v.items) (each full_name_in (map view items.now)) result }
 {
-    let mut names = Vec::new(alloc);
+    let mut names = Vec::with_capacity(alloc, items.len())?;
     for item in items {
         let Some(name) = full_name(item) else {
             return Err(JobError::NoJob);
@@ -73,7 +73,7 @@ fn names_in<'v>(alloc: Global, items: &'v [Value]) -> Result<Vec<&'v str>, JobEr
 }
 
 // The full names of the service's errors.
-fn service_errors<'v>(alloc: Global, job: &'v Value) -> Result<Vec<&'v str>, JobError>
+fn service_errors<'t>(alloc: Global, job: &JsonValue<'t>) -> Result<Vec<&'t str>, JobError>
     ensures { Reads (λ v. texts v.items) (names_given (get (codes "serviceErrors") (view job.now))) result }
 {
     let Some(names) = job.get("serviceErrors") else {
@@ -85,7 +85,7 @@ fn service_errors<'v>(alloc: Global, job: &'v Value) -> Result<Vec<&'v str>, Job
     }
 }
 
-fn expected_output<'v>(alloc: Global, job: &'v Value) -> Result<ExpectedIn<'v>, JobError>
+fn expected_output<'t>(alloc: Global, job: &JsonValue<'t>) -> Result<ExpectedIn<'t>, JobError>
     ensures { ReadsAs IsExpectedIn (option_map output (schema models.output (view job.now))) result }
 {
     let placed = schema_asked(alloc, job, Asked::Output)?;
@@ -95,11 +95,11 @@ fn expected_output<'v>(alloc: Global, job: &'v Value) -> Result<ExpectedIn<'v>, 
     })
 }
 
-fn expected_error<'v>(
+fn expected_error<'t>(
     alloc: Global,
-    job: &'v Value,
-    name: &'v str,
-) -> Result<ExpectedIn<'v>, JobError>
+    job: &JsonValue<'t>,
+    name: &'t str,
+) -> Result<ExpectedIn<'t>, JobError>
     ensures { ReadsAs IsExpectedIn (option_map error (schema (models.error name.now) (view job.now))) result }
 {
     let placed = schema_asked(alloc, job, Asked::Error(name))?;
@@ -109,12 +109,12 @@ fn expected_error<'v>(
     })
 }
 
-fn expected_coded<'v>(
+fn expected_coded<'t>(
     alloc: Global,
-    job: &'v Value,
-    code: &'v str,
-    service: &[&'v str],
-) -> Result<ExpectedIn<'v>, JobError>
+    job: &JsonValue<'t>,
+    code: &'t str,
+    service: &[&'t str],
+) -> Result<ExpectedIn<'t>, JobError>
     ensures { ReadsAs IsExpectedIn
         (option_map (coded code.now) (errors (texts service.now) (view job.now))) result }
 {
@@ -130,11 +130,11 @@ fn expected_coded<'v>(
 }
 
 // As the error of the code, where there is one, and else as the output.
-fn expected_by_code<'v>(
+fn expected_by_code<'t>(
     alloc: Global,
-    job: &'v Value,
-    service: &[&'v str],
-) -> Result<ExpectedIn<'v>, JobError>
+    job: &JsonValue<'t>,
+    service: &[&'t str],
+) -> Result<ExpectedIn<'t>, JobError>
     ensures { ReadsAs IsExpectedIn
         (by_code (view job.now) (texts service.now) (get (codes "code") (view job.now))) result }
 {
@@ -148,11 +148,11 @@ fn expected_by_code<'v>(
 }
 
 // As the error of this name, beside which there is neither a code nor an error of the service.
-fn expected_by_name<'v>(
+fn expected_by_name<'t>(
     alloc: Global,
-    job: &'v Value,
-    name: &'v Value,
-) -> Result<ExpectedIn<'v>, JobError>
+    job: &JsonValue<'t>,
+    name: &JsonValue<'t>,
+) -> Result<ExpectedIn<'t>, JobError>
     ensures { ReadsAs IsExpectedIn
         (expected_by (view job.now) (Some (view name.now)) (get (codes "code") (view job.now))
         (get (codes "serviceErrors") (view job.now))) result }
@@ -166,7 +166,7 @@ fn expected_by_name<'v>(
     }
 }
 
-fn expected_of<'v>(alloc: Global, job: &'v Value) -> Result<ExpectedIn<'v>, JobError>
+fn expected_of<'t>(alloc: Global, job: &JsonValue<'t>) -> Result<ExpectedIn<'t>, JobError>
     ensures { ReadsAs IsExpectedIn (expected (view job.now)) result }
 {
     match job.get("error") {
@@ -180,7 +180,7 @@ fn expected_of<'v>(alloc: Global, job: &'v Value) -> Result<ExpectedIn<'v>, JobE
 
 /// The job of a response that a JSON value is. Takes memory. What hasn't the form of one is no job.
 #[tactic(auto, unfolding(crate::specs::Jobs::received))]
-pub fn read_received(alloc: Global, job: &Value) -> Result<Received<'_>, JobError>
+pub fn read_received<'t>(alloc: Global, job: &JsonValue<'t>) -> Result<Received<'t>, JobError>
     ensures { ReadsAs IsReceived (received (view job.now)) result }
 {
     let Some(response) = job.get("response") else {

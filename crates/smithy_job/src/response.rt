@@ -2,7 +2,7 @@
 ghost use Rattle.std.specs.Prelude.{◌≡◌, ◌≤◌, ◌++◌, ◌∷◌, [], codes, map, option_and_then, IfSome};
 ghost use Rattle.base64.specs.Engines.{standard};
 ghost use Rattle.base64.specs.GeneralPurpose.{decoded_of};
-ghost use Rattle.serde_json.specs.View.{view};
+ghost use Rattle.smithy_json.specs.JsonView.{view};
 ghost use Rattle.serde_json.specs.Find.{get};
 ghost use Rattle.smithy_types.specs.Results.{each};
 ghost use Rattle.smithy_model.specs.Reads.{Reads};
@@ -12,8 +12,8 @@ ghost use Rattle.smithy_job.specs.Tables.{ReadsAs};
 use crate::input::pair_of;
 use base64::DecodeAllocError;
 use base64::engine::general_purpose::STANDARD;
-use serde_json::Value;
 use smithy_http::{Headers, NonUtf8HeaderHandling, Response};
+use smithy_json::JsonValue;
 use smithy_model::{JobError, items_of, text_of};
 use smithy_types::{Blob, is_header_value, is_token};
 use std::alloc::Global;
@@ -29,7 +29,7 @@ fn decoded(alloc: Global, text: &str) -> Result<Vec<u8>, JobError>
 }
 
 // The bytes of a text, or of a text in base64.
-fn bytes_of(alloc: Global, value: &Value) -> Result<Vec<u8>, JobError>
+fn bytes_of(alloc: Global, value: &JsonValue<'_>) -> Result<Vec<u8>, JobError>
     ensures { Reads (λ v. v.items) (bytes_in (view value.now)) result }
 {
     if let Some(text) = value.as_str() {
@@ -41,7 +41,7 @@ fn bytes_of(alloc: Global, value: &Value) -> Result<Vec<u8>, JobError>
     }
 }
 
-fn status_of(response: &Value) -> Option<u16>
+fn status_of(response: &JsonValue<'_>) -> Option<u16>
     ensures status { result ≡ option_and_then status_in (get (codes "status") (view response.now)) }
     ensures digits { IfSome result (λ s. (100 ≤ s) × (s ≤ 999)) }
 {
@@ -54,7 +54,7 @@ fn status_of(response: &Value) -> Option<u16>
 }
 
 // Adds a header behind the others.
-fn push_header(alloc: Global, headers: &mut Headers, header: &Value) -> Result<(), JobError>
+fn push_header(alloc: Global, headers: &mut Headers, header: &JsonValue<'_>) -> Result<(), JobError>
     ensures { ReadsAs (λ _ p. headers.new ≡ headers.old ++ p ∷ []) (header_in (view header.now)) result }
 {
     let Some((name, value)) = pair_of(header) else {
@@ -71,7 +71,7 @@ fn push_header(alloc: Global, headers: &mut Headers, header: &Value) -> Result<(
     }
 }
 
-fn headers_in(alloc: Global, items: &[Value]) -> Result<Headers, JobError>
+fn headers_in(alloc: Global, items: &[JsonValue<'_>]) -> Result<Headers, JobError>
     ensures { Reads (λ h. h) (each header_in (map view items.now)) result }
 {
     let mut headers = Headers::new(alloc);
@@ -81,7 +81,7 @@ fn headers_in(alloc: Global, items: &[Value]) -> Result<Headers, JobError>
     Ok(headers)
 }
 
-fn headers_of(alloc: Global, response: &Value) -> Result<Headers, JobError>
+fn headers_of(alloc: Global, response: &JsonValue<'_>) -> Result<Headers, JobError>
     ensures { Reads (λ h. h) (headers_given (get (codes "headers") (view response.now))) result }
 {
     let Some(headers) = response.get("headers") else {
@@ -93,21 +93,21 @@ fn headers_of(alloc: Global, response: &Value) -> Result<Headers, JobError>
     }
 }
 
-fn body_of(alloc: Global, response: &Value) -> Result<Option<Blob>, JobError>
+fn body_of(alloc: Global, response: &JsonValue<'_>) -> Result<Option<Blob>, JobError>
     ensures { Reads (λ b. b) (body_given (get (codes "body") (view response.now))) result }
 {
     let Some(body) = response.get("body") else {
         return Ok(None);
     };
-    if body.is_null() {
-        return Ok(None);
+    match body {
+        JsonValue::Null => Ok(None),
+        _ => Ok(Some(Blob::from_vec(bytes_of(alloc, body)?))),
     }
-    Ok(Some(Blob::from_vec(bytes_of(alloc, body)?)))
 }
 
 /// The response that a JSON value is: its status, headers and body. Takes memory. No job where one hasn't its form.
 #[tactic(auto, unfolding(crate::specs::Responses::response_in))]
-pub fn read_response(alloc: Global, value: &Value) -> Result<Response, JobError>
+pub fn read_response(alloc: Global, value: &JsonValue<'_>) -> Result<Response, JobError>
     ensures { Reads (λ r. r) (response_in (view value.now)) result }
 {
     let Some(status) = status_of(value) else {
@@ -131,7 +131,7 @@ fn policy_named(name: &str) -> Option<NonUtf8HeaderHandling>
 }
 
 /// What a job says of header values that aren't UTF-8. None where it hasn't the form. Takes no memory.
-pub fn policy_of(job: &Value) -> Option<NonUtf8HeaderHandling>
+pub fn policy_of(job: &JsonValue<'_>) -> Option<NonUtf8HeaderHandling>
     ensures { result ≡ policy_given (get (codes "policy") (view job.now)) }
 {
     match job.get("policy") {

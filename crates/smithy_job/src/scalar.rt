@@ -1,6 +1,7 @@
 // Scalars at a node of a kind, or at none.
 ghost use Rattle.std.specs.Prelude.{Some, option_map, IfOk};
-ghost use Rattle.serde_json.specs.View.{view, number_view};
+ghost use Rattle.serde_json.specs.View.{number_view};
+ghost use Rattle.smithy_json.specs.JsonView.{view};
 ghost use Rattle.smithy_json.specs.FromData.{of_data};
 ghost use Rattle.smithy_serde.specs.Values as values;
 ghost use Rattle.smithy_serde.specs.Values.{big_integer, document};
@@ -9,9 +10,9 @@ ghost use Rattle.smithy_job.specs.Tables.{ReadsAs, IsScalar};
 
 use base64::DecodeAllocError;
 use base64::engine::general_purpose::STANDARD;
-use serde_json::{Number, Value};
+use serde_json::Number;
 use smithy_ids::ShapeType;
-use smithy_json::document_of;
+use smithy_json::{JsonValue, document_of};
 use smithy_model::JobError;
 use smithy_serde::ShapeValue;
 use smithy_types::{BigDecimal, BigInteger, Blob, DateTime, OutOfMemory, Text, TypesError};
@@ -130,7 +131,7 @@ pub fn text_value(
 }
 
 /// The document of any value. Takes memory. A float in it is no job.
-pub fn document_value(alloc: Global, value: &Value) -> Result<ShapeValue, JobError>
+pub fn document_value(alloc: Global, value: &JsonValue<'_>) -> Result<ShapeValue, JobError>
     ensures { ReadsAs IsScalar (option_map document (of_data (view value.now))) result }
 {
     Ok(ShapeValue::Document(document_of(alloc, value)?))

@@ -1,5 +1,5 @@
 // The value that a JSON value is at a node.
-ghost use Rattle.serde_json.specs.View.{view, items_view, members_view};
+ghost use Rattle.smithy_json.specs.JsonView.{view, items_view, members_view};
 ghost use Rattle.smithy_job.specs.Values.{natural_label, value_in, elements_in, entries_in, members_in};
 ghost use Rattle.smithy_job.specs.ReadingView.{node_of, KeepsNodes, ReadsValue, ReadsWrites};
 ghost use Rattle.smithy_job.specs.Tables.{HasLabel, MayStandIn};
@@ -9,7 +9,7 @@ use crate::node::{
     place_of, value_of,
 };
 use crate::scalar::{document_value, number_value, text_value};
-use serde_json::{Map, Value};
+use smithy_json::JsonValue;
 use smithy_model::JobError;
 use smithy_schema::SchemaRef;
 use smithy_serde::{ShapeValue, WriteList};
@@ -18,12 +18,12 @@ use std::alloc::Global;
 /// The value that a JSON value is at a node, or at none. Adds the names in it that are no member's.
 /// Takes memory. A float in it is no job.
 #[cycle(value)]
-pub fn value_at<'v>(
+pub fn value_at<'t>(
     alloc: Global,
     model: ModelNodes<'_>,
-    names: &mut Vec<&'v str>,
+    names: &mut Vec<&'t str>,
     here: Option<SchemaRef<'_>>,
-    value: &'v Value,
+    value: &JsonValue<'t>,
 ) -> Result<ShapeValue, JobError>
     requires natural { HasLabel model.table.now model.natural.0 natural_label }
     requires here { MayStandIn model.table.now (node_of here) }
@@ -35,19 +35,20 @@ pub fn value_at<'v>(
         return document_value(alloc, value);
     }
     match value {
-        Value::Null => Ok(ShapeValue::Null),
-        Value::Bool(truth) => Ok(ShapeValue::Boolean(*truth)),
-        Value::Number(number) => number_value(alloc, kind, number),
-        Value::String(text) => Ok(text_value(alloc, kind, text.as_str())?),
-        Value::Array(items) => {
-            let elements = elements_at(alloc, model, names, element_of(here), items)?;
+        JsonValue::Null => Ok(ShapeValue::Null),
+        JsonValue::Bool(truth) => Ok(ShapeValue::Boolean(*truth)),
+        JsonValue::Number(number) => number_value(alloc, kind, number),
+        JsonValue::String(text) => Ok(text_value(alloc, kind, *text)?),
+        JsonValue::Array(items) => {
+            let elements = elements_at(alloc, model, names, element_of(here), items.as_slice())?;
             Ok(ShapeValue::List(elements))
         }
-        Value::Object(members) => {
+        JsonValue::Object(members) => {
             if is_structure(kind) {
-                let members = members_at(alloc, model, names, here, members)?;
+                let members = members_at(alloc, model, names, here, members.as_slice())?;
                 return Ok(ShapeValue::Struct(members));
             }
+            let members = members.as_slice();
             let entries = entries_at(alloc, model, names, key_of(here), value_of(here), members)?;
             Ok(ShapeValue::Map(entries))
         }
@@ -55,18 +56,18 @@ pub fn value_at<'v>(
 }
 
 #[cycle(value)]
-fn elements_at<'v>(
+fn elements_at<'t>(
     alloc: Global,
     model: ModelNodes<'_>,
-    names: &mut Vec<&'v str>,
+    names: &mut Vec<&'t str>,
     element: Option<SchemaRef<'_>>,
-    items: &'v Vec<Value>,
+    items: &[JsonValue<'t>],
 ) -> Result<WriteList, JobError>
     requires natural { HasLabel model.table.now model.natural.0 natural_label }
     requires element { MayStandIn model.table.now (node_of element) }
     ensures kept { KeepsNodes model.entry names.old names.new result }
     ensures writes { ReadsWrites model.entry names.new
-        (elements_in (node_of element.entry) (items_view items.now.items)) result }
+        (elements_in (node_of element.entry) (items_view items.now)) result }
 {
     let mut writes = WriteList::new(alloc);
     let place = place_of(model, element);
@@ -79,28 +80,28 @@ fn elements_at<'v>(
 
 // Keys and values in turn.
 #[cycle(value)]
-fn entries_at<'v>(
+fn entries_at<'t>(
     alloc: Global,
     model: ModelNodes<'_>,
-    names: &mut Vec<&'v str>,
+    names: &mut Vec<&'t str>,
     key: Option<SchemaRef<'_>>,
     value: Option<SchemaRef<'_>>,
-    members: &'v Map<String, Value>,
+    members: &[(&'t str, JsonValue<'t>)],
 ) -> Result<WriteList, JobError>
     requires natural { HasLabel model.table.now model.natural.0 natural_label }
     requires key { MayStandIn model.table.now (node_of key) }
     requires value { MayStandIn model.table.now (node_of value) }
     ensures kept { KeepsNodes model.entry names.old names.new result }
     ensures writes { ReadsWrites model.entry names.new
-        (entries_in (node_of key.entry) (node_of value.entry) (members_view members.now.entries)) result }
+        (entries_in (node_of key.entry) (node_of value.entry) (members_view members.now)) result }
 {
     let mut writes = WriteList::new(alloc);
     let key_place = place_of(model, key);
     let value_place = place_of(model, value);
     let key_kind = kind_of(key);
-    for (name, member) in members.iter() {
-        let found = value_at(alloc, model, names, value, member)?;
-        let text = text_value(alloc, key_kind, name.as_str())?;
+    for member in members {
+        let found = value_at(alloc, model, names, value, &member.1)?;
+        let text = text_value(alloc, key_kind, member.0)?;
         writes.push(key_place, text)?;
         writes.push(value_place, found)?;
     }
@@ -110,25 +111,24 @@ fn entries_at<'v>(
 /// The members of a structure at a node. Adds the names that are no member's. Takes memory. A float in
 /// them is no job.
 #[cycle(value)]
-pub fn members_at<'v>(
+pub fn members_at<'t>(
     alloc: Global,
     model: ModelNodes<'_>,
-    names: &mut Vec<&'v str>,
+    names: &mut Vec<&'t str>,
     here: Option<SchemaRef<'_>>,
-    members: &'v Map<String, Value>,
+    members: &[(&'t str, JsonValue<'t>)],
 ) -> Result<WriteList, JobError>
     requires natural { HasLabel model.table.now model.natural.0 natural_label }
     requires here { MayStandIn model.table.now (node_of here) }
     ensures kept { KeepsNodes model.entry names.old names.new result }
     ensures writes { ReadsWrites model.entry names.new
-        (members_in (node_of here.entry) (members_view members.now.entries)) result }
+        (members_in (node_of here.entry) (members_view members.now)) result }
 {
     let mut writes = WriteList::new(alloc);
-    for (name, member) in members.iter() {
-        let name = name.as_str();
-        let node = member_at(here, name);
-        let place = member_place(model, names, node, name)?;
-        let value = value_at(alloc, model, names, node, member)?;
+    for member in members {
+        let node = member_at(here, member.0);
+        let place = member_place(model, names, node, member.0)?;
+        let value = value_at(alloc, model, names, node, &member.1)?;
         writes.push(place, value)?;
     }
     Ok(writes)

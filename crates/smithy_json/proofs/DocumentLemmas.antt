@@ -1,9 +1,9 @@
 -- Documents, an item or a member at a time.
-use Rattle.std.proofs.Common.{◌≡◌, refl, sym, ap, ◌∙◌, ℕ, ◌+◌, ◌<◌, ◌≤◌, List, ◌∷◌, length, get_or, drop, Option, Some, None, option_map, String, Global, string_bytes}
+use Rattle.std.proofs.Common.{◌≡◌, refl, sym, ap, ◌∙◌, ℕ, ◌+◌, ◌<◌, ◌≤◌, List, ◌∷◌, length, get_or, drop, Option, Some, None, option_map}
 use Rattle.std.proofs.lemmas.List.{drop_more}
 use Rattle.std.proofs.Math.ListN.{drop_of_length-le}
-use Rattle.serde_json.specs.View.{view, items_view, members_view}
-use Rattle.serde_json.specs.declared.value.Value.{Value}
+use Rattle.smithy_json.specs.JsonView.{Member, view, items_view, members_view}
+use Rattle.smithy_json.specs.declared.value.JsonValue.{JsonValue}
 use Rattle.smithy_types.specs.Documents as doc
 use Rattle.smithy_types.specs.Documents.{Document, Items, Members, items_snoc, put, put_all}
 use Rattle.smithy_json.specs.FromData.{of_data, items_of_data, pairs_of_data}
@@ -29,18 +29,18 @@ from_none : (o : Option Items) → option_map (and_items doc.no_items) o ≡ o
 from_none None = refl
 from_none (Some ds) = refl
 
-pub items_start : (vs : List Value) → option_map (and_items doc.no_items) (items_of_data (items_view vs)) ≡ items_of_data (items_view vs)
+pub items_start : (vs : List JsonValue) → option_map (and_items doc.no_items) (items_of_data (items_view vs)) ≡ items_of_data (items_view vs)
 items_start vs = from_none (items_of_data (items_view vs))
 
-pub items_more : (done : Items) (d : Document) (vs : List Value) (i : ℕ) (v : Value) (all : Option Items) → i < length vs → v ≡ get_or vs i v → of_data (view v) ≡ Some d
+pub items_more : (done : Items) (d : Document) (vs : List JsonValue) (i : ℕ) (v : JsonValue) (all : Option Items) → i < length vs → v ≡ get_or vs i v → of_data (view v) ≡ Some d
     → option_map (and_items done) (items_of_data (items_view (drop i vs))) ≡ all → option_map (and_items (items_snoc done d)) (items_of_data (items_view (drop (i + 1) vs))) ≡ all
 items_more done d vs i v all l is e h = sym (and_all done d _) ∙ (rw (drop_more vs i v l, ← is, e) at h)
 
-pub items_none : (done : Items) (vs : List Value) (i : ℕ) (v : Value) (all : Option Items) → i < length vs → v ≡ get_or vs i v → of_data (view v) ≡ None
+pub items_none : (done : Items) (vs : List JsonValue) (i : ℕ) (v : JsonValue) (all : Option Items) → i < length vs → v ≡ get_or vs i v → of_data (view v) ≡ None
     → option_map (and_items done) (items_of_data (items_view (drop i vs))) ≡ all → all ≡ None
 items_none done vs i v all l is e h = sym (rw (drop_more vs i v l, ← is, e) at h)
 
-pub items_end : (done : Items) (vs : List Value) (i : ℕ) (all : Option Items) → length vs ≤ i → option_map (and_items done) (items_of_data (items_view (drop i vs))) ≡ all → all ≡ Some done
+pub items_end : (done : Items) (vs : List JsonValue) (i : ℕ) (all : Option Items) → length vs ≤ i → option_map (and_items done) (items_of_data (items_view (drop i vs))) ≡ all → all ≡ Some done
 items_end done vs i all l h = sym (ap (λ (x : Items). Some x) (sym (and_items-none done)) ∙ (rw (drop_of_length-le vs l) at h))
 
 -- what members put into an object
@@ -51,10 +51,13 @@ put_one : (done : Members) (k : List ℕ) (d : Document) (o : Option (List (List
 put_one done k d None = refl
 put_one done k d (Some ps) = refl
 
-pub fields_more : (done : Members) (k : List ℕ) (d : Document) (e : String Global × Value) (es rest : List (String Global × Value)) (all : Option Members) → es ≡ e ∷ rest → string_bytes e.0 ≡ k → of_data (view e.1) ≡ Some d
-    → put_rest done (pairs_of_data (members_view es)) ≡ all → put_rest (put k d done) (pairs_of_data (members_view rest)) ≡ all
-fields_more done k d e es rest all is name found h = sym (put_one done k d _) ∙ (rw (is, name, found) at h)
+pub fields_more : (done : Members) (d : Document) (ms : List Member) (i : ℕ) (m : Member) (all : Option Members) → i < length ms → m ≡ get_or ms i m → of_data (view m.1) ≡ Some d
+    → put_rest done (pairs_of_data (members_view (drop i ms))) ≡ all → put_rest (put m.0.now d done) (pairs_of_data (members_view (drop (i + 1) ms))) ≡ all
+fields_more done d ms i m all within is found h = sym (put_one done m.0.now d _) ∙ (rw (drop_more ms i m within, ← is, found) at h)
 
-pub fields_none : (done : Members) (e : String Global × Value) (es rest : List (String Global × Value)) (all : Option Members) → es ≡ e ∷ rest → of_data (view e.1) ≡ None
-    → put_rest done (pairs_of_data (members_view es)) ≡ all → all ≡ None
-fields_none done e es rest all is found h = sym (rw (is, found) at h)
+pub fields_none : (done : Members) (ms : List Member) (i : ℕ) (m : Member) (all : Option Members) → i < length ms → m ≡ get_or ms i m → of_data (view m.1) ≡ None
+    → put_rest done (pairs_of_data (members_view (drop i ms))) ≡ all → all ≡ None
+fields_none done ms i m all within is found h = sym (rw (drop_more ms i m within, ← is, found) at h)
+
+pub fields_end : (done : Members) (ms : List Member) (i : ℕ) (all : Option Members) → length ms ≤ i → put_rest done (pairs_of_data (members_view (drop i ms))) ≡ all → all ≡ Some done
+fields_end done ms i all past h = sym (rw (drop_of_length-le ms past) at h)

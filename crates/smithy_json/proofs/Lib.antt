@@ -1,2 +1,5 @@
 pub mod DocumentLemmas
+pub mod GrammarLemmas
+pub mod OrderLemmas
+pub mod ReadingLemmas
 pub mod TextDocuments

@@ -1,3 +1,5 @@
 pub mod FromData
 pub mod FromText
+pub mod JsonView
+pub mod PutMembers
 pub mod Reads

@@ -2,14 +2,15 @@
 ghost use Rattle.std.specs.Prelude.{◌≡◌};
 ghost use Rattle.smithy_json.specs.declared.error.JsonError.TheVariants as json_error;
 
+use json::Invalid;
 use smithy_types::OutOfMemory;
 use std::alloc::AllocFailed;
 
-/// Why there is no document.
+/// Why a text or a value can't be read.
 #[derive(Clone, Copy, Debug, PartialEq, Eq, Drop)]
 pub enum JsonError {
-    /// What is read is no JSON, or has a float in it.
-    NoDocument,
+    /// The text is no JSON in UTF-8, or a document is asked of what has a float in it.
+    Unreadable,
     /// Memory was wanted and not there.
     OutOfMemory,
 }
@@ -27,5 +28,13 @@ impl<T: Drop> From<AllocFailed<T>> for JsonError {
 
     fn from(_: AllocFailed<T>) -> JsonError {
         JsonError::OutOfMemory
+    }
+}
+
+impl From<Invalid> for JsonError {
+    ghost from_gives = { λ _ e. e ≡ json_error.Unreadable };
+
+    fn from(_: Invalid) -> JsonError {
+        JsonError::Unreadable
     }
 }

@@ -1,11 +1,16 @@
-// The document that a JSON value is.
+// Values of JSON, and the documents that they are.
 #![tactic(auto)]
 
+mod documents;
 mod error;
+mod in_order;
+mod numbers;
 mod reading;
+mod value;
 
+pub use documents::{document_of, read_document};
 pub use error::JsonError;
-pub use reading::{document_of, read_document};
-
-#[cfg(test)]
-mod tests;
+pub use in_order::are_ascending;
+pub use json::Scratch;
+pub use reading::read_json;
+pub use value::{JsonValue, value_named};

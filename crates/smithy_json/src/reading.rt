@@ -1,85 +1,154 @@
-// The document of a JSON value, and of a JSON text.
-ghost use Rattle.std.specs.Prelude.{◌≡◌, option_map};
-ghost use Rattle.smithy_types.specs.Documents.{members_of};
-ghost use Rattle.serde_json.specs.View.{view, items_view, members_view, number_view as json_number_view};
-ghost use Rattle.smithy_types.specs.DocumentView.{number_view, view as document_view, items_view as documents_view, members_view as fields_view};
-ghost use Rattle.smithy_json.specs.FromData.{number_of_data, of_data, items_of_data, pairs_of_data};
-ghost use Rattle.smithy_json.specs.FromText.{document_of_text};
+// JSON texts as values.
+ghost use Rattle.std.specs.Prelude.{◌≡◌, ◌<◌, suc, length, Some, None, IfOk, OnOk, IsErrOf, IsTrue};
+ghost use Rattle.json.specs.Json.{value, items, members};
+ghost use Rattle.serde_json.specs.Data.{no_members};
+ghost use Rattle.serde_json.specs.Read.{of_json, of_items, of_members, converted, read};
+ghost use Rattle.smithy_json.specs.FromText.{json_of};
+ghost use Rattle.smithy_json.specs.JsonView.{view, items_view, entries};
+ghost use Rattle.smithy_json.specs.PutMembers.{put_all};
 ghost use Rattle.smithy_json.specs.Reads.{Reads};
 
 use crate::error::JsonError;
-use serde_json::{Map, Number as JsonNumber, Value};
-use smithy_types::{Document, Documents, Members, Number, Text};
+use crate::in_order::in_order;
+use crate::numbers::number_of;
+use crate::value::JsonValue;
+use json::{Reader, Scratch, Token};
 use std::alloc::Global;
+use std::str::from_utf8;
 
-fn number_of(number: &JsonNumber) -> Option<Number>
-    ensures { option_map number_view result ≡ number_of_data (json_number_view number.now) }
+// So deep arrays and objects may nest.
+const MAX_DEPTH: usize = 127;
+
+/// The value that a JSON text is (RFC 8259), over the text and the room for what it writes in escapes. Takes memory.
+///
+/// Unreadable where it is no JSON in UTF-8, nests deeper than 127, or has a number past the largest float. Of members with one
+/// name the last one stays.
+pub fn read_json<'t>(
+    alloc: Global,
+    text: &'t [u8],
+    scratch: &'t mut Scratch,
+) -> Result<JsonValue<'t>, JsonError>
+    ensures { Reads view (json_of text.now) result }
 {
-    match number.as_u64() {
-        Some(value) => Some(Number::PosInt(value)),
-        None => Some(Number::from_i64(number.as_i64()?)),
+    match from_utf8(text) {
+        Ok(text) => whole_value(alloc, text, scratch),
+        Err(_) => Err(JsonError::Unreadable),
     }
 }
 
-/// The document that a JSON value is. Takes memory.
-///
-/// No document where there is a float in it.
-#[cycle(document)]
-pub fn document_of(alloc: Global, value: &Value) -> Result<Document, JsonError>
-    ensures { Reads document_view (of_data (view value.now)) result }
+// The value of a text in UTF-8. It is no part of its caller, so that the scratch, of some 16 KiB, is not moved.
+#[inline(never)]
+fn whole_value<'t>(
+    alloc: Global,
+    text: &'t str,
+    scratch: &'t mut Scratch,
+) -> Result<JsonValue<'t>, JsonError>
+    ensures { Reads view (read text.now) result }
 {
-    match value {
-        Value::Null => Ok(Document::Null),
-        Value::Bool(truth) => Ok(Document::Bool(*truth)),
-        Value::Number(number) => match number_of(number) {
-            Some(number) => Ok(Document::Number(number)),
-            None => Err(JsonError::NoDocument),
+    let mut reader = Reader::new(text, scratch)?;
+    let value = next_value(alloc, &mut reader, MAX_DEPTH)?;
+    if reader.next().is_some() {
+        return Err(JsonError::Unreadable);
+    }
+    Ok(value)
+}
+
+// The value that comes next, whose arrays and objects nest so deep at most.
+#[cycle(value)]
+#[inline(always)]
+fn next_value<'t>(
+    alloc: Global,
+    reader: &mut Reader<'t>,
+    depth: usize,
+) -> Result<JsonValue<'t>, JsonError>
+    ensures value { IfOk result
+        (λ v. converted of_json (value depth reader.old) ≡ Some (view v, reader.new)) }
+    ensures shorter { OnOk result (length reader.new < length reader.old) }
+    ensures refused { IsErrOf result JsonError.Unreadable
+        → converted of_json (value depth reader.old) ≡ None }
+{
+    let Some(token) = reader.next() else {
+        return Err(JsonError::Unreadable);
+    };
+    match token {
+        Token::Null => Ok(JsonValue::Null),
+        Token::Bool(truth) => Ok(JsonValue::Bool(truth)),
+        Token::Number(text) => match number_of(text) {
+            Some(number) => Ok(JsonValue::Number(number)),
+            None => Err(JsonError::Unreadable),
         },
-        Value::String(text) => Ok(Document::String(Text::from_str(alloc, text.as_str())?)),
-        Value::Array(items) => Ok(Document::Array(documents_of(alloc, items)?)),
-        Value::Object(members) => Ok(Document::Object(fields_of(alloc, members)?)),
-    }
-}
-
-#[cycle(document)]
-fn documents_of(alloc: Global, items: &Vec<Value>) -> Result<Documents, JsonError>
-    ensures { Reads documents_view (items_of_data (items_view items.now.items)) result }
-{
-    let mut found = Documents::new(alloc);
-    for item in items {
-        found.push(document_of(alloc, item)?)?;
-    }
-    Ok(found)
-}
-
-#[cycle(document)]
-fn fields_of(alloc: Global, members: &Map<String, Value>) -> Result<Members, JsonError>
-    ensures { Reads fields_view
-        (option_map members_of (pairs_of_data (members_view members.now.entries))) result }
-{
-    let mut found = Members::new(alloc);
-    for (name, member) in members.iter() {
-        let document = document_of(alloc, member)?;
-        let name = Text::from_str(alloc, name.as_str())?;
-        found.insert(name, document)?;
-    }
-    Ok(found)
-}
-
-/// The document of a JSON text (RFC 8259). Takes memory.
-///
-/// No document where it is no JSON text in UTF-8, or has a float in it.
-pub fn read_document(alloc: Global, text: &[u8]) -> Result<Document, JsonError>
-    ensures { Reads document_view (document_of_text text.now) result }
-{
-    match Value::from_slice(alloc, text) {
-        Ok(value) => document_of(alloc, &value),
-        Err(error) => {
-            if error.is_memory() {
-                Err(JsonError::OutOfMemory)
-            } else {
-                Err(JsonError::NoDocument)
-            }
+        Token::String(text) => Ok(JsonValue::String(text)),
+        Token::BeginArray => {
+            let depth = below(depth)?;
+            Ok(JsonValue::Array(next_items(alloc, reader, depth)?))
+        }
+        Token::BeginObject => {
+            let depth = below(depth)?;
+            let members = next_members(alloc, reader, depth)?;
+            Ok(JsonValue::Object(in_order(alloc, members)?))
+        }
+        Token::EndObject | Token::EndArray | Token::Key(_) | Token::Bad => {
+            Err(JsonError::Unreadable)
         }
     }
+}
+
+// How deep the values in an array or an object may nest.
+#[inline(always)]
+fn below(depth: usize) -> Result<usize, JsonError>
+    ensures ok { IfOk result (λ below. depth ≡ suc below) }
+    ensures none { IsErrOf result JsonError.Unreadable → depth ≡ 0 }
+{
+    match depth.checked_sub(1) {
+        Some(below) => Ok(below),
+        None => Err(JsonError::Unreadable),
+    }
+}
+
+// The values up to the end of an array.
+#[cycle(value)]
+#[inline(never)]
+fn next_items<'t>(
+    alloc: Global,
+    reader: &mut Reader<'t>,
+    depth: usize,
+) -> Result<Vec<JsonValue<'t>>, JsonError>
+    ensures items { IfOk result
+        (λ v. converted of_items (items (value depth) (length reader.old) reader.old)
+        ≡ Some (items_view v.items, reader.new)) }
+    ensures shorter { OnOk result (length reader.new < length reader.old) }
+    ensures refused { IsErrOf result JsonError.Unreadable
+        → converted of_items (items (value depth) (length reader.old) reader.old) ≡ None }
+{
+    let mut found = Vec::new(alloc);
+    'items: while !reader.take_end_array() {
+        let item = next_value(alloc, reader, depth)?;
+        found.push(item)?;
+    }
+    Ok(found)
+}
+
+// The members up to the end of an object, as they stand.
+#[cycle(value)]
+#[inline(never)]
+fn next_members<'t>(
+    alloc: Global,
+    reader: &mut Reader<'t>,
+    depth: usize,
+) -> Result<Vec<(&'t str, JsonValue<'t>)>, JsonError>
+    ensures members { IfOk result
+        (λ v. converted (λ ms. of_members ms no_members)
+        (members (value depth) (length reader.old) reader.old)
+        ≡ Some (put_all (entries v.items) no_members, reader.new)) }
+    ensures shorter { OnOk result (length reader.new < length reader.old) }
+    ensures refused { IsErrOf result JsonError.Unreadable
+        → converted (λ ms. of_members ms no_members)
+        (members (value depth) (length reader.old) reader.old) ≡ None }
+{
+    let mut found = Vec::new(alloc);
+    'members: while let Some(name) = reader.next_key()? {
+        let member = next_value(alloc, reader, depth)?;
+        found.push((name, member))?;
+    }
+    Ok(found)
 }

@@ -1,10 +1,11 @@
-pub mod Bytes
 pub mod Each
 pub mod FilledLemmas
 pub mod FurtherLemmas
 pub mod Items
 pub mod Lists
 pub mod NameLemmas
+pub mod NameOrder
+pub mod NoShapes
 pub mod NodeLemmas
 pub mod ReachedLemmas
 pub mod Reading

@@ -1,13 +1,7 @@
--- What bytes are as JSON, and going over arrays and objects.
+-- Going over arrays and objects of JSON.
 use Rattle.std.specs.Prelude.{ℕ, List, [], ◌∷◌, Bool, Option, None, option_map, option_and_then, if◌then◌else◌}
-use Rattle.std.specs.Str.{is_utf8}
 use Rattle.serde_json.specs.Data.{Data, Items, no_items, item, Members, no_members, member}
 use Rattle.serde_json.specs.Find.{get, as_str, as_array, as_object}
-use Rattle.serde_json.specs.Read.{read}
-
--- none where the bytes are no UTF-8 or no JSON text (RFC 8259)
-unfoldable pub json_of : List ℕ → Option Data
-json_of bytes = if is_utf8 bytes then read bytes else None
 
 abbrev pub listed : Items → List Data
 listed no_items = []

@@ -13,7 +13,6 @@ pub mod Prelude
 pub mod Reached
 pub mod ReachedView
 pub mod Reads
-pub mod Seen
 pub mod Shapes
 pub mod SpotView
 pub mod Traits

@@ -1,14 +1,16 @@
 -- What the code's readings of a model stand for.
 use Rattle.std.specs.Prelude.{map, Option, option_and_then}
 use Rattle.std.specs.Borrow.{Bor}
-use Rattle.serde_json.specs.View.{view}
-use Rattle.serde_json.specs.declared.value.Value.{Value}
+use Rattle.serde_json.specs.Data.{Data, object}
+use Rattle.smithy_json.specs.JsonView.{view, members_view}
+use Rattle.smithy_json.specs.declared.value.JsonValue.{JsonValue}
 use Rattle.smithy_schema.specs.Nodes as nodes
 use Rattle.smithy_schema.specs.DescribedTraits.{traits_described}
 use Rattle.smithy_model.specs.Further.{Further, further_traits}
 use Rattle.smithy_model.specs.Shapes as shapes
 use Rattle.smithy_model.specs.Operations as operations
 use Rattle.smithy_model.specs.PlaceView.{texts}
+use Rattle.smithy_model.specs.declared.model_shapes.ModelShapes.{ModelShapes}
 use Rattle.smithy_model.specs.declared.shape.ShapeTraits.{ShapeTraits}
 use Rattle.smithy_model.specs.declared.shape.Member.{Member}
 use Rattle.smithy_model.specs.declared.shape.Shape.{Shape}
@@ -17,8 +19,12 @@ use Rattle.smithy_model.specs.declared.shape.Operation.{Operation}
 use Rattle.smithy_model.specs.declared.shape.Asked.{Asked}
 use Rattle.smithy_model.specs.declared.shape.Asked.TheVariants as asked
 
+-- the object whose members are the shapes
+abbrev pub shapes_view : ModelShapes → Data
+shapes_view s = object (members_view s.members.now)
+
 -- the further traits of an object, where there is one
-abbrev pub further_given : Option (Bor Value) → Option Further
+abbrev pub further_given : Option (Bor JsonValue) → Option Further
 further_given given = option_and_then (λ v. further_traits (view v.now)) given
 
 abbrev pub traits_view : ShapeTraits → nodes.Traits

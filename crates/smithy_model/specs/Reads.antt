@@ -11,7 +11,7 @@ Reads view defined (Ok a) = defined ≡ Some (view a)
 Reads view defined (Err NoJob) = defined ≡ None
 Reads view defined (Err OutOfMemory) = Unit {0}
 
--- where a value has no document, there is no job
+-- what is unreadable is no job
 abbrev pub refusal_of_json : JsonError → JobError
-refusal_of_json json_error.NoDocument = NoJob
+refusal_of_json json_error.Unreadable = NoJob
 refusal_of_json json_error.OutOfMemory = OutOfMemory

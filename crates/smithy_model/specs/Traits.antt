@@ -21,26 +21,6 @@ is_text_trait id =
     || is id (codes "smithy.api#httpPrefixHeaders")
     || is id (codes "smithy.api#httpHeader")
 
--- the traits that hold nothing: any value says that they are there
-abbrev pub is_flag_trait : List ℕ → Bool
-is_flag_trait id =
-    is id (codes "smithy.api#httpQueryParams")
-    || is id (codes "smithy.api#httpLabel")
-    || is id (codes "smithy.api#httpPayload")
-    || is id (codes "smithy.api#httpResponseCode")
-    || is id (codes "smithy.api#streaming")
-    || is id (codes "smithy.api#xmlAttribute")
-    || is id (codes "smithy.api#xmlFlattened")
-    || is id (codes "smithy.api#sensitive")
-    || is id (codes "smithy.api#hostLabel")
-    || is id (codes "smithy.api#eventHeader")
-    || is id (codes "smithy.api#eventPayload")
-
--- the traits that have a field of their own
-abbrev pub is_named_trait : List ℕ → Bool
-is_named_trait id =
-    is_text_trait id || is_flag_trait id || is id (codes "smithy.api#xmlNamespace") || is id (codes "smithy.api#timestampFormat")
-
 abbrev pub is_text : Data → Bool
 is_text d = is_some (as_str d)
 
@@ -98,6 +78,10 @@ fields =
     ∷ (codes "smithy.api#eventHeader", λ d t. record t { event_header = true })
     ∷ (codes "smithy.api#eventPayload", λ d t. record t { event_payload = true })
     ∷ []
+
+-- the trait has a field of its own
+unfoldable pub is_named_trait : List ℕ → Bool
+is_named_trait id = is_some (find (λ field. is field.0 id) fields)
 
 -- the traits with this one, where it has a field of its own
 unfoldable pub with_trait : Traits → List ℕ → Data → Traits

@@ -36,7 +36,7 @@ impl From<JsonError> for JobError {
 
     fn from(error: JsonError) -> JobError {
         match error {
-            JsonError::NoDocument => JobError::NoJob,
+            JsonError::Unreadable => JobError::NoJob,
             JsonError::OutOfMemory => JobError::OutOfMemory,
         }
     }

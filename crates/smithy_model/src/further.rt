@@ -1,44 +1,46 @@
 // Traits without a field of their own, as documents.
 ghost use Rattle.std.specs.Prelude.{◌≡◌, [], map, option_map, IfOk, OnOk};
-ghost use Rattle.serde_json.specs.View.{view};
+ghost use Rattle.smithy_json.specs.JsonView.{view, entries};
 ghost use Rattle.smithy_schema.specs.Nodes.{no_traits};
-ghost use Rattle.smithy_model.specs.Seen.{entry_view};
-ghost use Rattle.smithy_model.specs.Traits.{is_flag_trait, is_named_trait};
+ghost use Rattle.smithy_model.specs.Traits.{is_named_trait};
 ghost use Rattle.smithy_model.specs.Further.{with_further, further_in, further_traits};
 ghost use Rattle.smithy_model.specs.ModelView.{traits_view};
 
+use crate::json_value::members_of;
 use crate::shape::ShapeTraits;
-use crate::traits::is_text_trait;
-use serde_json::{Map, Value};
 use smithy_ids::ShapeId;
-use smithy_json::{JsonError, document_of};
+use smithy_json::{JsonError, JsonValue, document_of};
 use smithy_schema::{DocumentTrait, Schema, Trait, TraitMap};
 use smithy_types::OutOfMemory;
 use std::alloc::Global;
 
-fn is_flag_trait(id: &str) -> bool
-    ensures { result ≡ is_flag_trait id.now }
-{
-    id == "smithy.api#httpQueryParams"
-        || id == "smithy.api#httpLabel"
-        || id == "smithy.api#httpPayload"
-        || id == "smithy.api#httpResponseCode"
-        || id == "smithy.api#streaming"
-        || id == "smithy.api#xmlAttribute"
-        || id == "smithy.api#xmlFlattened"
-        || id == "smithy.api#sensitive"
-        || id == "smithy.api#hostLabel"
-        || id == "smithy.api#eventHeader"
-        || id == "smithy.api#eventPayload"
-}
-
+// Whether a trait has a field of its own.
+#[tactic(auto, unfolding(crate::specs::Traits::is_named_trait))]
 fn is_named_trait(id: &str) -> bool
     ensures { result ≡ is_named_trait id.now }
 {
-    is_text_trait(id)
-        || is_flag_trait(id)
-        || id == "smithy.api#xmlNamespace"
-        || id == "smithy.api#timestampFormat"
+    match id {
+        "smithy.api#httpHeader"
+        | "smithy.api#httpPrefixHeaders"
+        | "smithy.api#httpQuery"
+        | "smithy.api#httpQueryParams"
+        | "smithy.api#httpLabel"
+        | "smithy.api#httpPayload"
+        | "smithy.api#httpResponseCode"
+        | "smithy.api#mediaType"
+        | "smithy.api#timestampFormat"
+        | "smithy.api#streaming"
+        | "smithy.api#jsonName"
+        | "smithy.api#xmlName"
+        | "smithy.api#xmlNamespace"
+        | "smithy.api#xmlAttribute"
+        | "smithy.api#xmlFlattened"
+        | "smithy.api#sensitive"
+        | "smithy.api#hostLabel"
+        | "smithy.api#eventHeader"
+        | "smithy.api#eventPayload" => true,
+        _ => false,
+    }
 }
 
 // Adds a trait that has no field of its own, and no float in it.
@@ -46,7 +48,7 @@ fn insert_further(
     alloc: Global,
     traits: &mut TraitMap,
     name: &str,
-    value: &Value,
+    value: &JsonValue<'_>,
 ) -> Result<(), OutOfMemory>
     ensures { OnOk result (traits.new ≡ with_further traits.old (name.now, view value.now)) }
 {
@@ -58,26 +60,26 @@ fn insert_further(
     };
     match document_of(alloc, value) {
         Ok(document) => traits.insert(Trait::Document(DocumentTrait::new(alloc, id, document)?)),
-        Err(JsonError::NoDocument) => Ok(()),
+        Err(JsonError::Unreadable) => Ok(()),
         Err(JsonError::OutOfMemory) => Err(OutOfMemory),
     }
 }
 
-fn further_in(alloc: Global, traits: &Map<String, Value>) -> Result<TraitMap, OutOfMemory>
-    ensures { IfOk result (λ m. m ≡ further_in [] (map entry_view traits.now.entries)) }
+fn further_in(alloc: Global, traits: &[(&str, JsonValue<'_>)]) -> Result<TraitMap, OutOfMemory>
+    ensures { IfOk result (λ m. m ≡ further_in [] (entries traits.now)) }
 {
     let mut found = TraitMap::new(alloc);
-    for (name, value) in traits.iter() {
-        insert_further(alloc, &mut found, name.as_str(), value)?;
+    for given in traits {
+        insert_further(alloc, &mut found, given.0, &given.1)?;
     }
     Ok(found)
 }
 
 // The traits of an object that have no field of their own, if it has such.
-fn further_traits(alloc: Global, traits: &Value) -> Result<Option<TraitMap>, OutOfMemory>
+fn further_traits(alloc: Global, traits: &JsonValue<'_>) -> Result<Option<TraitMap>, OutOfMemory>
     ensures { IfOk result (λ o. o ≡ further_traits (view traits.now)) }
 {
-    let Some(object) = traits.as_object() else {
+    let Some(object) = members_of(traits) else {
         return Ok(None);
     };
     let found = further_in(alloc, object)?;
@@ -89,10 +91,10 @@ fn further_traits(alloc: Global, traits: &Value) -> Result<Option<TraitMap>, Out
 }
 
 /// A description with these traits. Condition: it has none. Takes memory for those without a field of their own.
-pub fn with_traits<'a>(
+pub fn with_traits<'t: 'a, 'a>(
     alloc: Global,
     schema: Schema<'a>,
-    traits: ShapeTraits<'a>,
+    traits: ShapeTraits<'_, 't>,
 ) -> Result<Schema<'a>, OutOfMemory>
     requires { schema.traits ≡ no_traits }
     ensures { IfOk result (λ s. s ≡ record schema.entry { traits = traits_view traits.entry }) }

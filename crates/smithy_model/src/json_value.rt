@@ -1,43 +1,28 @@
 // JSON values, read where they stand.
 ghost use Rattle.std.specs.Prelude.{◌≡◌, map, option_map};
-ghost use Rattle.serde_json.specs.View.{view};
-ghost use Rattle.smithy_model.specs.Json.{json_of, items_in, text_at};
-ghost use Rattle.smithy_model.specs.Reads.{Reads};
+ghost use Rattle.smithy_json.specs.JsonView.{view, entries};
+ghost use Rattle.smithy_model.specs.Json.{items_in, members_in, text_at};
 
-use crate::error::JobError;
-use serde_json::Value;
-use std::alloc::Global;
-
-/// The value that the bytes spell (RFC 8259). Takes memory.
-///
-/// No job where they are no JSON text in UTF-8.
-pub fn read_json(alloc: Global, bytes: &[u8]) -> Result<Value, JobError>
-    ensures { Reads view (json_of bytes.now) result }
-{
-    match Value::from_slice(alloc, bytes) {
-        Ok(value) => Ok(value),
-        Err(error) => {
-            if error.is_memory() {
-                Err(JobError::OutOfMemory)
-            } else {
-                Err(JobError::NoJob)
-            }
-        }
-    }
-}
+use smithy_json::JsonValue;
 
 /// The items of an array.
-pub fn items_of(value: &Value) -> Option<&[Value]>
+#[inline(always)]
+pub fn items_of<'v, 't>(value: &'v JsonValue<'t>) -> Option<&'v [JsonValue<'t>]>
     ensures { option_map (λ items. map view items.now) result ≡ items_in (view value.now) }
 {
-    match value.as_array() {
-        Some(items) => Some(items.as_slice()),
-        None => None,
-    }
+    value.as_array()
+}
+
+/// The members of an object, in byte order of their names.
+#[inline(always)]
+pub fn members_of<'v, 't>(value: &'v JsonValue<'t>) -> Option<&'v [(&'t str, JsonValue<'t>)]>
+    ensures { option_map (λ members. entries members.now) result ≡ members_in (view value.now) }
+{
+    value.as_object()
 }
 
 /// The text under a key of an object.
-pub fn text_of<'v>(value: &'v Value, key: &str) -> Option<&'v str>
+pub fn text_of<'t>(value: &JsonValue<'t>, key: &str) -> Option<&'t str>
     ensures { option_map (λ t. t.now) result ≡ text_at key.now (view value.now) }
 {
     value.get(key)?.as_str()

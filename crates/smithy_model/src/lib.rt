@@ -5,6 +5,7 @@ mod error;
 mod further;
 mod json_value;
 mod model;
+mod model_shapes;
 mod name;
 mod nodes;
 mod operation;
@@ -19,11 +20,8 @@ mod table;
 mod traits;
 
 pub use error::JobError;
-pub use json_value::{items_of, read_json, text_of};
+pub use json_value::{items_of, members_of, text_of};
 pub use model::{errors_of_operation, schema_of_operation};
 pub use name::is_full_name;
 pub use shape::Asked;
 pub use table::{Placed, PlacedErrors};
-
-#[cfg(test)]
-mod tests;

@@ -1,21 +1,22 @@
 // From a model and the name of an operation to its schemas.
 ghost use Rattle.std.specs.Prelude.{◌≡◌};
-ghost use Rattle.serde_json.specs.View.{view};
+ghost use Rattle.smithy_json.specs.JsonView.{view};
 ghost use Rattle.smithy_model.specs.Models.{http_asked, schema_in_model, errors_in_model};
 ghost use Rattle.smithy_model.specs.ModelView.{asked_view, operation_view};
 ghost use Rattle.smithy_model.specs.PlaceView.{texts};
 ghost use Rattle.smithy_model.specs.PlacedView.{Places, PlacesErrors};
 
 use crate::error::JobError;
+use crate::model_shapes::ModelShapes;
 use crate::operation::{name_asked, operation_at};
 use crate::reached::{shapes_from, with_http};
 use crate::shape::{Asked, Operation};
 use crate::table::{Placed, PlacedErrors, errors_of, table_of};
-use serde_json::Value;
 use smithy_ids::HttpTrait;
+use smithy_json::JsonValue;
 use std::alloc::Global;
 
-fn http_asked<'v>(operation: Operation<'v>, asked: Asked<'_>) -> Option<HttpTrait<'v>>
+fn http_asked<'t>(operation: Operation<'t>, asked: Asked<'_>) -> Option<HttpTrait<'t>>
     ensures { result ≡ http_asked (asked_view asked.entry) (operation_view operation.entry) }
 {
     match asked {
@@ -32,20 +33,23 @@ fn http_asked<'v>(operation: Operation<'v>, asked: Asked<'_>) -> Option<HttpTrai
 #[tactic(auto, unfolding(crate::specs::Models::schema_in_model))]
 pub fn schema_of_operation(
     alloc: Global,
-    model: &Value,
+    model: &JsonValue<'_>,
     name: &str,
     asked: Asked<'_>,
 ) -> Result<Placed, JobError>
     ensures { Places (schema_in_model (asked_view asked.entry) (view model.now) name.now) result }
 {
-    let Some(shapes) = model.get("shapes") else {
+    let Some(object) = model.get("shapes") else {
         return Err(JobError::NoJob);
     };
-    let operation = operation_at(alloc, shapes, name)?;
+    let Some(shapes) = ModelShapes::of(object) else {
+        return Err(JobError::NoJob);
+    };
+    let operation = operation_at(alloc, &shapes, name)?;
     let Some(root) = name_asked(&operation, asked) else {
         return Err(JobError::NoJob);
     };
-    let reached = shapes_from(alloc, shapes, &[root])?;
+    let reached = shapes_from(alloc, &shapes, &[root])?;
     table_of(
         alloc,
         &with_http(reached, http_asked(operation, asked)),
@@ -57,20 +61,23 @@ pub fn schema_of_operation(
 ///
 /// No job as for `schema_of_operation`; each error's shape is reached.
 #[tactic(auto, unfolding(crate::specs::Models::errors_in_model))]
-pub fn errors_of_operation<'v>(
+pub fn errors_of_operation<'t>(
     alloc: Global,
-    model: &'v Value,
+    model: &JsonValue<'t>,
     name: &str,
-    service: &[&'v str],
+    service: &[&'t str],
 ) -> Result<PlacedErrors, JobError>
     ensures { PlacesErrors (errors_in_model (texts service.now) (view model.now) name.now) result }
 {
-    let Some(shapes) = model.get("shapes") else {
+    let Some(object) = model.get("shapes") else {
         return Err(JobError::NoJob);
     };
-    let Operation { errors, .. } = operation_at(alloc, shapes, name)?;
+    let Some(shapes) = ModelShapes::of(object) else {
+        return Err(JobError::NoJob);
+    };
+    let Operation { errors, .. } = operation_at(alloc, &shapes, name)?;
     let mut names = Vec::from_slice(alloc, errors.as_slice())?;
     names.extend_from_slice(service)?;
-    let reached = shapes_from(alloc, shapes, names.as_slice())?;
+    let reached = shapes_from(alloc, &shapes, names.as_slice())?;
     errors_of(alloc, &reached, errors.as_slice(), service)
 }

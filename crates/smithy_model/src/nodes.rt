@@ -59,7 +59,7 @@ fn holding<'a>(schema: Schema<'a>, kind: ShapeType, first: usize) -> Result<Sche
 // A member's node without its traits, of the shape at a spot.
 fn member_schema<'a>(
     id: ShapeId<'a>,
-    spot: Spot<'_, '_>,
+    spot: Spot<'_, '_, '_>,
     name: &'a str,
     position: usize,
 ) -> Result<Schema<'a>, OutOfMemory>
@@ -84,15 +84,15 @@ fn member_id(alloc: Global, shape: &str, name: &str) -> Result<String, OutOfMemo
 }
 
 /// Gives a place the node of a member of the shape of this name, of the shape at a spot. Takes memory.
-pub fn define_member<'v, 's>(
+pub fn define_member<'v, 't, 's>(
     alloc: Global,
     table: &mut Schemas,
-    spots: &SpotMap<'v, 's>,
+    spots: &SpotMap<'v, 't, 's>,
     place: usize,
     shape: &str,
     position: usize,
-    member: &Member<'v>,
-    spot: Spot<'v, 's>,
+    member: &Member<'v, 't>,
+    spot: Spot<'v, 't, 's>,
 ) -> Result<(), OutOfMemory>
     requires { has_hash shape.now ≡ true }
     ensures { OnOk result (IsFilledBy place
@@ -130,12 +130,12 @@ fn with_flag<'a>(schema: Schema<'a>, are_outside: bool) -> Schema<'a>
 }
 
 // Gives a place the node of a structure or a union.
-fn define_structure<'v, 's>(
+fn define_structure<'v, 't, 's>(
     alloc: Global,
     table: &mut Schemas,
-    spots: &SpotMap<'v, 's>,
+    spots: &SpotMap<'v, 't, 's>,
     place: usize,
-    spot: Spot<'v, 's>,
+    spot: Spot<'v, 't, 's>,
 ) -> Result<(), OutOfMemory>
     requires structure { defined.is_structure spot.shape.now.kind ≡ true }
     requires name { has_hash spot.shape.now.name.now ≡ true }
@@ -157,12 +157,12 @@ fn define_structure<'v, 's>(
 }
 
 /// Gives a place the node of a shape. Takes memory.
-pub fn define_shape<'v, 's>(
+pub fn define_shape<'v, 't, 's>(
     alloc: Global,
     table: &mut Schemas,
-    spots: &SpotMap<'v, 's>,
+    spots: &SpotMap<'v, 't, 's>,
     place: usize,
-    spot: Spot<'v, 's>,
+    spot: Spot<'v, 't, 's>,
 ) -> Result<(), OutOfMemory>
     requires { has_hash spot.shape.now.name.now ≡ true }
     ensures { OnOk result (IsFilledBy place

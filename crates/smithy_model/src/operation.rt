@@ -1,25 +1,26 @@
 // The operations of a model.
 ghost use Rattle.std.specs.Prelude.{◌≡◌, codes, find, map, option_map};
-ghost use Rattle.serde_json.specs.View.{view};
+ghost use Rattle.smithy_json.specs.JsonView.{view};
 ghost use Rattle.serde_json.specs.Find.{get};
 ghost use Rattle.smithy_types.specs.Results.{each};
 ghost use Rattle.smithy_model.specs.Operations.{target_in, target_given, targets_given, http_among, http_given, is_operation, operation_with, operation_in, operation_at};
 ghost use Rattle.smithy_model.specs.Names.{is};
 ghost use Rattle.smithy_model.specs.Models.{name_asked};
 ghost use Rattle.smithy_model.specs.Reads.{Reads};
-ghost use Rattle.smithy_model.specs.ModelView.{asked_view, operation_view};
+ghost use Rattle.smithy_model.specs.ModelView.{asked_view, operation_view, shapes_view};
 ghost use Rattle.smithy_model.specs.PlaceView.{texts};
 
 use crate::error::JobError;
 use crate::json_value::{items_of, text_of};
+use crate::model_shapes::ModelShapes;
 use crate::shape::{Asked, Operation};
 use crate::shapes::{found_at, has_no_mixins};
-use crate::traits::{are_fit_traits, read_http};
-use serde_json::Value;
+use crate::traits::{fit_traits, read_http};
 use smithy_ids::HttpTrait;
+use smithy_json::JsonValue;
 use std::alloc::Global;
 
-fn target_of<'v>(operation: &'v Value, key: &str) -> Option<&'v str>
+fn target_of<'t>(operation: &JsonValue<'t>, key: &str) -> Option<&'t str>
     ensures { option_map (λ t. t.now) result ≡ target_given (get key.now (view operation.now)) }
 {
     match operation.get(key) {
@@ -28,10 +29,10 @@ fn target_of<'v>(operation: &'v Value, key: &str) -> Option<&'v str>
     }
 }
 
-fn targets_in<'v>(alloc: Global, items: &'v [Value]) -> Result<Vec<&'v str>, JobError>
+fn targets_in<'t>(alloc: Global, items: &[JsonValue<'t>]) -> Result<Vec<&'t str>, JobError>
     ensures { Reads (λ v. texts v.items) (each target_in (map view items.now)) result }
 {
-    let mut found = Vec::new(alloc);
+    let mut found = Vec::with_capacity(alloc, items.len())?;
     for item in items {
         let Some(target) = text_of(item, "target") else {
             return Err(JobError::NoJob);
@@ -41,7 +42,7 @@ fn targets_in<'v>(alloc: Global, items: &'v [Value]) -> Result<Vec<&'v str>, Job
     Ok(found)
 }
 
-fn error_names<'v>(alloc: Global, operation: &'v Value) -> Result<Vec<&'v str>, JobError>
+fn error_names<'t>(alloc: Global, operation: &JsonValue<'t>) -> Result<Vec<&'t str>, JobError>
     ensures { Reads (λ v. texts v.items) (targets_given (get (codes "errors") (view operation.now))) result }
 {
     let Some(errors) = operation.get("errors") else {
@@ -53,7 +54,7 @@ fn error_names<'v>(alloc: Global, operation: &'v Value) -> Result<Vec<&'v str>, 
     }
 }
 
-fn http_among<'v>(traits: &'v Value) -> Option<Option<HttpTrait<'v>>>
+fn http_among<'t>(traits: &JsonValue<'t>) -> Option<Option<HttpTrait<'t>>>
     ensures { result ≡ http_among (get (codes "smithy.api#http") (view traits.now)) }
 {
     match traits.get("smithy.api#http") {
@@ -62,20 +63,17 @@ fn http_among<'v>(traits: &'v Value) -> Option<Option<HttpTrait<'v>>>
     }
 }
 
-fn http_of<'v>(operation: &'v Value) -> Option<Option<HttpTrait<'v>>>
+fn http_of<'t>(operation: &JsonValue<'t>) -> Option<Option<HttpTrait<'t>>>
     ensures { result ≡ http_given (get (codes "traits") (view operation.now)) }
 {
     let Some(traits) = operation.get("traits") else {
         return Some(None);
     };
-    if are_fit_traits(traits) {
-        http_among(traits)
-    } else {
-        None
-    }
+    drop(fit_traits(traits)?);
+    http_among(traits)
 }
 
-fn is_operation(shape: &Value) -> bool
+fn is_operation(shape: &JsonValue<'_>) -> bool
     ensures { result ≡ is_operation (view shape.now) }
 {
     let has_type = match text_of(shape, "type") {
@@ -85,11 +83,11 @@ fn is_operation(shape: &Value) -> bool
     has_type && has_no_mixins(shape)
 }
 
-fn operation_with<'v>(
+fn operation_with<'t>(
     alloc: Global,
-    http: Option<HttpTrait<'v>>,
-    shape: &'v Value,
-) -> Result<Operation<'v>, JobError>
+    http: Option<HttpTrait<'t>>,
+    shape: &JsonValue<'t>,
+) -> Result<Operation<'t>, JobError>
     ensures { Reads operation_view (operation_with http.entry (view shape.now)) result }
 {
     let Some(input) = target_of(shape, "input") else {
@@ -107,7 +105,7 @@ fn operation_with<'v>(
     })
 }
 
-fn operation_in<'v>(alloc: Global, shape: &'v Value) -> Result<Operation<'v>, JobError>
+fn operation_in<'t>(alloc: Global, shape: &JsonValue<'t>) -> Result<Operation<'t>, JobError>
     ensures { Reads operation_view (operation_in (view shape.now)) result }
 {
     if !is_operation(shape) {
@@ -123,12 +121,12 @@ fn operation_in<'v>(alloc: Global, shape: &'v Value) -> Result<Operation<'v>, Jo
 ///
 /// No job where there is none, or one that hasn't its form.
 #[tactic(auto, unfolding(crate::specs::Operations::operation_at))]
-pub fn operation_at<'v>(
+pub fn operation_at<'t>(
     alloc: Global,
-    shapes: &'v Value,
+    shapes: &ModelShapes<'_, 't>,
     name: &str,
-) -> Result<Operation<'v>, JobError>
-    ensures { Reads operation_view (operation_at (view shapes.now) name.now) result }
+) -> Result<Operation<'t>, JobError>
+    ensures { Reads operation_view (operation_at (shapes_view shapes.now) name.now) result }
 {
     match found_at(shapes, name) {
         Some(shape) => operation_in(alloc, shape),
@@ -136,7 +134,7 @@ pub fn operation_at<'v>(
     }
 }
 
-fn error_named<'v>(errors: &[&'v str], name: &str) -> Option<&'v str>
+fn error_named<'t>(errors: &[&'t str], name: &str) -> Option<&'t str>
     ensures { option_map (λ t. t.now) result ≡ find (λ e. is e name.now) (texts errors.now) }
 {
     for error in errors {
@@ -148,7 +146,7 @@ fn error_named<'v>(errors: &[&'v str], name: &str) -> Option<&'v str>
 }
 
 /// The full name of the shape of what is asked. None where it is no error of the operation. Takes no memory.
-pub fn name_asked<'v>(operation: &Operation<'v>, asked: Asked<'_>) -> Option<&'v str>
+pub fn name_asked<'t>(operation: &Operation<'t>, asked: Asked<'_>) -> Option<&'t str>
     ensures { option_map (λ t. t.now) result
         ≡ name_asked (asked_view asked.entry) (operation_view operation.now) }
 {

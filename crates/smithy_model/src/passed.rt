@@ -13,7 +13,7 @@ use smithy_ids::{HttpTrait, ShapeType, TimestampFormat, XmlNamespaceTrait};
 use smithy_schema::Traits;
 
 /// The spot of the shape of this name. Takes no memory.
-pub fn spot_named<'v, 's>(spots: &SpotMap<'v, 's>, name: &str) -> Option<Spot<'v, 's>>
+pub fn spot_named<'v, 't, 's>(spots: &SpotMap<'v, 't, 's>, name: &str) -> Option<Spot<'v, 't, 's>>
     ensures { option_map spot_view result ≡ defined.spot_named (spots_of spots.now) name.now }
 {
     let index = *spots.places.get(name)?;
@@ -23,7 +23,8 @@ pub fn spot_named<'v, 's>(spots: &SpotMap<'v, 's>, name: &str) -> Option<Spot<'v
     }
 }
 
-fn copied_http<'v>(http: &Option<HttpTrait<'v>>) -> Option<HttpTrait<'v>>
+#[inline(always)]
+fn copied_http<'t>(http: &Option<HttpTrait<'t>>) -> Option<HttpTrait<'t>>
     ensures { result ≡ http.now }
 {
     match http {
@@ -32,7 +33,8 @@ fn copied_http<'v>(http: &Option<HttpTrait<'v>>) -> Option<HttpTrait<'v>>
     }
 }
 
-fn copied_namespace<'v>(namespace: &Option<XmlNamespaceTrait<'v>>) -> Option<XmlNamespaceTrait<'v>>
+#[inline(always)]
+fn copied_namespace<'t>(namespace: &Option<XmlNamespaceTrait<'t>>) -> Option<XmlNamespaceTrait<'t>>
     ensures { result ≡ namespace.now }
 {
     match namespace {
@@ -42,7 +44,7 @@ fn copied_namespace<'v>(namespace: &Option<XmlNamespaceTrait<'v>>) -> Option<Xml
 }
 
 /// The same traits. Takes no memory.
-pub fn copied<'v>(traits: &ShapeTraits<'v>) -> ShapeTraits<'v>
+pub fn copied<'v, 't>(traits: &ShapeTraits<'v, 't>) -> ShapeTraits<'v, 't>
     ensures { traits_view result ≡ traits_view traits.now }
 {
     let plain = &traits.plain;
@@ -74,6 +76,7 @@ pub fn copied<'v>(traits: &ShapeTraits<'v>) -> ShapeTraits<'v>
     }
 }
 
+#[inline(always)]
 fn first_format(
     first: Option<TimestampFormat>,
     second: Option<TimestampFormat>,
@@ -86,6 +89,7 @@ fn first_format(
     }
 }
 
+#[inline(always)]
 fn first_text<'a>(first: Option<&'a str>, second: Option<&'a str>) -> Option<&'a str>
     ensures { text_of result ≡ option_or (text_of first.entry) (text_of second.entry) }
 {
@@ -98,8 +102,8 @@ fn first_text<'a>(first: Option<&'a str>, second: Option<&'a str>) -> Option<&'a
 // The format of an element of this kind, where it is a timestamp.
 fn element_format(
     kind: ShapeType,
-    element: &ShapeTraits<'_>,
-    target: &ShapeTraits<'_>,
+    element: &ShapeTraits<'_, '_>,
+    target: &ShapeTraits<'_, '_>,
 ) -> Option<TimestampFormat>
     ensures { result ≡ defined.element_format kind (traits_view element.now) (traits_view target.now) }
 {
@@ -112,7 +116,10 @@ fn element_format(
     }
 }
 
-fn first_format_of(spots: &SpotMap<'_, '_>, members: &[Member<'_>]) -> Option<TimestampFormat>
+fn first_format_of(
+    spots: &SpotMap<'_, '_, '_>,
+    members: &[Member<'_, '_>],
+) -> Option<TimestampFormat>
     ensures { result
         ≡ defined.elements_format (spots_of spots.now) ShapeType.List (map member_view members.now) }
 {
@@ -125,9 +132,9 @@ fn first_format_of(spots: &SpotMap<'_, '_>, members: &[Member<'_>]) -> Option<Ti
 
 // The format of the elements of a list, where they are timestamps.
 fn elements_format(
-    spots: &SpotMap<'_, '_>,
+    spots: &SpotMap<'_, '_, '_>,
     kind: ShapeType,
-    members: &[Member<'_>],
+    members: &[Member<'_, '_>],
 ) -> Option<TimestampFormat>
     ensures { result ≡ defined.elements_format (spots_of spots.now) kind (map member_view members.now) }
 {
@@ -138,11 +145,11 @@ fn elements_format(
 }
 
 /// The traits of a member with this target: its own, and those that the target passes on. Takes no memory.
-pub fn passed_traits<'v>(
-    spots: &SpotMap<'v, '_>,
-    own: &ShapeTraits<'v>,
-    target: &Shape<'v>,
-) -> ShapeTraits<'v>
+pub fn passed_traits<'v, 't>(
+    spots: &SpotMap<'v, 't, '_>,
+    own: &ShapeTraits<'v, 't>,
+    target: &Shape<'v, 't>,
+) -> ShapeTraits<'v, 't>
     ensures { traits_view result
         ≡ defined.passed_traits (spots_of spots.now) (traits_view own.now) (shape_view target.now) }
 {

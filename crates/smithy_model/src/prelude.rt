@@ -37,7 +37,7 @@ pub fn prelude_kind(name: &str) -> Option<ShapeType>
 }
 
 /// A shape of the prelude: it has no traits and no members. Takes no memory.
-pub fn prelude_shape<'v>(alloc: Global, name: &'v str, kind: ShapeType) -> Shape<'v>
+pub fn prelude_shape<'v, 't>(alloc: Global, name: &'t str, kind: ShapeType) -> Shape<'v, 't>
     ensures { shape_view result ≡ prelude_shape name.now kind }
 {
     Shape {

@@ -1,35 +1,34 @@
 // The shapes that are reached from some.
 ghost use Rattle.std.specs.Prelude.{◌≡◌, ◌++◌, ◌∷◌, [], false, map, IfOk, OnOk, Some};
-ghost use Rattle.serde_json.specs.View.{view};
 ghost use Rattle.smithy_model.specs.Reached.{is_among, with_name, with_names, with_targets, reached};
 ghost use Rattle.smithy_model.specs.Models.{with_http};
 ghost use Rattle.smithy_model.specs.Reads.{Reads};
-ghost use Rattle.smithy_model.specs.ModelView.{member_view, shape_view};
+ghost use Rattle.smithy_model.specs.ModelView.{member_view, shape_view, shapes_view};
 ghost use Rattle.smithy_model.specs.PlaceView.{texts, ArePlaces};
 ghost use Rattle.smithy_model.specs.ReachedView.{IsWhole};
 
 use crate::error::JobError;
+use crate::model_shapes::ModelShapes;
 use crate::prelude::PRELUDE_SHAPES;
 use crate::shape::{Member, Shape};
 use crate::shapes::shape_at;
 use crate::spots::place_behind;
-use serde_json::Value;
 use smithy_ids::HttpTrait;
 use std::alloc::{AllocError, Global};
 use std::collections::BTreeMap;
 
 /// Shapes, with the place of each among them by its name.
 #[derive(Drop)]
-pub struct Reached<'v> {
-    pub shapes: Vec<Shape<'v>>,
-    pub places: BTreeMap<&'v str, usize>,
+pub struct Reached<'v, 't> {
+    pub shapes: Vec<Shape<'v, 't>>,
+    pub places: BTreeMap<&'t str, usize>,
 }
 
 // Adds a name that isn't there, with its place.
-fn add<'v>(
-    names: &mut Vec<&'v str>,
-    places: &mut BTreeMap<&'v str, usize>,
-    name: &'v str,
+fn add<'t>(
+    names: &mut Vec<&'t str>,
+    places: &mut BTreeMap<&'t str, usize>,
+    name: &'t str,
 ) -> Result<(), AllocError>
     requires places { ArePlaces places.old (texts names.old.items) }
     requires absent { is_among (texts names.old.items) name.now ≡ false }
@@ -43,10 +42,10 @@ fn add<'v>(
 }
 
 // Adds a name where it isn't there yet, with its place.
-fn meet<'v>(
-    names: &mut Vec<&'v str>,
-    places: &mut BTreeMap<&'v str, usize>,
-    name: &'v str,
+fn meet<'t>(
+    names: &mut Vec<&'t str>,
+    places: &mut BTreeMap<&'t str, usize>,
+    name: &'t str,
 ) -> Result<(), AllocError>
     requires { ArePlaces places.old (texts names.old.items) }
     ensures names { OnOk result (texts names.new.items ≡ with_name (texts names.old.items) name.now) }
@@ -59,10 +58,10 @@ fn meet<'v>(
 }
 
 // Adds the names of the targets of these members.
-fn meet_targets<'v>(
-    names: &mut Vec<&'v str>,
-    places: &mut BTreeMap<&'v str, usize>,
-    members: &[Member<'v>],
+fn meet_targets<'t>(
+    names: &mut Vec<&'t str>,
+    places: &mut BTreeMap<&'t str, usize>,
+    members: &[Member<'_, 't>],
 ) -> Result<(), AllocError>
     requires { ArePlaces places.old (texts names.old.items) }
     ensures names { OnOk result
@@ -76,10 +75,10 @@ fn meet_targets<'v>(
 }
 
 // Adds these names.
-fn meet_names<'v>(
-    names: &mut Vec<&'v str>,
-    places: &mut BTreeMap<&'v str, usize>,
-    more: &[&'v str],
+fn meet_names<'t>(
+    names: &mut Vec<&'t str>,
+    places: &mut BTreeMap<&'t str, usize>,
+    more: &[&'t str],
 ) -> Result<(), AllocError>
     requires { ArePlaces places.old (texts names.old.items) }
     ensures names { OnOk result
@@ -96,24 +95,21 @@ fn meet_names<'v>(
 /// It looks at each shape once. Takes memory.
 ///
 /// No job where a name has no shape, or one that hasn't its form (Smithy, JSON AST).
-pub fn shapes_from<'v>(
+pub fn shapes_from<'v, 't>(
     alloc: Global,
-    shapes: &'v Value,
-    roots: &[&'v str],
-) -> Result<Reached<'v>, JobError>
+    shapes: &ModelShapes<'v, 't>,
+    roots: &[&'t str],
+) -> Result<Reached<'v, 't>, JobError>
     ensures shapes { Reads (λ r. map shape_view r.shapes.items)
-        (reached (view shapes.now) (texts roots.now)) result }
+        (reached (shapes_view shapes.now) (texts roots.now)) result }
     ensures whole { IfOk result IsWhole }
 {
-    let Some(object) = shapes.as_object() else {
-        return Err(JobError::NoJob);
-    };
     let mut found = Vec::new(alloc);
     let mut names = Vec::new(alloc);
     let mut places = BTreeMap::new(alloc);
     meet_names(&mut names, &mut places, roots)?;
     // So many shapes can be met.
-    let mut rest = place_behind(object.len(), PRELUDE_SHAPES)?;
+    let mut rest = place_behind(shapes.members.len(), PRELUDE_SHAPES)?;
     'walk: while let Some(name) = names.as_slice().get(found.as_slice().len()) {
         let shape = shape_at(alloc, shapes, name)?;
         meet_targets(&mut names, &mut places, shape.members.as_slice())?;
@@ -130,7 +126,7 @@ pub fn shapes_from<'v>(
 }
 
 // Gives the first shape this `@http`.
-fn set_http<'v>(shapes: &mut [Shape<'v>], http: HttpTrait<'v>)
+fn set_http<'t>(shapes: &mut [Shape<'_, 't>], http: HttpTrait<'t>)
     ensures { map shape_view shapes.new ≡ with_http (Some http.entry) (map shape_view shapes.old) }
 {
     if let [first, ..] = shapes {
@@ -139,7 +135,7 @@ fn set_http<'v>(shapes: &mut [Shape<'v>], http: HttpTrait<'v>)
 }
 
 /// The same shapes, the first with an operation's `@http` where it has one. Takes no memory.
-pub fn with_http<'v>(reached: Reached<'v>, http: Option<HttpTrait<'v>>) -> Reached<'v>
+pub fn with_http<'v, 't>(reached: Reached<'v, 't>, http: Option<HttpTrait<'t>>) -> Reached<'v, 't>
     requires { IsWhole reached }
     ensures shapes { map shape_view result.shapes.items
         ≡ with_http http.entry (map shape_view reached.entry.shapes.items) }

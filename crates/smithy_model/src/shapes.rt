@@ -1,24 +1,24 @@
 // The shapes of a model.
 ghost use Rattle.std.specs.Prelude.{◌≡◌, true, map, option_map, OnSome};
 ghost use Rattle.smithy_ids.specs.ShapeIds.{has_hash};
-ghost use Rattle.serde_json.specs.View.{view};
+ghost use Rattle.smithy_json.specs.JsonView.{view, entries};
 ghost use Rattle.smithy_types.specs.Results.{each};
 ghost use Rattle.smithy_model.specs.Reads.{Reads};
-ghost use Rattle.smithy_model.specs.Seen.{entry_view};
 ghost use Rattle.smithy_model.specs.Shapes.{member_at, member_in, part_at, members_at, element_in, key_and_value_in, members_by, number_kind, simple_kind, other_kind, kind_named, kind_in, has_no_mixins, shape_with, shape_in, is_of_prelude, found_at, own_shape_at, shape_at};
-ghost use Rattle.smithy_model.specs.ModelView.{member_view, shape_view};
+ghost use Rattle.smithy_model.specs.ModelView.{member_view, shape_view, shapes_view};
 
 use crate::error::JobError;
-use crate::json_value::{items_of, text_of};
+use crate::json_value::{items_of, members_of, text_of};
+use crate::model_shapes::ModelShapes;
 use crate::name::is_full_name;
 use crate::prelude::{prelude_kind, prelude_shape};
 use crate::shape::{Member, Shape};
 use crate::traits::traits_of;
-use serde_json::{Map, Value};
 use smithy_ids::ShapeType;
+use smithy_json::JsonValue;
 use std::alloc::Global;
 
-fn read_member<'v>(name: &'v str, value: &'v Value) -> Option<Member<'v>>
+fn read_member<'v, 't>(name: &'t str, value: &'v JsonValue<'t>) -> Option<Member<'v, 't>>
     ensures { option_map member_view result ≡ member_at name.now (view value.now) }
 {
     let target = text_of(value, "target")?;
@@ -31,22 +31,22 @@ fn read_member<'v>(name: &'v str, value: &'v Value) -> Option<Member<'v>>
 }
 
 // The member under a key of the shape's own.
-fn part_at<'v>(key: &'static str, shape: &'v Value) -> Option<Member<'v>>
+fn part_at<'v, 't>(key: &'static str, shape: &'v JsonValue<'t>) -> Option<Member<'v, 't>>
     ensures { option_map member_view result ≡ part_at key.now (view shape.now) }
 {
     read_member(key, shape.get(key)?)
 }
 
-fn members_in<'v>(
+fn members_in<'v, 't>(
     alloc: Global,
-    members: &'v Map<String, Value>,
-) -> Result<Vec<Member<'v>>, JobError>
+    members: &'v [(&'t str, JsonValue<'t>)],
+) -> Result<Vec<Member<'v, 't>>, JobError>
     ensures { Reads (λ v. map member_view v.items)
-        (each member_in (map entry_view members.now.entries)) result }
+        (each member_in (entries members.now)) result }
 {
     let mut found = Vec::with_capacity(alloc, members.len())?;
-    for (name, value) in members.iter() {
-        let Some(member) = read_member(name.as_str(), value) else {
+    for member in members {
+        let Some(member) = read_member(member.0, &member.1) else {
             return Err(JobError::NoJob);
         };
         found.push(member)?;
@@ -55,20 +55,26 @@ fn members_in<'v>(
 }
 
 // The members of a structure or a union, in byte order of their names.
-fn members_of<'v>(alloc: Global, shape: &'v Value) -> Result<Vec<Member<'v>>, JobError>
+fn members_at<'v, 't>(
+    alloc: Global,
+    shape: &'v JsonValue<'t>,
+) -> Result<Vec<Member<'v, 't>>, JobError>
     ensures { Reads (λ v. map member_view v.items) (members_at (view shape.now)) result }
 {
     let Some(value) = shape.get("members") else {
         return Err(JobError::NoJob);
     };
-    match value.as_object() {
+    match members_of(value) {
         Some(members) => members_in(alloc, members),
         None => Err(JobError::NoJob),
     }
 }
 
 // The element of a list.
-fn element_of<'v>(alloc: Global, shape: &'v Value) -> Result<Vec<Member<'v>>, JobError>
+fn element_of<'v, 't>(
+    alloc: Global,
+    shape: &'v JsonValue<'t>,
+) -> Result<Vec<Member<'v, 't>>, JobError>
     ensures { Reads (λ v. map member_view v.items) (element_in (view shape.now)) result }
 {
     let Some(element) = part_at("member", shape) else {
@@ -78,7 +84,10 @@ fn element_of<'v>(alloc: Global, shape: &'v Value) -> Result<Vec<Member<'v>>, Jo
 }
 
 // The key and the value of a map.
-fn key_and_value_of<'v>(alloc: Global, shape: &'v Value) -> Result<Vec<Member<'v>>, JobError>
+fn key_and_value_of<'v, 't>(
+    alloc: Global,
+    shape: &'v JsonValue<'t>,
+) -> Result<Vec<Member<'v, 't>>, JobError>
     ensures { Reads (λ v. map member_view v.items) (key_and_value_in (view shape.now)) result }
 {
     let Some(key) = part_at("key", shape) else {
@@ -90,16 +99,16 @@ fn key_and_value_of<'v>(alloc: Global, shape: &'v Value) -> Result<Vec<Member<'v
     Ok(vec![in alloc; key, value]?)
 }
 
-fn members_by<'v>(
+fn members_by<'v, 't>(
     alloc: Global,
     kind: ShapeType,
-    shape: &'v Value,
-) -> Result<Vec<Member<'v>>, JobError>
+    shape: &'v JsonValue<'t>,
+) -> Result<Vec<Member<'v, 't>>, JobError>
     ensures { Reads (λ v. map member_view v.items) (members_by kind (view shape.now)) result }
 {
     match kind {
-        ShapeType::Structure => members_of(alloc, shape),
-        ShapeType::Union => members_of(alloc, shape),
+        ShapeType::Structure => members_at(alloc, shape),
+        ShapeType::Union => members_at(alloc, shape),
         ShapeType::List => element_of(alloc, shape),
         ShapeType::Map => key_and_value_of(alloc, shape),
         _ => Ok(Vec::new(alloc)),
@@ -196,14 +205,14 @@ fn kind_named(name: &str) -> Option<ShapeType>
     }
 }
 
-fn kind_of(shape: &Value) -> Option<ShapeType>
+fn kind_of(shape: &JsonValue<'_>) -> Option<ShapeType>
     ensures { result ≡ kind_in (view shape.now) }
 {
     kind_named(text_of(shape, "type")?)
 }
 
 /// Whether a shape has no mixins (Smithy, JSON AST). Takes no memory.
-pub fn has_no_mixins(shape: &Value) -> bool
+pub fn has_no_mixins(shape: &JsonValue<'_>) -> bool
     ensures { result ≡ has_no_mixins (view shape.now) }
 {
     match shape.get("mixins") {
@@ -215,12 +224,12 @@ pub fn has_no_mixins(shape: &Value) -> bool
     }
 }
 
-fn shape_with<'v>(
+fn shape_with<'v, 't>(
     alloc: Global,
-    name: &'v str,
-    shape: &'v Value,
+    name: &'t str,
+    shape: &'v JsonValue<'t>,
     kind: ShapeType,
-) -> Result<Shape<'v>, JobError>
+) -> Result<Shape<'v, 't>, JobError>
     ensures { Reads shape_view (shape_with name.now (view shape.now) kind) result }
 {
     let Some(traits) = traits_of(shape) else {
@@ -235,7 +244,11 @@ fn shape_with<'v>(
     })
 }
 
-fn shape_in<'v>(alloc: Global, name: &'v str, shape: &'v Value) -> Result<Shape<'v>, JobError>
+fn shape_in<'v, 't>(
+    alloc: Global,
+    name: &'t str,
+    shape: &'v JsonValue<'t>,
+) -> Result<Shape<'v, 't>, JobError>
     ensures { Reads shape_view (shape_in name.now (view shape.now)) result }
 {
     if !has_no_mixins(shape) {
@@ -247,6 +260,7 @@ fn shape_in<'v>(alloc: Global, name: &'v str, shape: &'v Value) -> Result<Shape<
     }
 }
 
+#[inline(always)]
 fn is_of_prelude(name: &str) -> bool
     ensures { result ≡ is_of_prelude name.now }
 {
@@ -254,8 +268,9 @@ fn is_of_prelude(name: &str) -> bool
 }
 
 /// What the shapes of a model have at a full name that isn't the prelude's. Takes no memory.
-pub fn found_at<'v>(shapes: &'v Value, name: &str) -> Option<&'v Value>
-    ensures found { option_map (λ v. view v.now) result ≡ found_at (view shapes.now) name.now }
+pub fn found_at<'v, 't>(shapes: &ModelShapes<'v, 't>, name: &str) -> Option<&'v JsonValue<'t>>
+    ensures found { option_map (λ v. view v.now) result
+        ≡ found_at (shapes_view shapes.now) name.now }
     ensures named { OnSome result (has_hash name.now ≡ true) }
 {
     if !is_full_name(name) || is_of_prelude(name) {
@@ -265,8 +280,12 @@ pub fn found_at<'v>(shapes: &'v Value, name: &str) -> Option<&'v Value>
 }
 
 // The shape that a model itself has at this name.
-fn own_shape_at<'v>(alloc: Global, shapes: &'v Value, name: &'v str) -> Result<Shape<'v>, JobError>
-    ensures { Reads shape_view (own_shape_at (view shapes.now) name.now) result }
+fn own_shape_at<'v, 't>(
+    alloc: Global,
+    shapes: &ModelShapes<'v, 't>,
+    name: &'t str,
+) -> Result<Shape<'v, 't>, JobError>
+    ensures { Reads shape_view (own_shape_at (shapes_view shapes.now) name.now) result }
 {
     match found_at(shapes, name) {
         Some(shape) => shape_in(alloc, name, shape),
@@ -278,8 +297,12 @@ fn own_shape_at<'v>(alloc: Global, shapes: &'v Value, name: &'v str) -> Result<S
 ///
 /// No job where there is none, or one that hasn't its form.
 #[tactic(auto, unfolding(crate::specs::Shapes::shape_at))]
-pub fn shape_at<'v>(alloc: Global, shapes: &'v Value, name: &'v str) -> Result<Shape<'v>, JobError>
-    ensures { Reads shape_view (shape_at (view shapes.now) name.now) result }
+pub fn shape_at<'v, 't>(
+    alloc: Global,
+    shapes: &ModelShapes<'v, 't>,
+    name: &'t str,
+) -> Result<Shape<'v, 't>, JobError>
+    ensures { Reads shape_view (shape_at (shapes_view shapes.now) name.now) result }
 {
     match prelude_kind(name) {
         Some(kind) => Ok(prelude_shape(alloc, name, kind)),

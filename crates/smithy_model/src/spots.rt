@@ -12,23 +12,24 @@ use std::collections::BTreeMap;
 
 /// Where a shape stands: the place of its node, and that of its first member's.
 #[derive(Clone, Copy)]
-pub struct Spot<'v, 's> {
+pub struct Spot<'v, 't, 's> {
     pub place: usize,
     pub first: usize,
-    pub shape: &'s Shape<'v>,
+    pub shape: &'s Shape<'v, 't>,
 }
 
 /// Spots by the names of their shapes.
 #[derive(Drop)]
-pub struct SpotMap<'v, 's> {
+pub struct SpotMap<'v, 't, 's> {
     /// The place of the first shape's node: behind those of all members.
     pub first: usize,
-    pub spots: Vec<Spot<'v, 's>>,
-    pub places: &'s BTreeMap<&'v str, usize>,
+    pub spots: Vec<Spot<'v, 't, 's>>,
+    pub places: &'s BTreeMap<&'t str, usize>,
     ghost located: { ArePlaces places.now (names_at (map spot_view spots.items)) },
 }
 
 /// The place so many places behind another one. Want of memory where there is no such number: no table is so long.
+#[inline(always)]
 pub fn place_behind(place: usize, count: usize) -> Result<usize, OutOfMemory>
     ensures { IfOk result (λ p. p ≡ place + count) }
 {
@@ -39,7 +40,7 @@ pub fn place_behind(place: usize, count: usize) -> Result<usize, OutOfMemory>
 }
 
 /// How many members the shapes have.
-pub fn member_count(shapes: &[Shape<'_>]) -> Result<usize, OutOfMemory>
+pub fn member_count(shapes: &[Shape<'_, '_>]) -> Result<usize, OutOfMemory>
     ensures { IfOk result (λ n. n ≡ defined.member_count (map shape_view shapes.now)) }
 {
     let mut count: usize = 0;
@@ -50,11 +51,11 @@ pub fn member_count(shapes: &[Shape<'_>]) -> Result<usize, OutOfMemory>
 }
 
 /// The spots of shapes whose nodes stand from this place on, behind those of their members. Takes memory.
-pub fn spots_from<'v, 's>(
+pub fn spots_from<'v, 't, 's>(
     alloc: Global,
-    shapes: &'s [Shape<'v>],
+    shapes: &'s [Shape<'v, 't>],
     place: usize,
-) -> Result<Vec<Spot<'v, 's>>, OutOfMemory>
+) -> Result<Vec<Spot<'v, 't, 's>>, OutOfMemory>
     ensures { IfOk result (λ v.
         map spot_view v.items ≡ defined.spots_from 0 place (map shape_view shapes.now)) }
 {

@@ -10,13 +10,14 @@ use crate::spots::SpotMap;
 use smithy_ids::{PayloadHint, ShapeType};
 
 /// Whether a kind is that of structures or unions.
+#[inline(always)]
 pub fn is_structure(kind: ShapeType) -> bool
     ensures { result ≡ defined.is_structure kind }
 {
     matches!(kind, ShapeType::Structure | ShapeType::Union)
 }
 
-fn is_outside(traits: &ShapeTraits<'_>) -> bool
+fn is_outside(traits: &ShapeTraits<'_, '_>) -> bool
     ensures { result ≡ defined.is_outside (traits_view traits.now) }
 {
     let traits = &traits.plain;
@@ -29,7 +30,7 @@ fn is_outside(traits: &ShapeTraits<'_>) -> bool
 }
 
 /// Whether each member stands outside the body of a request.
-pub fn are_outside(members: &[Member<'_>]) -> bool
+pub fn are_outside(members: &[Member<'_, '_>]) -> bool
     ensures { result ≡ defined.are_outside (map member_view members.now) }
 {
     for member in members {
@@ -41,7 +42,7 @@ pub fn are_outside(members: &[Member<'_>]) -> bool
 }
 
 // Whether a shape of this name is a structure or a union.
-fn is_of_structure(spots: &SpotMap<'_, '_>, name: &str) -> bool
+fn is_of_structure(spots: &SpotMap<'_, '_, '_>, name: &str) -> bool
     ensures { result ≡ defined.is_of_structure (defined.spot_named (spots_of spots.now) name.now) }
 {
     match spot_named(spots, name) {
@@ -50,14 +51,14 @@ fn is_of_structure(spots: &SpotMap<'_, '_>, name: &str) -> bool
     }
 }
 
-fn is_structure_payload(spots: &SpotMap<'_, '_>, member: &Member<'_>) -> bool
+fn is_structure_payload(spots: &SpotMap<'_, '_, '_>, member: &Member<'_, '_>) -> bool
     ensures { result ≡ defined.is_structure_payload (spots_of spots.now) (member_view member.now) }
 {
     member.traits.plain.http_payload && is_of_structure(spots, member.target)
 }
 
 /// Whether a structure or a union is a payload among the members.
-pub fn hint_of(spots: &SpotMap<'_, '_>, members: &[Member<'_>]) -> PayloadHint
+pub fn hint_of(spots: &SpotMap<'_, '_, '_>, members: &[Member<'_, '_>]) -> PayloadHint
     ensures { result ≡ defined.hint_of (spots_of spots.now) (map member_view members.now) }
 {
     for member in members {

@@ -56,13 +56,13 @@ fn declared(alloc: Global, count: usize) -> Result<Schemas, OutOfMemory>
 }
 
 // Gives the members of a shape their nodes, the first one at this place. No job where a target isn't there.
-fn define_members<'v, 's>(
+fn define_members<'v, 't>(
     alloc: Global,
     table: &mut Schemas,
-    spots: &SpotMap<'v, 's>,
+    spots: &SpotMap<'v, 't, '_>,
     first: usize,
     shape: &str,
-    members: &[Member<'v>],
+    members: &[Member<'v, 't>],
 ) -> Result<(), JobError>
     requires { has_hash shape.now ≡ true }
     ensures { Fills first table.old table.new
@@ -79,11 +79,11 @@ fn define_members<'v, 's>(
 }
 
 // Gives the members of all shapes their nodes, from the first place on. No job where a target isn't there.
-fn define_all_members<'v, 's>(
+fn define_all_members<'v, 't, 's>(
     alloc: Global,
     table: &mut Schemas,
-    spots: &SpotMap<'v, 's>,
-    shapes: &'s [Shape<'v>],
+    spots: &SpotMap<'v, 't, 's>,
+    shapes: &'s [Shape<'v, 't>],
 ) -> Result<(), JobError>
     requires { list_all (λ s. has_hash s.name) (map shape_view shapes.now) ≡ true }
     ensures { Fills 0 table.old table.new
@@ -99,10 +99,10 @@ fn define_all_members<'v, 's>(
 }
 
 // Gives the shapes their nodes, from this place on.
-fn define_shapes<'v, 's>(
+fn define_shapes<'t>(
     alloc: Global,
     table: &mut Schemas,
-    spots: &SpotMap<'v, 's>,
+    spots: &SpotMap<'_, 't, '_>,
     first: usize,
 ) -> Result<(), OutOfMemory>
     requires { list_all (λ s. has_hash s.shape.name) (spots_of spots.now) ≡ true }
@@ -117,7 +117,10 @@ fn define_shapes<'v, 's>(
 }
 
 // The spots of these shapes.
-fn spots_in<'v, 's>(alloc: Global, reached: &'s Reached<'v>) -> Result<SpotMap<'v, 's>, OutOfMemory>
+fn spots_in<'v, 't, 's>(
+    alloc: Global,
+    reached: &'s Reached<'v, 't>,
+) -> Result<SpotMap<'v, 't, 's>, OutOfMemory>
     requires { IsWhole reached.now }
     ensures { IfOk result (λ m. AreSpots m (map shape_view reached.now.shapes.items)) }
 {
@@ -132,10 +135,10 @@ fn spots_in<'v, 's>(alloc: Global, reached: &'s Reached<'v>) -> Result<SpotMap<'
 }
 
 // The table of these shapes, with further places that are only declared. No job where a target isn't there.
-fn shapes_table<'v, 's>(
+fn shapes_table<'v, 't, 's>(
     alloc: Global,
-    reached: &'s Reached<'v>,
-    spots: &SpotMap<'v, 's>,
+    reached: &'s Reached<'v, 't>,
+    spots: &SpotMap<'v, 't, 's>,
     further: usize,
 ) -> Result<Schemas, JobError>
     requires whole { IsWhole reached.now }
@@ -155,7 +158,7 @@ fn shapes_table<'v, 's>(
 ///
 /// No job where a target, or the shape itself, isn't among the shapes.
 #[tactic(auto, unfolding(crate::specs::Nodes::schema_of))]
-pub fn table_of<'v>(alloc: Global, reached: &Reached<'v>, name: &str) -> Result<Placed, JobError>
+pub fn table_of(alloc: Global, reached: &Reached<'_, '_>, name: &str) -> Result<Placed, JobError>
     requires { IsWhole reached.now }
     ensures { Places (defined.schema_of (map shape_view reached.now.shapes.items) name.now) result }
 {
@@ -176,13 +179,13 @@ pub fn table_of<'v>(alloc: Global, reached: &Reached<'v>, name: &str) -> Result<
 // The places of the shapes of these names. No job where one isn't there.
 fn places_named(
     alloc: Global,
-    spots: &SpotMap<'_, '_>,
+    spots: &SpotMap<'_, '_, '_>,
     names: &[&str],
 ) -> Result<Vec<SchemaIndex>, JobError>
     ensures { Reads (λ v. places_of v.items)
         (each (defined.place_named (spots_of spots.now)) (texts names.now)) result }
 {
-    let mut places = Vec::new(alloc);
+    let mut places = Vec::with_capacity(alloc, names.len())?;
     for name in names {
         let Some(spot) = spot_named(spots, name) else {
             return Err(JobError::NoJob);
@@ -198,7 +201,7 @@ fn places_named(
 #[tactic(auto, unfolding(crate::specs::Nodes::errors_of))]
 pub fn errors_of(
     alloc: Global,
-    reached: &Reached<'_>,
+    reached: &Reached<'_, '_>,
     operation: &[&str],
     service: &[&str],
 ) -> Result<PlacedErrors, JobError>

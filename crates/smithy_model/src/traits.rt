@@ -1,20 +1,20 @@
 // The traits of shapes and members.
-ghost use Rattle.std.specs.Prelude.{◌≡◌, codes, map, option_map};
+ghost use Rattle.std.specs.Prelude.{◌≡◌, codes, option_map, Some, IfSome};
 ghost use Rattle.std.specs.List.{list_all};
-ghost use Rattle.serde_json.specs.View.{view};
+ghost use Rattle.smithy_json.specs.JsonView.{view, entries, entry_of};
 ghost use Rattle.serde_json.specs.Find.{get};
 ghost use Rattle.smithy_schema.specs.Nodes.{no_traits as without_traits};
 ghost use Rattle.smithy_schema.specs.DescribedTraits.{traits_described};
-ghost use Rattle.smithy_model.specs.Seen.{entry_view};
-ghost use Rattle.smithy_model.specs.Traits.{is_text_trait, is_namespace, time_format, time_format_in, has_form, is_fit_trait, are_fit_traits, namespace_in, with_trait, with_traits, plain_traits, code_at, http_in};
+ghost use Rattle.smithy_model.specs.Json.{provided};
+ghost use Rattle.smithy_model.specs.Traits.{is_text_trait, is_namespace, time_format, time_format_in, has_form, is_fit_trait, namespace_in, with_trait, is_named_trait, with_traits, code_at, http_in};
 ghost use Rattle.smithy_model.specs.GivenTraits.{fit_traits, traits_of};
 ghost use Rattle.smithy_model.specs.ModelView.{traits_view};
 
-use crate::json_value::text_of;
+use crate::json_value::{members_of, text_of};
 use crate::name::is_full_name;
 use crate::shape::ShapeTraits;
-use serde_json::{Map, Value};
 use smithy_ids::{HttpTrait, TimestampFormat, XmlNamespaceTrait};
+use smithy_json::JsonValue;
 use smithy_schema::Traits;
 
 pub fn is_text_trait(id: &str) -> bool
@@ -28,7 +28,7 @@ pub fn is_text_trait(id: &str) -> bool
         || id == "smithy.api#httpHeader"
 }
 
-fn is_namespace(value: &Value) -> bool
+fn is_namespace(value: &JsonValue<'_>) -> bool
     ensures { result ≡ is_namespace (view value.now) }
 {
     let has_prefix = match value.get("prefix") {
@@ -53,13 +53,14 @@ fn time_format(text: &str) -> Option<TimestampFormat>
     None
 }
 
-fn time_format_of(value: &Value) -> Option<TimestampFormat>
+#[inline(always)]
+fn time_format_of(value: &JsonValue<'_>) -> Option<TimestampFormat>
     ensures { result ≡ time_format_in (view value.now) }
 {
     time_format(value.as_str()?)
 }
 
-fn has_form(id: &str, value: &Value) -> bool
+fn has_form(id: &str, value: &JsonValue<'_>) -> bool
     ensures { result ≡ has_form id.now (view value.now) }
 {
     if is_text_trait(id) {
@@ -74,29 +75,17 @@ fn has_form(id: &str, value: &Value) -> bool
     true
 }
 
-fn are_fit(traits: &Map<String, Value>) -> bool
-    ensures { result ≡ list_all is_fit_trait (map entry_view traits.now.entries) }
+// Whether an entry of traits has a full name, and a value of its trait's form.
+#[inline(always)]
+fn is_fit(given: &(&str, JsonValue<'_>)) -> bool
+    ensures { result ≡ is_fit_trait (entry_of given.now) }
 {
-    for (id, given) in traits.iter() {
-        if !is_full_name(id.as_str()) || !has_form(id.as_str(), given) {
-            return false;
-        }
-    }
-    true
-}
-
-/// Whether a value is an object of full names, each with a value of its trait's form. Takes no memory.
-pub fn are_fit_traits(value: &Value) -> bool
-    ensures { result ≡ are_fit_traits (view value.now) }
-{
-    match value.as_object() {
-        Some(traits) => are_fit(traits),
-        None => false,
-    }
+    is_full_name(given.0) && has_form(given.0, &given.1)
 }
 
 /// No traits.
-pub fn no_traits<'v>() -> ShapeTraits<'v>
+#[inline(always)]
+pub fn no_traits<'v, 't>() -> ShapeTraits<'v, 't>
     ensures { traits_view result ≡ without_traits }
 {
     ShapeTraits {
@@ -105,18 +94,19 @@ pub fn no_traits<'v>() -> ShapeTraits<'v>
     }
 }
 
-fn namespace_of<'v>(value: &'v Value) -> Option<XmlNamespaceTrait<'v>>
+fn namespace_of<'t>(value: &JsonValue<'t>) -> Option<XmlNamespaceTrait<'t>>
     ensures { result ≡ namespace_in (view value.now) }
 {
     let uri = text_of(value, "uri")?;
     Some(XmlNamespaceTrait::new(uri, text_of(value, "prefix")))
 }
 
-// Adds a trait where it has a field of its own.
-#[tactic(auto, unfolding(crate::specs::Traits::with_trait))]
-fn add_trait<'v>(traits: &mut Traits<'v>, id: &str, value: &'v Value)
-    ensures { traits_described traits.new
+// Adds a trait where it has a field of its own, and tells whether it has one.
+#[tactic(auto, unfolding(crate::specs::Traits::with_trait, crate::specs::Traits::is_named_trait))]
+fn add_trait<'t>(traits: &mut Traits<'t>, id: &str, value: &JsonValue<'t>) -> bool
+    ensures added { traits_described traits.new
         ≡ with_trait (traits_described traits.old) id.now (view value.now) }
+    ensures named { result ≡ is_named_trait id.now }
 {
     match id {
         "smithy.api#httpHeader" => traits.http_header = value.as_str(),
@@ -138,47 +128,42 @@ fn add_trait<'v>(traits: &mut Traits<'v>, id: &str, value: &'v Value)
         "smithy.api#hostLabel" => traits.host_label = true,
         "smithy.api#eventHeader" => traits.event_header = true,
         "smithy.api#eventPayload" => traits.event_payload = true,
-        _ => return,
+        _ => return false,
     }
+    true
 }
 
-// The traits with a field of their own among an object's members.
-fn traits_in<'v>(object: &'v Map<String, Value>) -> Traits<'v>
-    ensures { traits_described result ≡ with_traits without_traits (map entry_view object.now.entries) }
+// The traits with a field of their own among an object's members, and whether all have one. None where one isn't fit.
+fn plain_traits<'t>(members: &[(&'t str, JsonValue<'t>)]) -> Option<(Traits<'t>, bool)>
+    ensures plain { option_map (λ p. traits_described p.0) result
+        ≡ provided (list_all is_fit_trait (entries members.now))
+        (Some (with_traits without_traits (entries members.now))) }
+    ensures named { IfSome result (λ p. p.1 ≡ list_all (λ e. is_named_trait e.0) (entries members.now)) }
 {
     let mut traits = Traits::NONE;
-    for (id, given) in object.iter() {
-        add_trait(&mut traits, id.as_str(), given);
+    let mut are_named = true;
+    for member in members {
+        if !is_fit(member) {
+            return None;
+        }
+        are_named = add_trait(&mut traits, member.0, &member.1) && are_named;
     }
-    traits
+    Some((traits, are_named))
 }
 
-// The traits that have a field of their own.
-fn plain_traits<'v>(traits: &'v Value) -> Traits<'v>
-    ensures { traits_described result ≡ plain_traits (view traits.now) }
-{
-    match traits.as_object() {
-        Some(object) => traits_in(object),
-        None => Traits::NONE,
-    }
-}
-
-fn fit_traits<'v>(traits: &'v Value) -> Option<ShapeTraits<'v>>
+/// The traits in an object of full names, each with a value of its trait's form. None where it is no such object.
+/// Takes no memory.
+pub fn fit_traits<'v, 't>(traits: &'v JsonValue<'t>) -> Option<ShapeTraits<'v, 't>>
     ensures { option_map traits_view result ≡ fit_traits (view traits.now) }
 {
-    if are_fit_traits(traits) {
-        Some(ShapeTraits {
-            plain: plain_traits(traits),
-            given: Some(traits),
-        })
-    } else {
-        None
-    }
+    let (plain, are_named) = plain_traits(members_of(traits)?)?;
+    let given = if are_named { None } else { Some(traits) };
+    Some(ShapeTraits { plain, given })
 }
 
 /// The traits of a shape or a member (Smithy, JSON AST, applying traits). None where one has no full name, or not its form.
 /// Takes no memory.
-pub fn traits_of<'v>(shape: &'v Value) -> Option<ShapeTraits<'v>>
+pub fn traits_of<'v, 't>(shape: &'v JsonValue<'t>) -> Option<ShapeTraits<'v, 't>>
     ensures { option_map traits_view result ≡ traits_of (view shape.now) }
 {
     match shape.get("traits") {
@@ -187,7 +172,7 @@ pub fn traits_of<'v>(shape: &'v Value) -> Option<ShapeTraits<'v>>
     }
 }
 
-fn code_of(value: &Value) -> Option<u16>
+fn code_of(value: &JsonValue<'_>) -> Option<u16>
     ensures { result ≡ code_at (get (codes "code") (view value.now)) }
 {
     match value.get("code") {
@@ -197,7 +182,7 @@ fn code_of(value: &Value) -> Option<u16>
 }
 
 /// Method, URI and code of `@http` (Smithy, HTTP bindings, http trait), 200 where no code is given. Takes no memory.
-pub fn read_http<'v>(value: &'v Value) -> Option<HttpTrait<'v>>
+pub fn read_http<'t>(value: &JsonValue<'t>) -> Option<HttpTrait<'t>>
     ensures { result ≡ http_in (view value.now) }
 {
     let method = text_of(value, "method")?;

@@ -19,6 +19,3 @@ pub use error_code::{parse_query_compatible_header, sanitize_error_code};
 pub use error_reading::reify_error;
 pub use iter::Iter;
 pub use type_registry::TypeRegistry;
-
-#[cfg(test)]
-mod tests;

@@ -2,7 +2,7 @@
 use Rattle.std.proofs.Common.{◌≡◌, refl, sym, ap, ◌∙◌, ℕ, suc, ◌+◌, ◌<◌, nat_lt, arith, Bool, true, false, not, cond, List, [], ◌∷◌, ◌++◌, length, take, string_bytes, String, option_map, Option, Some, None}
 use Rattle.std.specs.Global.{Global}
 use Rattle.std.specs.List.{position, position_or_len, slice_get}
-use Rattle.std.specs.Option.{option_map_or, option_or, is_some}
+use Rattle.std.specs.Option.{option_map_or, option_or, unwrap_or}
 use Rattle.std.specs.Str.{bytes_eq}
 use Rattle.std.specs.String.{string_cmp}
 use Rattle.std.specs.BTreeMap.{BTreeMap, Updates, get_by_text}
@@ -94,34 +94,19 @@ or_none : (o : Option ℕ) → o ≡ option_or o None
 or_none None = refl
 or_none (Some k) = refl
 
-or_some : (o p : Option ℕ) → is_some o ≡ true → o ≡ option_or o p
-or_some None p e = absurd (cc e)
-or_some (Some k) p e = refl
+or_some : (o : Option ℕ) (position : ℕ) → Some (unwrap_or o position) ≡ option_or o (Some position)
+or_some None position = refl
+or_some (Some k) position = refl
 
-none-from_is_some : (o : Option ℕ) → is_some o ≡ false → o ≡ None
-none-from_is_some None e = refl
-none-from_is_some (Some k) e = absurd (cc e)
-
--- a name that stands keeps its position
-pub stays_first : (m : BTreeMap (String Global) ℕ) (own : List ℕ) (position : ℕ) → is_some (get_by_text m own) ≡ true → HasOneMore m (Some own) position m
-stays_first m own position some name = go (same_text name own) refl
+-- a name that stands keeps its position, a new one has this
+pub put_once : (m n : BTreeMap (String Global) ℕ) (key : String Global) (own : List ℕ) (position put : ℕ) → string_bytes key ≡ own → put ≡ unwrap_or (get_by_text m own) position → Updates string_cmp m n key (Some put) → HasOneMore m (Some own) position n
+put_once m n key own position put is first updates name =
+    btree_map_updates_text (string_bytes key) m n (Some put) updates name ∙ ap (λ (t : List ℕ). cond (bytes_eq t name) (Some put) (get_by_text m name)) is ∙ go (bytes_eq own name) refl (same_text name own) refl
   where
-    go : (b : Bool) → same_text name own ≡ b → get_by_text m name ≡ option_or (get_by_text m name) (position_if b position)
-    go false e = or_none (get_by_text m name)
-    go true e =
-        let same : name ≡ own = (bytes_eq-Decides name own).0 e in
-        or_some (get_by_text m name) (Some position) (ap (λ (t : List ℕ). is_some (get_by_text m t)) same ∙ some)
-
--- a new name has the position that was put
-pub put_first : (m n : BTreeMap (String Global) ℕ) (key : String Global) (own : List ℕ) (position : ℕ) → string_bytes key ≡ own → is_some (get_by_text m own) ≡ false → Updates string_cmp m n key (Some position) → HasOneMore m (Some own) position n
-put_first m n key own position is none updates name =
-    btree_map_updates_text (string_bytes key) m n (Some position) updates name ∙ ap (λ (t : List ℕ). cond (bytes_eq t name) (Some position) (get_by_text m name)) is ∙ go (bytes_eq own name) refl (same_text name own) refl
-  where
-    go : (b : Bool) → bytes_eq own name ≡ b → (t : Bool) → same_text name own ≡ t → cond b (Some position) (get_by_text m name) ≡ option_or (get_by_text m name) (position_if t position)
+    go : (b : Bool) → bytes_eq own name ≡ b → (t : Bool) → same_text name own ≡ t → cond b (Some put) (get_by_text m name) ≡ option_or (get_by_text m name) (position_if t position)
     go true e true f =
         let same : own ≡ name = (bytes_eq-Decides own name).0 e in
-        let new : get_by_text m name ≡ None = ap (λ (t : List ℕ). get_by_text m t) (sym same) ∙ none-from_is_some (get_by_text m own) none in
-        ap (λ (o : Option ℕ). option_or o (Some position)) (sym new)
+        ap (λ (k : ℕ). Some k) first ∙ ap (λ (t : List ℕ). Some (unwrap_or (get_by_text m t) position)) same ∙ or_some (get_by_text m name) position
     go false e false f = or_none (get_by_text m name)
     go true e false f =
         let bad : false ≡ true = sym f ∙ (bytes_eq-Decides name own).1 (sym ((bytes_eq-Decides own name).0 e)) in

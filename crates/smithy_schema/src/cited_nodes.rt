@@ -1,6 +1,6 @@
 // The nodes that a node cites, and what kind it is. A getter takes no memory.
 ghost use Rattle.std.specs.Prelude.{◌≡◌, ◌↔◌, IsTrue, option_map};
-ghost use Rattle.smithy_schema.specs.Nodes.{cited, element_of, key_of, value_of, element_or_value_of, holds_node as holds, cites_nodes, has_name, member_at, member_named};
+ghost use Rattle.smithy_schema.specs.Nodes.{cited, element_of, key_of, value_of, element_or_value_of, holds_node, cites_nodes, has_name, member_at, member_named};
 ghost use Rattle.smithy_schema.specs.Places.{place_of};
 ghost use Rattle.smithy_schema.specs.References.{schema_of};
 
@@ -69,7 +69,7 @@ impl<'t> SchemaRef<'t> {
 
     // Whether the place, if there is one, has a node.
     fn holds_node(&self, place: Option<SchemaIndex>) -> bool
-        ensures { result ≡ holds (schema_of self.now) (place_of place) }
+        ensures { result ≡ holds_node (schema_of self.now) (place_of place) }
     {
         match place {
             Some(_) => self.cited_at(place).is_some(),

@@ -31,6 +31,3 @@ pub use schemas::Schemas;
 pub use shape_id_buf::ShapeIdBuf;
 pub use trait_map::TraitMap;
 pub use traits::Traits;
-
-#[cfg(test)]
-mod tests;

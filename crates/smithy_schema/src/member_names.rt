@@ -35,10 +35,8 @@ fn add_name(
 ) -> Result<(), OutOfMemory>
     ensures { OnOk result (HasOneMore positions.old (Some name.now) position positions.new) }
 {
-    if positions.contains_key(name) {
-        return Ok(());
-    }
-    positions.insert(String::from_str(alloc, name)?, position)?;
+    let name = String::from_str(alloc, name)?;
+    positions.entry(name)?.or_insert(position);
     Ok(())
 }
 

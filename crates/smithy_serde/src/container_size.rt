@@ -10,6 +10,3 @@ pub fn capped_container_size(raw: usize) -> usize
 {
     raw.min(MAX_CONTAINER_PREALLOC)
 }
-
-#[cfg(test)]
-mod tests;

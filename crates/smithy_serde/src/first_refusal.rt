@@ -81,6 +81,3 @@ impl FirstRefusal {
         }
     }
 }
-
-#[cfg(test)]
-mod tests;

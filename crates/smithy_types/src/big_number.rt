@@ -150,6 +150,3 @@ impl BigDecimal {
         self.text.as_str()
     }
 }
-
-#[cfg(test)]
-mod tests;

@@ -8,7 +8,7 @@ use std::alloc::{AllocError, Global};
 
 const SECONDS_IN_DAY: u64 = 86_400;
 
-// The lengths of the two texts.
+// The lengths of a date-time and of an http-date, in bytes.
 const DATE_TIME_LEN: usize = 20;
 
 const HTTP_DATE_LEN: usize = 29;

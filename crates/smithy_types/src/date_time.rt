@@ -111,6 +111,3 @@ impl DateTime {
         Some((self.seconds - Self::FIRST) as u64)
     }
 }
-
-#[cfg(test)]
-mod tests;

@@ -236,6 +236,3 @@ impl<'m> Iterator for MemberPairs<'m> {
         Some((key.as_str(), value))
     }
 }
-
-#[cfg(test)]
-mod tests;

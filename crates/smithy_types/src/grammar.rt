@@ -164,6 +164,3 @@ fn first_place(bytes: &[u8], at: u8) -> Option<usize>
 {
     bytes.iter().position(|b| *b == at)
 }
-
-#[cfg(test)]
-mod tests;

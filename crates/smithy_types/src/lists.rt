@@ -148,6 +148,3 @@ impl Words {
         self.words.as_slice()
     }
 }
-
-#[cfg(test)]
-mod tests;

@@ -125,6 +125,3 @@ impl<'m> Iterator for TextPairs<'m> {
         Some((key.as_str(), value))
     }
 }
-
-#[cfg(test)]
-mod tests;

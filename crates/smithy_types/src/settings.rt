@@ -113,6 +113,3 @@ fn custom<T>(alloc: Global, message: &str) -> Result<T, DocumentError>
         message: Text::from_str(alloc, message)?,
     })
 }
-
-#[cfg(test)]
-mod tests;

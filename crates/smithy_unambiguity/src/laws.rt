@@ -19,6 +19,3 @@ pub fn view_settles<C: Codec>(protocol: &HttpBindingProtocol<C>)
     ensures settles { ViewSettles (protocol_of C.text protocol.now) }
     ensures typed { ViewIsTyped (protocol_of C.text protocol.now) }
 {}
-
-#[cfg(test)]
-mod tests;

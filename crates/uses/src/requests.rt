@@ -1,6 +1,6 @@
 // Requests: by REST, by remote procedure calls, of a job in JSON, and with a codec of one's own.
 ghost use Rattle.std.specs.Prelude.{◌≡◌, false, IsErr};
-ghost use Rattle.serde_json.specs.View.{view};
+ghost use Rattle.smithy_json.specs.JsonView.{view};
 ghost use Rattle.smithy_schema.specs.References.{schema_of};
 ghost use Rattle.smithy_serde.specs.StructValues.{members_of};
 ghost use Rattle.smithy_binding.specs.Checked.{checked_input as checked};
@@ -9,11 +9,11 @@ ghost use Rattle.smithy_job.specs.Tables.{ReadsAs};
 ghost use Rattle.uses.specs.Answering.{RestAnswers, RpcAnswers, AnswersJob};
 
 use crate::lenient_json::{LenientJson, lenient_is_lawful};
-use serde_json::Value;
 use smithy_binding::{HttpBindingProtocol, HttpRpcProtocol, checked_input};
 use smithy_document::{JsonCodec, json_is_lawful};
 use smithy_http::Request;
 use smithy_job::{Job, read_job};
+use smithy_json::JsonValue;
 use smithy_model::JobError;
 use smithy_schema::SchemaRef;
 use smithy_serde::{OmitFlags, SerdeError, StructValue};
@@ -81,7 +81,10 @@ pub fn rpc_request(
 
 /// The request of a job in JSON: a model, the name of one of its operations, and an input. The outer refusal says
 /// that it is no job, the inner one that its input can't be sent. Takes memory.
-pub fn job_request(alloc: Global, value: &Value) -> Result<Result<Request, SerdeError>, JobError>
+pub fn job_request(
+    alloc: Global,
+    value: &JsonValue<'_>,
+) -> Result<Result<Request, SerdeError>, JobError>
     ensures { ReadsAs AnswersJob (job (view value.now)) result }
 {
     let Job {

@@ -5,7 +5,7 @@ use crate::*;
 use smithy_binding::HttpBindingProtocol;
 use smithy_http::{Headers, NonUtf8HeaderHandling, Response};
 use smithy_ids::{HttpTrait, ShapeId, ShapeType};
-use smithy_model::read_json;
+use smithy_json::{Scratch, read_json};
 use smithy_response::ResponseProtocol;
 use smithy_schema::{Schema, SchemaError, SchemaIndex, Schemas};
 use smithy_serde::{OmitFlags, ShapeReader, ShapeValue, StructValue, ValueReader};
@@ -30,7 +30,8 @@ const JOB: &str =
 #[test]
 fn a_model_in_json_has_a_request(rt: HostRuntime) -> Result<(), Fail> {
     let alloc = rt.alloc();
-    let job = read_json(alloc, JOB.as_bytes())?;
+    let mut scratch = Scratch::new(alloc);
+    let job = read_json(alloc, JOB.as_bytes(), &mut scratch)?;
     let request = job_request(alloc, &job)??;
     assert_eq!(rt; request.method(), "GET");
     assert_eq!(rt; request.uri(), "/b/x/y%20z?max=3");

@@ -1,5 +1,5 @@
 use Rattle.std.proofs.Common.{option_map, rules, sym}
-use Rattle.serde_json.specs.View.{view}
+use Rattle.smithy_json.specs.JsonView.{view}
 use Rattle.smithy_schema.specs.References.{schema_of}
 use Rattle.smithy_job.specs.Values.{value_in}
 use Rattle.smithy_job.proofs.InputLemmas.{next_pair, no_pair}

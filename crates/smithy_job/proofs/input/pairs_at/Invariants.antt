@@ -1,5 +1,5 @@
 use Rattle.std.proofs.Common.{drop}
-use Rattle.serde_json.specs.View.{items_view}
+use Rattle.smithy_json.specs.JsonView.{items_view}
 use Rattle.smithy_schema.specs.References.{schema_of}
 use Rattle.smithy_job.specs.Inputs.{pairs_in}
 use Rattle.smithy_job.specs.Tables.{Keeps, nodes_with}

@@ -1,5 +1,5 @@
 use Rattle.std.proofs.Common.{◌∙◌, rules, Some, sym, ap, option_and_then}
-use Rattle.serde_json.specs.View.{view}
+use Rattle.smithy_json.specs.JsonView.{view}
 use Rattle.smithy_schema.specs.References.{schema_of}
 use Rattle.smithy_model.specs.Models as models
 use Rattle.smithy_job.specs.Inputs.{input}

@@ -1,8 +1,8 @@
 use Rattle.std.proofs.Common.{◌≡◌, rules, true, false, option_map}
-use Rattle.serde_json.specs.View.{view, items_view, members_view}
+use Rattle.smithy_json.specs.JsonView.{view, items_view, members_view}
 use Rattle.smithy_schema.specs.References.{schema_of}
 use Rattle.smithy_serde.specs.Values.{list, map, structure, null, boolean}
-use Rattle.smithy_job.specs.Values.{kind_of, is_document_kind, is_structure_kind, label_at, value_in, elements_in, entries_in}
+use Rattle.smithy_job.specs.Values.{kind_of, is_document_kind, is_structure_kind, label_at, value_in, elements_in, entries_in, members_in}
 use Rattle.smithy_job.proofs.TableLemmas.{keeps-all, keeps-both, model-label, label-kept}
 use Rattle.smithy_job.proofs.ScalarLemmas.{null_is, boolean_is}
 use Rattle.smithy_job.proofs.ValueLemmas.{so_far-start, so_far-end, value_more, entry_more, group_refused, next_refused, has_scalar, reads_scalar, has_list, has_map, has_structure}
@@ -19,7 +19,7 @@ pub elements_at-returns-in_err-value-clause-writes :
     goal.elements_at-returns-in_err-value-clause-writes
 elements_at-returns-in_err-value-clause-writes t c =
     next_refused _ _ _ _ (value_in (option_map schema_of c.args.element) (view c.item-item.result)) _ c.in_err-value.field-0.0 c.from_residual.result (search rules)
-    (rw (next_element (option_map schema_of c.args.element) c.args.items.now.items c.loop-item.item-index c.item-item.result (rw c.deref-item-items.ensures.value at c.loop-item-test.true) (rw c.deref-item-items.ensures.value at c.item-item.is)) at c.loop-item.invariant.so_far)
+    (rw (next_element (option_map schema_of c.args.element) c.args.items.now c.loop-item.item-index c.item-item.result c.loop-item-test.true c.item-item.is) at c.loop-item.invariant.so_far)
     c.in_err-value.ensures.value
 
 pub elements_at-loop-item-preserved : goal.elements_at-loop-item-preserved
@@ -28,67 +28,67 @@ elements_at-loop-item-preserved t c = record {
   so_far =
       value_more _ _ c.loop-item.writes c.push.new.self c.place_of-place.result _ c.in_ok-value.value (value_in (option_map schema_of c.args.element) (view c.item-item.result)) _ _ c.in_ok-value.ensures.kept
       (model-label c.args.model.table.now c.value_at.new.names.items c.place_of-place.result.0 (label_at (option_map schema_of c.args.element)) c.place_of-place.ensures) c.in_ok-value.ensures.value c.in_ok-push.ensures.ok c.in_ok-push.ensures.ok_defined
-      (rw (next_element (option_map schema_of c.args.element) c.args.items.now.items c.loop-item.item-index c.item-item.result (rw c.deref-item-items.ensures.value at c.loop-item-test.true) (rw c.deref-item-items.ensures.value at c.item-item.is)) at c.loop-item.invariant.so_far);
+      (rw (next_element (option_map schema_of c.args.element) c.args.items.now c.loop-item.item-index c.item-item.result c.loop-item-test.true c.item-item.is) at c.loop-item.invariant.so_far);
 }
 
 pub elements_at-returns-clause-writes : goal.elements_at-returns-clause-writes
-elements_at-returns-clause-writes t c = so_far-end _ _ _ _ (no_element _ _ _ (rw c.deref-item-items.ensures.value at c.loop-item-test.false)) c.loop-item.invariant.so_far
+elements_at-returns-clause-writes t c = so_far-end _ _ _ _ (no_element _ _ _ c.loop-item-test.false) c.loop-item.invariant.so_far
 
-pub entries_at-loop-name-init : goal.entries_at-loop-name-init
-entries_at-loop-name-init t c = record {
+pub entries_at-loop-member-init : goal.entries_at-loop-member-init
+entries_at-loop-member-init t c = record {
   kept = keeps-all _;
-  so_far = rw (c.into_iter-name-iterator.ensures.into_iter_gives, c.iter-name-items.ensures.rest) (so_far-start _ _ _ c.new-writes.ensures.writes c.new-writes.ensures.defined);
+  so_far = so_far-start _ _ _ c.new-writes.ensures.writes c.new-writes.ensures.defined;
 }
 
 pub entries_at-returns-in_err-found-clause-writes :
     goal.entries_at-returns-in_err-found-clause-writes
 entries_at-returns-in_err-found-clause-writes t c =
-    next_refused _ _ _ _ (value_in (option_map schema_of c.args.value) (view c.in-Some.member.now)) _ c.in_err-found.field-0.0 c.from_residual.result (search rules)
-    (rw (next_entry (option_map schema_of c.args.key) (option_map schema_of c.args.value) (c.in-Some.name.now, c.in-Some.member.now) c.loop-name.name-iterator c.next.new.self c.in-Some.ensures.steps) at c.loop-name.invariant.so_far)
+    next_refused _ _ _ _ (value_in (option_map schema_of c.args.value) (view c.member-item.result.1)) _ c.in_err-found.field-0.0 c.from_residual.result (search rules)
+    (rw (next_entry (option_map schema_of c.args.key) (option_map schema_of c.args.value) c.args.members.now c.loop-member.member-index c.member-item.result c.loop-member-test.true c.member-item.is) at c.loop-member.invariant.so_far)
     c.in_err-found.ensures.value
 
-pub entries_at-loop-name-preserved : goal.entries_at-loop-name-preserved
-entries_at-loop-name-preserved t c = record {
-  kept = keeps-both _ _ _ c.loop-name.invariant.kept c.in_ok-found.ensures.kept;
+pub entries_at-loop-member-preserved : goal.entries_at-loop-member-preserved
+entries_at-loop-member-preserved t c = record {
+  kept = keeps-both _ _ _ c.loop-member.invariant.kept c.in_ok-found.ensures.kept;
   so_far =
-      entry_more _ _ c.loop-name.writes c.push.new.self c.push-in-loop-name.new.self c.place_of-key_place.result c.place_of-value_place.result _ _ c.in_ok-text.text c.in_ok-found.found _
-      (value_in (option_map schema_of c.args.value) (view c.in-Some.member.now)) _ _ c.in_ok-found.ensures.kept
+      entry_more _ _ c.loop-member.writes c.push.new.self c.push-in-loop-member.new.self c.place_of-key_place.result c.place_of-value_place.result _ _ c.in_ok-text.text c.in_ok-found.found _
+      (value_in (option_map schema_of c.args.value) (view c.member-item.result.1)) _ _ c.in_ok-found.ensures.kept
       (model-label c.args.model.table.now c.value_at.new.names.items c.place_of-key_place.result.0 (label_at (option_map schema_of c.args.key)) c.place_of-key_place.ensures)
       (model-label c.args.model.table.now c.value_at.new.names.items c.place_of-value_place.result.0 (label_at (option_map schema_of c.args.value)) c.place_of-value_place.ensures)
-      (rw (c.kind_of-key_kind.ensures, c.as_str.ensures.value) at c.in_ok-text.ensures) c.in_ok-found.ensures.value
+      (rw c.kind_of-key_kind.ensures at c.in_ok-text.ensures) c.in_ok-found.ensures.value
       c.in_ok-push.ensures.ok c.in_ok-push.ensures.ok_defined c.in_ok-push-2.ensures.ok c.in_ok-push-2.ensures.ok_defined
-      (rw (next_entry (option_map schema_of c.args.key) (option_map schema_of c.args.value) (c.in-Some.name.now, c.in-Some.member.now) c.loop-name.name-iterator c.next.new.self c.in-Some.ensures.steps) at c.loop-name.invariant.so_far);
+      (rw (next_entry (option_map schema_of c.args.key) (option_map schema_of c.args.value) c.args.members.now c.loop-member.member-index c.member-item.result c.loop-member-test.true c.member-item.is) at c.loop-member.invariant.so_far);
 }
 
 pub entries_at-returns-clause-writes : goal.entries_at-returns-clause-writes
-entries_at-returns-clause-writes t c = so_far-end _ _ _ _ (no_entry _ _ _ c.in-None.ensures.steps.0) c.loop-name.invariant.so_far
+entries_at-returns-clause-writes t c = so_far-end _ _ _ _ (no_entry _ _ _ _ c.loop-member-test.false) c.loop-member.invariant.so_far
 
-pub members_at-loop-name-init : goal.members_at-loop-name-init
-members_at-loop-name-init t c = record {
+pub members_at-loop-member-init : goal.members_at-loop-member-init
+members_at-loop-member-init t c = record {
   kept = keeps-all _;
-  so_far = rw (c.into_iter-name-iterator.ensures.into_iter_gives, c.iter-name-items.ensures.rest) (so_far-start _ _ _ c.new-writes.ensures.writes c.new-writes.ensures.defined);
+  so_far = so_far-start _ _ _ c.new-writes.ensures.writes c.new-writes.ensures.defined;
 }
 
 pub members_at-returns-in_err-value-clause-writes :
     goal.members_at-returns-in_err-value-clause-writes
 members_at-returns-in_err-value-clause-writes t c =
-    next_refused _ _ _ _ (value_in (option_map schema_of c.member_at-node.result) (view c.in-Some.member.now)) _ c.in_err-value.field-0.0 c.from_residual-in_err-value.result (search rules)
-    (rw (next_member (option_map schema_of c.args.here) (c.in-Some.name.now, c.in-Some.member.now) c.loop-name.name-iterator c.next.new.self c.in-Some.ensures.steps, ← c.as_str-name.ensures.value, ← c.member_at-node.ensures) at c.loop-name.invariant.so_far)
+    next_refused _ _ _ _ (value_in (option_map schema_of c.member_at-node.result) (view c.member-item.result.1)) _ c.in_err-value.field-0.0 c.from_residual-in_err-value.result (search rules)
+    (rw (next_member (option_map schema_of c.args.here) c.args.members.now c.loop-member.member-index c.member-item.result c.loop-member-test.true c.member-item.is, ← c.member_at-node.ensures) at c.loop-member.invariant.so_far)
     c.in_err-value.ensures.value
 
-pub members_at-loop-name-preserved : goal.members_at-loop-name-preserved
-members_at-loop-name-preserved t c =
+pub members_at-loop-member-preserved : goal.members_at-loop-member-preserved
+members_at-loop-member-preserved t c =
     let kept = keeps-both _ _ _ c.in_ok-place.ensures.kept c.in_ok-value.ensures.kept in
     record {
-      kept = keeps-both _ _ _ c.loop-name.invariant.kept kept;
+      kept = keeps-both _ _ _ c.loop-member.invariant.kept kept;
       so_far =
-          value_more _ _ c.loop-name.writes c.push.new.self c.in_ok-place.place _ c.in_ok-value.value (value_in (option_map schema_of c.member_at-node.result) (view c.in-Some.member.now)) _ _ kept
+          value_more _ _ c.loop-member.writes c.push.new.self c.in_ok-place.place _ c.in_ok-value.value (value_in (option_map schema_of c.member_at-node.result) (view c.member-item.result.1)) _ _ kept
           (label-kept _ _ _ _ c.in_ok-value.ensures.kept c.in_ok-place.ensures.place) c.in_ok-value.ensures.value c.in_ok-push.ensures.ok c.in_ok-push.ensures.ok_defined
-          (rw (next_member (option_map schema_of c.args.here) (c.in-Some.name.now, c.in-Some.member.now) c.loop-name.name-iterator c.next.new.self c.in-Some.ensures.steps, ← c.as_str-name.ensures.value, ← c.member_at-node.ensures) at c.loop-name.invariant.so_far);
+          (rw (next_member (option_map schema_of c.args.here) c.args.members.now c.loop-member.member-index c.member-item.result c.loop-member-test.true c.member-item.is, ← c.member_at-node.ensures) at c.loop-member.invariant.so_far);
     }
 
 pub members_at-returns-clause-writes : goal.members_at-returns-clause-writes
-members_at-returns-clause-writes t c = so_far-end _ _ _ _ (no_member _ _ c.in-None.ensures.steps.0) c.loop-name.invariant.so_far
+members_at-returns-clause-writes t c = so_far-end _ _ _ _ (no_member _ _ _ c.loop-member-test.false) c.loop-member.invariant.so_far
 
 pub value_at-returns-then-is_document-clause-value :
     goal.value_at-returns-then-is_document-clause-value
@@ -100,32 +100,32 @@ pub value_at-returns-in_err-elements-in-Array-clause-value :
     goal.value_at-returns-in_err-elements-in-Array-clause-value
 value_at-returns-in_err-elements-in-Array-clause-value t c =
     let no_document : is_document_kind (kind_of (option_map schema_of c.args.here)) ≡ false = search rules in
-    group_refused _ list (elements_in (option_map schema_of c.element_of.result) (items_view c.in-Array.items.items)) _ c.in_err-elements-in-Array.field-0.0 c.from_residual-in_err-elements-in-Array.result (search rules)
-    (rw c.element_of.ensures (at_array _ c.args.value.now no_document c.in-Array.items c.in-Array.is)) c.in_err-elements-in-Array.ensures.writes
+    group_refused _ list (elements_in (option_map schema_of c.element_of.result) (items_view c.as_slice.result.now)) _ c.in_err-elements-in-Array.field-0.0 c.from_residual-in_err-elements-in-Array.result (search rules)
+    (rw (c.element_of.ensures, c.as_slice.ensures.value) (at_array _ c.args.value.now no_document c.in-Array.items c.in-Array.is)) c.in_err-elements-in-Array.ensures.writes
 
 pub value_at-returns-in_err-members-in-Object-clause-value :
     goal.value_at-returns-in_err-members-in-Object-clause-value
 value_at-returns-in_err-members-in-Object-clause-value t c =
     let no_document : is_document_kind (kind_of (option_map schema_of c.args.here)) ≡ false = search rules in
     let a_structure : is_structure_kind (kind_of (option_map schema_of c.args.here)) ≡ true = search rules in
-    group_refused _ structure _ _ c.in_err-members-in-Object.field-0.0 c.from_residual-in_err-members-in-Object.result (search rules)
-    (at_structure _ c.args.value.now no_document c.in-Object.members c.in-Object.is a_structure) c.in_err-members-in-Object.ensures.writes
+    group_refused _ structure (members_in (option_map schema_of c.args.here) (members_view c.as_slice-then-is_structure.result.now)) _ c.in_err-members-in-Object.field-0.0 c.from_residual-in_err-members-in-Object.result (search rules)
+    (rw c.as_slice-then-is_structure.ensures.value (at_structure _ c.args.value.now no_document c.in-Object.members c.in-Object.is a_structure)) c.in_err-members-in-Object.ensures.writes
 
 pub value_at-returns-then-is_structure-clause-value :
     goal.value_at-returns-then-is_structure-clause-value
 value_at-returns-then-is_structure-clause-value t c =
     let no_document : is_document_kind (kind_of (option_map schema_of c.args.here)) ≡ false = search rules in
     let a_structure : is_structure_kind (kind_of (option_map schema_of c.args.here)) ≡ true = search rules in
-    has_structure _ _ _ _ (at_structure _ c.args.value.now no_document c.in-Object.members c.in-Object.is a_structure) c.in_ok-members-in-Object.ensures.writes
+    has_structure _ _ _ _ (at_structure _ c.args.value.now no_document c.in-Object.members c.in-Object.is a_structure) (rw c.as_slice-then-is_structure.ensures.value at c.in_ok-members-in-Object.ensures.writes)
 
 pub value_at-returns-in_err-entries-in-Object-clause-value :
     goal.value_at-returns-in_err-entries-in-Object-clause-value
 value_at-returns-in_err-entries-in-Object-clause-value t c =
     let no_document : is_document_kind (kind_of (option_map schema_of c.args.here)) ≡ false = search rules in
     let no_structure : is_structure_kind (kind_of (option_map schema_of c.args.here)) ≡ false = search rules in
-    group_refused _ map (entries_in (option_map schema_of c.key_of.result) (option_map schema_of c.value_of.result) (members_view c.in-Object.members.entries)) _ c.in_err-entries-in-Object.field-0.0
+    group_refused _ map (entries_in (option_map schema_of c.key_of.result) (option_map schema_of c.value_of.result) (members_view c.as_slice-members.result.now)) _ c.in_err-entries-in-Object.field-0.0
     c.from_residual-in_err-entries-in-Object.result (search rules)
-    (rw (c.key_of.ensures, c.value_of.ensures) (at_map _ c.args.value.now no_document c.in-Object.members c.in-Object.is no_structure)) c.in_err-entries-in-Object.ensures.writes
+    (rw (c.key_of.ensures, c.value_of.ensures, c.as_slice-members.ensures.value) (at_map _ c.args.value.now no_document c.in-Object.members c.in-Object.is no_structure)) c.in_err-entries-in-Object.ensures.writes
 
 pub value_at-returns-in-Null-clause-value : goal.value_at-returns-in-Null-clause-value
 value_at-returns-in-Null-clause-value t c =
@@ -146,17 +146,17 @@ pub value_at-returns-in_ok-text_value-in-String-clause-value :
     goal.value_at-returns-in_ok-text_value-in-String-clause-value
 value_at-returns-in_ok-text_value-in-String-clause-value t c =
     let no_document : is_document_kind (kind_of (option_map schema_of c.args.here)) ≡ false = search rules in
-    has_scalar _ _ _ _ (at_string _ c.args.value.now no_document c.in-String.text c.in-String.is) (rw (c.kind_of-kind.ensures, c.as_str.ensures.value) at c.in_ok-text_value-in-String.ensures)
+    has_scalar _ _ _ _ (at_string _ c.args.value.now no_document c.in-String.text c.in-String.is) (rw c.kind_of-kind.ensures at c.in_ok-text_value-in-String.ensures)
 
 pub value_at-returns-in_ok-elements-in-Array-clause-value :
     goal.value_at-returns-in_ok-elements-in-Array-clause-value
 value_at-returns-in_ok-elements-in-Array-clause-value t c =
     let no_document : is_document_kind (kind_of (option_map schema_of c.args.here)) ≡ false = search rules in
-    has_list _ _ _ _ (at_array _ c.args.value.now no_document c.in-Array.items c.in-Array.is) (rw c.element_of.ensures at c.in_ok-elements-in-Array.ensures.writes)
+    has_list _ _ _ _ (at_array _ c.args.value.now no_document c.in-Array.items c.in-Array.is) (rw (c.element_of.ensures, c.as_slice.ensures.value) at c.in_ok-elements-in-Array.ensures.writes)
 
 pub value_at-returns-in_ok-entries-in-Object-clause-value :
     goal.value_at-returns-in_ok-entries-in-Object-clause-value
 value_at-returns-in_ok-entries-in-Object-clause-value t c =
     let no_document : is_document_kind (kind_of (option_map schema_of c.args.here)) ≡ false = search rules in
     let no_structure : is_structure_kind (kind_of (option_map schema_of c.args.here)) ≡ false = search rules in
-    has_map _ _ _ _ (at_map _ c.args.value.now no_document c.in-Object.members c.in-Object.is no_structure) (rw (c.key_of.ensures, c.value_of.ensures) at c.in_ok-entries-in-Object.ensures.writes)
+    has_map _ _ _ _ (at_map _ c.args.value.now no_document c.in-Object.members c.in-Object.is no_structure) (rw (c.key_of.ensures, c.value_of.ensures, c.as_slice-members.ensures.value) at c.in_ok-entries-in-Object.ensures.writes)

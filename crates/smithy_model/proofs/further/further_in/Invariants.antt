@@ -1,7 +1,7 @@
-use Rattle.std.proofs.Common.{◌≡◌, map, []}
-use Rattle.smithy_model.specs.Seen.{entry_view}
+use Rattle.std.proofs.Common.{◌≡◌, drop, []}
+use Rattle.smithy_json.specs.JsonView.{entries}
 use Rattle.smithy_model.specs.Further.{further_in}
 use Rattle.smithy_model.proofs.further.further_in.Given as goal
 
-abbrev pub invariant-loop-name : goal.invariant-loop-name
-invariant-loop-name l = further_in l.found (map entry_view l.name-iterator) ≡ further_in [] (map entry_view l.traits.entries)
+abbrev pub invariant-loop-given : goal.invariant-loop-given
+invariant-loop-given l = further_in l.found (entries (drop l.given-index l.traits)) ≡ further_in [] (entries l.traits)

@@ -1,6 +1,6 @@
 use Rattle.std.proofs.Common.{◌∙◌, sym}
 use Rattle.std.proofs.lemmas.List.{map-append}
-use Rattle.serde_json.specs.View.{view}
+use Rattle.smithy_json.specs.JsonView.{view}
 use Rattle.smithy_model.specs.Operations.{target_in}
 use Rattle.smithy_model.specs.PlaceView.{texts}
 use Rattle.smithy_model.proofs.Each.{each_item}

@@ -1,5 +1,5 @@
 use Rattle.std.proofs.Common.{◌≡◌, map, drop}
-use Rattle.serde_json.specs.View.{view}
+use Rattle.smithy_json.specs.JsonView.{view}
 use Rattle.smithy_types.specs.Results.{each}
 use Rattle.smithy_model.specs.Operations.{target_in}
 use Rattle.smithy_model.specs.PlaceView.{texts}

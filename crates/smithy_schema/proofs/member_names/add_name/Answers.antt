@@ -1,10 +1,10 @@
-use Rattle.std.proofs.Common.{sym}
-use Rattle.smithy_schema.proofs.NamedLemmas.{stays_first, put_first}
+use Rattle.std.proofs.Common.{arith}
+use Rattle.std.specs.BTreeMap.Entry.{map_with_value}
+use Rattle.smithy_schema.proofs.NamedLemmas.{put_once}
 use Rattle.smithy_schema.proofs.member_names.add_name.Goals as goal
-
-pub returns-then-contains_key : goal.returns-then-contains_key
-returns-then-contains_key c = stays_first c.args.positions.now c.args.name.now c.args.position (sym c.if-contains_key.ensures)
 
 pub returns : goal.returns
 returns c =
-    put_first c.args.positions.now c.insert.new.self c.in_ok-from_str.field-0 c.args.name.now c.args.position c.in_ok-from_str.ensures.ok (sym c.if-contains_key.ensures) c.in_ok-insert.ensures.updates
+    let put = c.or_insert.result.now in
+    let once = put_once c.args.positions.now (map_with_value c.in_ok-positions.field-0 put) c.in_ok-name.name c.args.name.now c.args.position put c.in_ok-name.ensures.ok (grind arith) (c.in_ok-positions.ensures.update.0 put) in
+    λ q. grind (arith, once q)

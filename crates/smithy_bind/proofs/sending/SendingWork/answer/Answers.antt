@@ -1,5 +1,5 @@
 use Rattle.std.proofs.Common.{rules}
-use Rattle.serde_json.specs.View.{view}
+use Rattle.smithy_json.specs.JsonView.{view}
 use Rattle.smithy_schema.specs.References.{schema_of}
 use Rattle.smithy_serde.specs.StructValues.{members_of}
 use Rattle.smithy_job.specs.Jobs.{job}

@@ -1,0 +1,268 @@
+-- Members put one after another, in byte order of their names.
+use Rattle.std.proofs.Common.{◌≡◌, refl, sym, ap, subst, ◌∙◌, ℕ, suc, ◌+◌, ◌<◌, ◌≤◌, arith, List, [], ◌∷◌, ◌++◌, length, get_or, drop, slice_set, insert, append_assoc, append-nil, Bool, true, false, cond, Option, Some, None, MatchOption, Result, Ok, Err, Bor, bytes_eq, Ordering, Less, Equal, Greater, nat_cmp, is_eq}
+use Rattle.std.specs.Ordering.{match_ordering, ordering_reverse}
+use Rattle.std.specs.BTreeMap.{insert_entry}
+use Rattle.std.specs.List.{AllByRecursion}
+use Rattle.std.specs.List.Sorted.{IsStrictlySortedBy}
+use Rattle.std.specs.Map.{keys_of}
+use Rattle.std.specs.Cmp.Lexicographic.{slice_cmp, same_text as same_from_test}
+use Rattle.std.proofs.lemmas.Cmp.{nat_list_cmp_total}
+use Rattle.std.proofs.lemmas.List.{drop_more}
+use Rattle.std.proofs.lemmas.Map.Text.{is_eq-slice_cmp}
+use Rattle.std.proofs.Math.ListN.{drop_of_length-le}
+use Rattle.serde_json.specs.Data as parsed
+use Rattle.serde_json.specs.Data.{Data, Members, put}
+use Rattle.serde_json.specs.Find.{get_member}
+use Rattle.smithy_types.specs.Maps.{IsOrdered}
+use Rattle.smithy_json.specs.JsonView.{Member, members_view, entry_of, entries}
+use Rattle.smithy_json.specs.PutMembers.{put_all, further, place_of}
+
+abbrev pub Entry : Type 0
+Entry = List ℕ × Data
+
+-- the members that entries are
+abbrev pub made : List Entry → Members
+made [] = parsed.no_members
+made (e ∷ es) = parsed.member e.0 e.1 (made es)
+
+pub made_entries : (ms : List Member) → made (entries ms) ≡ members_view ms
+made_entries [] = refl
+made_entries (m ∷ ms) = ap (parsed.member m.0.now (entry_of m).1) (made_entries ms)
+
+-- ---- one more
+
+pub put_more : (es : List Entry) (e : Entry) (ms : Members) → put_all (es ++ e ∷ []) ms ≡ put e.0 e.1 (put_all es ms)
+put_more [] e ms = refl
+put_more (x ∷ es) e ms = put_more es e (put x.0 x.1 ms)
+
+pub entries_more : (ms : List Member) (m : Member) → entries (ms ++ m ∷ []) ≡ entries ms ++ entry_of m ∷ []
+entries_more [] m = refl
+entries_more (x ∷ ms) m = ap (λ es. entry_of x ∷ es) (entries_more ms m)
+
+-- ---- names that ascend
+
+abbrev pub Behind : {X : Type 0} → List ℕ → List (List ℕ × X) → Type 0
+Behind name [] = Unit {0}
+Behind name (e ∷ es) = (slice_cmp nat_cmp name e.0 ≡ Less) × Behind e.0 es
+
+abbrev pub Ascends : {X : Type 0} → List (List ℕ × X) → Type 0
+Ascends [] = Unit {0}
+Ascends (e ∷ es) = Behind e.0 es
+
+pub up_tail : {X : Type 0} (name : List ℕ) (es : List (List ℕ × X)) → Behind name es → Ascends es
+up_tail name [] behind = tt
+up_tail name (e ∷ es) behind = behind.1
+
+below_all : {X : Type 0} (name : List ℕ) (es : List (List ℕ × X)) → Behind name es → AllByRecursion (λ y. slice_cmp nat_cmp name y ≡ Less) (keys_of es)
+below_all name [] behind = tt
+below_all {X = X} name (e ∷ es) behind = (behind.0, below_all name es (lower es behind.1))
+  where
+    lower : (fs : List (List ℕ × X)) → Behind e.0 fs → Behind name fs
+    lower [] behind = tt
+    lower (f ∷ fs) h = (nat_list_cmp_total.trans name e.0 f.0 behind.0 h.0, h.1)
+
+pub ordered_up : {X : Type 0} (es : List (List ℕ × X)) → Ascends es → IsOrdered es
+unfolding IsStrictlySortedBy
+ordered_up [] up = tt
+ordered_up (e ∷ es) up = (below_all e.0 es up, ordered_up es (up_tail e.0 es up))
+
+pub up_ordered : {X : Type 0} (es : List (List ℕ × X)) → IsOrdered es → Ascends es
+unfolding IsStrictlySortedBy
+up_ordered [] h = tt
+up_ordered {X = X} (e ∷ es) h = behind e.0 es h
+  where
+    behind : (low : List ℕ) (fs : List (List ℕ × X)) → IsStrictlySortedBy (slice_cmp nat_cmp) (low ∷ keys_of fs) → Behind low fs
+    behind low [] k = tt
+    behind low (f ∷ fs) k = (k.0.0, behind f.0 fs k.1)
+
+-- each of these names is below one
+abbrev Under : List Entry → List ℕ → Type 0
+Under [] name = Unit {0}
+Under (e ∷ es) name = (slice_cmp nat_cmp e.0 name ≡ Less) × Under es name
+
+abbrev Follows : List Entry → List Entry → Type 0
+Follows done [] = Unit {0}
+Follows done (e ∷ es) = Under done e.0 × Behind e.0 es
+
+put_end : (e : Entry) (done : List Entry) → Under done e.0 → put e.0 e.1 (made done) ≡ made (done ++ e ∷ [])
+put_end e [] under = refl
+put_end e (x ∷ done) under =
+    let above : slice_cmp nat_cmp e.0 x.0 ≡ Greater = nat_list_cmp_total.antisymm e.0 x.0 ∙ ap ordering_reverse under.0 in
+    rw above (ap (parsed.member x.0 x.1) (put_end e done under.1))
+
+under_more : (done : List Entry) (e : Entry) (name : List ℕ) → Under done e.0 → slice_cmp nat_cmp e.0 name ≡ Less → Under (done ++ e ∷ []) name
+under_more [] e name under less = (less, tt)
+under_more (x ∷ done) e name under less = (nat_list_cmp_total.trans x.0 e.0 name under.0 less, under_more done e name under.1 less)
+
+follows_more : (done : List Entry) (e : Entry) (es : List Entry) → Follows done (e ∷ es) → Follows (done ++ e ∷ []) es
+follows_more done e [] follows = tt
+follows_more done e (x ∷ es) follows = (under_more done e x.0 follows.0 follows.1.0, follows.1.1)
+
+all_end : (es done : List Entry) → Follows done es → put_all es (made done) ≡ made (done ++ es)
+all_end [] done follows = ap made (sym (append-nil done))
+all_end (e ∷ es) done follows =
+    ap (put_all es) (put_end e done follows.0) ∙ all_end es (done ++ e ∷ []) (follows_more done e es follows) ∙ ap made (append_assoc done (e ∷ []) es)
+
+starts : (es : List Entry) → Ascends es → Follows [] es
+starts [] up = tt
+starts (e ∷ es) up = (tt, up)
+
+-- members whose names ascend are put as they stand
+pub put_as_they_stand : (ms : List Member) → IsOrdered (entries ms) → put_all (entries ms) parsed.no_members ≡ members_view ms
+put_as_they_stand ms ordered = all_end (entries ms) [] (starts (entries ms) (up_ordered (entries ms) ordered)) ∙ made_entries ms
+
+up_at_none : (before : Option (Bor (List ℕ))) → MatchOption before (Ascends (entries [])) (λ b. Behind b.now (entries []))
+up_at_none None = tt
+up_at_none (Some b) = tt
+
+-- behind the last member no name is left
+pub up_at_end : (before : Option (Bor (List ℕ))) (ms : List Member) (i : ℕ) → length ms ≤ i → MatchOption before (Ascends (entries (drop i ms))) (λ b. Behind b.now (entries (drop i ms)))
+up_at_end before ms i past = subst (λ xs. MatchOption before (Ascends (entries xs)) (λ b. Behind b.now (entries xs))) (sym (drop_of_length-le ms past)) (up_at_none before)
+
+-- ---- members that are put in turn
+
+pub one_fed : (m : Member) (old new : List Member) (before after all : Members) → old ≡ m ∷ new → after ≡ put m.0.now (entry_of m).1 before → put_all (entries old) before ≡ all → put_all (entries new) after ≡ all
+one_fed m old new before after all is given h = ap (put_all (entries new)) given ∙ ap (λ ms. put_all (entries ms) before) (sym is) ∙ h
+
+pub all_fed : (rest : List Member) (found all : Members) → rest ≡ [] → put_all (entries rest) found ≡ all → found ≡ all
+all_fed rest found all is h = ap (λ ms. put_all (entries ms) found) (sym is) ∙ h
+
+-- ---- the place of a name
+
+-- so many places further on
+abbrev pub past : ℕ → Result ℕ ℕ → Result ℕ ℕ
+past i (Ok place) = Ok (i + place)
+past i (Err place) = Err (i + place)
+
+pub past_none : (r : Result ℕ ℕ) → past 0 r ≡ r
+past_none (Ok place) = ap (λ (n : ℕ). Ok n) (omega arith)
+past_none (Err place) = ap (λ (n : ℕ). Err n) (omega arith)
+
+past_one : (i : ℕ) (r : Result ℕ ℕ) → past i (further r) ≡ past (i + 1) r
+past_one i (Ok place) = ap (λ (n : ℕ). Ok n) (omega arith)
+past_one i (Err place) = ap (λ (n : ℕ). Err n) (omega arith)
+
+place_first : (o : Ordering) (name : List ℕ) (e : Entry) (es : List Entry) → slice_cmp nat_cmp name e.0 ≡ o → place_of name (e ∷ es) ≡ match_ordering o (Err 0) (Ok 0) (further (place_of name es))
+place_first o name e es is = ap (λ c. match_ordering c (Err 0) (Ok 0) (further (place_of name es))) is
+
+place_at : (o : Ordering) (name : List ℕ) (ms : List Member) (i : ℕ) (m : Member) (all : Result ℕ ℕ) → i < length ms → m ≡ get_or ms i m → o ≡ slice_cmp nat_cmp name m.0.now
+    → past i (place_of name (entries (drop i ms))) ≡ all → past i (match_ordering o (Err 0) (Ok 0) (further (place_of name (entries (drop (i + 1) ms))))) ≡ all
+place_at o name ms i m all within is found h =
+    ap (past i) (sym (place_first o name (entry_of m) (entries (drop (i + 1) ms)) (sym found))) ∙ ap (λ xs. past i (place_of name (entries xs))) (sym (drop_more ms i m within ∙ ap (λ x. x ∷ drop (i + 1) ms) (sym is))) ∙ h
+
+pub place_before : (name : List ℕ) (ms : List Member) (i : ℕ) (m : Member) (all : Result ℕ ℕ) → i < length ms → m ≡ get_or ms i m → Less ≡ slice_cmp nat_cmp name m.0.now
+    → past i (place_of name (entries (drop i ms))) ≡ all → Err i ≡ all
+place_before name ms i m all within is found h = ap (λ (n : ℕ). Err n) (omega arith) ∙ place_at Less name ms i m all within is found h
+
+pub place_here : (name : List ℕ) (ms : List Member) (i : ℕ) (m : Member) (all : Result ℕ ℕ) → i < length ms → m ≡ get_or ms i m → Equal ≡ slice_cmp nat_cmp name m.0.now
+    → past i (place_of name (entries (drop i ms))) ≡ all → Ok i ≡ all
+place_here name ms i m all within is found h = ap (λ (n : ℕ). Ok n) (omega arith) ∙ place_at Equal name ms i m all within is found h
+
+pub place_further : (name : List ℕ) (ms : List Member) (i : ℕ) (m : Member) (all : Result ℕ ℕ) → i < length ms → m ≡ get_or ms i m → Greater ≡ slice_cmp nat_cmp name m.0.now
+    → past i (place_of name (entries (drop i ms))) ≡ all → past (i + 1) (place_of name (entries (drop (i + 1) ms))) ≡ all
+place_further name ms i m all within is found h = sym (past_one i _) ∙ place_at Greater name ms i m all within is found h
+
+pub place_end : (name : List ℕ) (ms : List Member) (i : ℕ) (all : Result ℕ ℕ) → i ≤ length ms → length ms ≤ i → past i (place_of name (entries (drop i ms))) ≡ all → Err (length ms) ≡ all
+place_end name ms i all low high h =
+    ap (λ (n : ℕ). Err n) (omega (arith, low, high)) ∙ ap (λ xs. past i (place_of name (entries xs))) (sym (drop_of_length-le ms high)) ∙ h
+
+-- ---- a member at its place
+
+same_name : (k l : List ℕ) → slice_cmp nat_cmp k l ≡ Equal → k ≡ l
+same_name k l e = same_from_test k l (sym (ap is_eq e) ∙ is_eq-slice_cmp k l)
+
+found_place : (r : Result ℕ ℕ) (i : ℕ) → further r ≡ Ok i → (j : ℕ) × (i ≡ suc j) × (r ≡ Ok j)
+found_place (Ok j) i e = let same : suc j ≡ i = cc e in (j, sym same, refl)
+found_place (Err j) i e = absurd (cc e)
+
+missed_place : (r : Result ℕ ℕ) (i : ℕ) → further r ≡ Err i → (j : ℕ) × (i ≡ suc j) × (r ≡ Err j)
+missed_place (Ok j) i e = absurd (cc e)
+missed_place (Err j) i e = let same : suc j ≡ i = cc e in (j, sym same, refl)
+
+pub put_over : (m : Member) (ms : List Member) (i : ℕ) → place_of m.0.now (entries ms) ≡ Ok i → members_view (slice_set ms i m) ≡ put m.0.now (entry_of m).1 (members_view ms)
+put_over m [] i e = absurd (cc e)
+put_over m (x ∷ ms) i e = go (slice_cmp nat_cmp m.0.now x.0.now) refl e (λ j h. put_over m ms j h)
+  where
+    go : (o : Ordering) → slice_cmp nat_cmp m.0.now x.0.now ≡ o → match_ordering o (Err 0) (Ok 0) (further (place_of m.0.now (entries ms))) ≡ Ok i
+        → ((j : ℕ) → place_of m.0.now (entries ms) ≡ Ok j → members_view (slice_set ms j m) ≡ put m.0.now (entry_of m).1 (members_view ms))
+        → members_view (slice_set (x ∷ ms) i m)
+        ≡ match_ordering o (parsed.member m.0.now (entry_of m).1 (members_view (x ∷ ms))) (parsed.member x.0.now (entry_of m).1 (members_view ms)) (parsed.member x.0.now (entry_of x).1 (put m.0.now (entry_of m).1 (members_view ms)))
+    go Less is h rest = absurd (cc h)
+    go Equal is h rest =
+        let first : 0 ≡ i = cc h in
+        ap (λ n. members_view (slice_set (x ∷ ms) n m)) (sym first) ∙ ap (λ name. parsed.member name (entry_of m).1 (members_view ms)) (same_name m.0.now x.0.now is)
+    go Greater is h rest =
+        let f = found_place (place_of m.0.now (entries ms)) i h in
+        ap (λ n. members_view (slice_set (x ∷ ms) n m)) f.1 ∙ ap (parsed.member x.0.now (entry_of x).1) (rest f.0 f.2)
+
+pub put_between : (m : Member) (ms : List Member) (i : ℕ) → place_of m.0.now (entries ms) ≡ Err i → members_view (insert ms i m) ≡ put m.0.now (entry_of m).1 (members_view ms)
+put_between m [] i e = let first : 0 ≡ i = cc e in ap (λ n. members_view (insert [] n m)) (sym first)
+put_between m (x ∷ ms) i e = go (slice_cmp nat_cmp m.0.now x.0.now) refl e (λ j h. put_between m ms j h)
+  where
+    go : (o : Ordering) → slice_cmp nat_cmp m.0.now x.0.now ≡ o → match_ordering o (Err 0) (Ok 0) (further (place_of m.0.now (entries ms))) ≡ Err i
+        → ((j : ℕ) → place_of m.0.now (entries ms) ≡ Err j → members_view (insert ms j m) ≡ put m.0.now (entry_of m).1 (members_view ms))
+        → members_view (insert (x ∷ ms) i m)
+        ≡ match_ordering o (parsed.member m.0.now (entry_of m).1 (members_view (x ∷ ms))) (parsed.member x.0.now (entry_of m).1 (members_view ms)) (parsed.member x.0.now (entry_of x).1 (put m.0.now (entry_of m).1 (members_view ms)))
+    go Less is h rest = let first : 0 ≡ i = cc h in ap (λ n. members_view (insert (x ∷ ms) n m)) (sym first)
+    go Equal is h rest = absurd (cc h)
+    go Greater is h rest =
+        let f = missed_place (place_of m.0.now (entries ms)) i h in
+        ap (λ n. members_view (insert (x ∷ ms) n m)) f.1 ∙ ap (parsed.member x.0.now (entry_of x).1) (rest f.0 f.2)
+
+pub place_within : (name : List ℕ) (ms : List Member) (i : ℕ) → place_of name (entries ms) ≡ Ok i → i < length ms
+place_within name [] i e = absurd (cc e)
+place_within name (x ∷ ms) i e = go (slice_cmp nat_cmp name x.0.now) e (λ j h. place_within name ms j h)
+  where
+    go : (o : Ordering) → match_ordering o (Err 0) (Ok 0) (further (place_of name (entries ms))) ≡ Ok i → ((j : ℕ) → place_of name (entries ms) ≡ Ok j → j < length ms) → i < suc (length ms)
+    go Less h rest = absurd (cc h)
+    go Equal h rest = let first : 0 ≡ i = cc h in omega (arith, first)
+    go Greater h rest = let f = found_place (place_of name (entries ms)) i h in let less = rest f.0 f.2 in omega (arith, less, f.1)
+
+pub place_by_end : (name : List ℕ) (ms : List Member) (i : ℕ) → place_of name (entries ms) ≡ Err i → i ≤ length ms
+place_by_end name [] i e = let first : 0 ≡ i = cc e in omega (arith, first)
+place_by_end name (x ∷ ms) i e = go (slice_cmp nat_cmp name x.0.now) e (λ j h. place_by_end name ms j h)
+  where
+    go : (o : Ordering) → match_ordering o (Err 0) (Ok 0) (further (place_of name (entries ms))) ≡ Err i → ((j : ℕ) → place_of name (entries ms) ≡ Err j → j ≤ length ms) → i ≤ suc (length ms)
+    go Less h rest = let first : 0 ≡ i = cc h in omega (arith, first)
+    go Equal h rest = absurd (cc h)
+    go Greater h rest = let f = missed_place (place_of name (entries ms)) i h in let less = rest f.0 f.2 in omega (arith, less, f.1)
+
+-- ---- a map of members
+
+abbrev name_cmp : Bor (List ℕ) → Bor (List ℕ) → Ordering
+name_cmp a b = slice_cmp nat_cmp a.now b.now
+
+seen_at : (o : Ordering) (a b c : List Member) → members_view (match_ordering o a b c) ≡ match_ordering o (members_view a) (members_view b) (members_view c)
+seen_at Less a b c = refl
+seen_at Equal a b c = refl
+seen_at Greater a b c = refl
+
+pub entry_put : (es : List Member) (m : Member) → members_view (insert_entry name_cmp es m.0 m.1) ≡ put m.0.now (entry_of m).1 (members_view es)
+entry_put [] m = refl
+entry_put (e ∷ es) m = seen_at (name_cmp m.0 e.0) _ _ _ ∙ rw (entry_put es m) refl
+
+-- ---- what stands under a name
+
+pub named_start : (name : List ℕ) (ms : List Member) → get_member name (members_view (drop 0 ms)) ≡ get_member name (members_view ms)
+named_start name ms = refl
+
+chosen : (o : Ordering) (b : Bool) (x y : Option Data) → is_eq o ≡ b → match_ordering o x y x ≡ cond b y x
+chosen Less b x y e = ap (λ t. cond t y x) e
+chosen Equal b x y e = ap (λ t. cond t y x) e
+chosen Greater b x y e = ap (λ t. cond t y x) e
+
+named_at : (b : Bool) (name : List ℕ) (ms : List Member) (i : ℕ) (m : Member) (all : Option Data) → i < length ms → m ≡ get_or ms i m → b ≡ bytes_eq name m.0.now
+    → get_member name (members_view (drop i ms)) ≡ all → cond b (Some (entry_of m).1) (get_member name (members_view (drop (i + 1) ms))) ≡ all
+named_at b name ms i m all within is same h =
+    sym (chosen (slice_cmp nat_cmp name m.0.now) b _ _ (is_eq-slice_cmp name m.0.now ∙ sym same))
+    ∙ ap (λ xs. get_member name (members_view xs)) (sym (drop_more ms i m within ∙ ap (λ x. x ∷ drop (i + 1) ms) (sym is))) ∙ h
+
+pub named_here : (name : List ℕ) (ms : List Member) (i : ℕ) (m : Member) (all : Option Data) → i < length ms → m ≡ get_or ms i m → true ≡ bytes_eq name m.0.now → get_member name (members_view (drop i ms)) ≡ all → Some (entry_of m).1 ≡ all
+named_here name ms i m all within is same h = named_at true name ms i m all within is same h
+
+pub named_later : (name : List ℕ) (ms : List Member) (i : ℕ) (m : Member) (all : Option Data) → i < length ms → m ≡ get_or ms i m → false ≡ bytes_eq name m.0.now → get_member name (members_view (drop i ms)) ≡ all
+    → get_member name (members_view (drop (i + 1) ms)) ≡ all
+named_later name ms i m all within is same h = named_at false name ms i m all within is same h
+
+pub named_nowhere : (name : List ℕ) (ms : List Member) (i : ℕ) (all : Option Data) → length ms ≤ i → get_member name (members_view (drop i ms)) ≡ all → None ≡ all
+named_nowhere name ms i all past h = ap (λ xs. get_member name (members_view xs)) (sym (drop_of_length-le ms past)) ∙ h

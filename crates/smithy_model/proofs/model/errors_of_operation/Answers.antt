@@ -1,0 +1,11 @@
+use Rattle.std.proofs.Common.{refl}
+use Rattle.smithy_json.specs.JsonView.{view}
+use Rattle.smithy_model.specs.Models.{errors_in, errors_in_model}
+use Rattle.smithy_model.specs.PlaceView.{texts}
+use Rattle.smithy_model.proofs.NoShapes.{nothing_asked}
+use Rattle.smithy_model.proofs.model.errors_of_operation.Goals as goal
+
+pub returns-in_default-of : goal.returns-in_default-of
+unfolding errors_in_model
+returns-in_default-of c =
+    nothing_asked (errors_in (texts c.args.service.now)) (view c.args.model.now) c.args.name.now (view c.in-Some.object.now) c.in-Some.ensures (c.in_default-of.ensures.none refl)

@@ -1,0 +1,3 @@
+// Tests of `smithy_io`.
+mod standard;
+mod streams;
