@@ -21,6 +21,7 @@ mod top_call;
 mod work;
 
 pub use command::Command;
-pub use over_bytes::{Ended, answer_bytes};
+pub use over_bytes::{Ended, answer_bytes, answer_bytes_over};
+pub use smithy_json::Scratch;
 pub use texts::{HELP, VERSION};
 pub use top_call::{Status, run, run_request};

@@ -16,6 +16,7 @@ use crate::top_call::Status;
 use crate::work::{Work, answer_to};
 use smithy_binding::{HttpBindingProtocol, HttpRpcProtocol};
 use smithy_io::MAX_JOB_LEN;
+use smithy_json::Scratch;
 use smithy_model::JobError;
 use std::alloc::Global;
 
@@ -30,7 +31,24 @@ pub struct Ended {
 
 /// How a run of the command ends and what it writes, where these bytes are its input and neither its source nor its sink
 /// fails. Takes memory for the text.
+#[inline(never)]
 pub fn answer_bytes(alloc: Global, command: Command, bytes: &[u8]) -> Ended
+    ensures memory { IsInMemory result.status }
+    ensures due { IsSettled result.status → result.status ≡ due_of command bytes.now }
+    ensures text { HasText result.status (text_of (outcome_by (Some command) bytes.now)) result.text.items }
+{
+    let mut scratch = Scratch::new(alloc);
+    answer_bytes_over(alloc, &mut scratch, command, bytes)
+}
+
+/// The same, over a scratch of the caller's, some 16 KiB and room for the longest of the inputs: whoever keeps one from call to
+/// call saves its making. What it held before makes no difference.
+pub fn answer_bytes_over(
+    alloc: Global,
+    scratch: &mut Scratch,
+    command: Command,
+    bytes: &[u8],
+) -> Ended
     ensures memory { IsInMemory result.status }
     ensures due { IsSettled result.status → result.status ≡ due_of command bytes.now }
     ensures text { HasText result.status (text_of (outcome_by (Some command) bytes.now)) result.text.items }
@@ -38,12 +56,12 @@ pub fn answer_bytes(alloc: Global, command: Command, bytes: &[u8]) -> Ended
     match command {
         Command::Request => {
             let protocol = HttpBindingProtocol::rest_json(json_codec());
-            worked(alloc, &Sending { protocol }, bytes)
+            worked(alloc, scratch, &Sending { protocol }, bytes)
         }
-        Command::Response => worked(alloc, &JsonResponses, bytes),
+        Command::Response => worked(alloc, scratch, &JsonResponses, bytes),
         Command::Rpc => {
             let protocol = HttpRpcProtocol::aws_json(json_codec());
-            worked(alloc, &Sending { protocol }, bytes)
+            worked(alloc, scratch, &Sending { protocol }, bytes)
         }
         Command::Generate(count) => {
             let protocol = HttpBindingProtocol::rest_json(json_codec());
@@ -55,7 +73,7 @@ pub fn answer_bytes(alloc: Global, command: Command, bytes: &[u8]) -> Ended
 }
 
 // How the work of a command over the bytes ends.
-fn worked<W: Work>(alloc: Global, work: &W, bytes: &[u8]) -> Ended
+fn worked<W: Work>(alloc: Global, scratch: &mut Scratch, work: &W, bytes: &[u8]) -> Ended
     requires { W.may work.now }
     ensures memory { IsInMemory result.status }
     ensures due { IsSettled result.status → result.status ≡ due_at (by_json (W.does work.now)) bytes.now }
@@ -64,7 +82,7 @@ fn worked<W: Work>(alloc: Global, work: &W, bytes: &[u8]) -> Ended
     if bytes.len() > MAX_JOB_LEN {
         return silent(alloc, Status::TooLong);
     }
-    end_of(alloc, answer_to(alloc, work, bytes))
+    end_of(alloc, answer_to(alloc, scratch, work, bytes))
 }
 
 // The end of what was answered.

@@ -26,16 +26,18 @@ pub trait Work {
         ensures { Gives (does self.now (view value.now)) result };
 }
 
-/// What is to be told of the bytes of a job. Takes memory.
+/// What is to be told of the bytes of a job, whose texts with escapes are written to the scratch. Takes memory.
 ///
 /// No job where they are no JSON in UTF-8 (RFC 8259), or their value is none for this work.
-// It is no part of its callers, so that they don't pay for the room of the scratch, some 16 KiB.
-#[inline(never)]
-pub fn answer_to<W: Work>(alloc: Global, work: &W, bytes: &[u8]) -> Result<Answer, JobError>
+pub fn answer_to<W: Work>(
+    alloc: Global,
+    scratch: &mut Scratch,
+    work: &W,
+    bytes: &[u8],
+) -> Result<Answer, JobError>
     requires { W.may work.now }
     ensures { Gives (by_json (W.does work.now) bytes.now) result }
 {
-    let mut scratch = Scratch::new(alloc);
-    let value = read_json(alloc, bytes, &mut scratch)?;
+    let value = read_json(alloc, bytes, scratch)?;
     work.answer(alloc, &value)
 }

@@ -1,5 +1,5 @@
 -- Members put one after another, in byte order of their names.
-use Rattle.std.proofs.Common.{◌≡◌, refl, sym, ap, subst, ◌∙◌, ℕ, suc, ◌+◌, ◌<◌, ◌≤◌, arith, List, [], ◌∷◌, ◌++◌, length, get_or, drop, slice_set, insert, append_assoc, append-nil, Bool, true, false, cond, Option, Some, None, MatchOption, Result, Ok, Err, Bor, bytes_eq, Ordering, Less, Equal, Greater, nat_cmp, is_eq}
+use Rattle.std.proofs.Common.{◌≡◌, refl, sym, ap, subst, ◌∙◌, ℕ, suc, ◌+◌, ◌<◌, ◌≤◌, arith, List, [], ◌∷◌, ◌++◌, length, get_or, drop, slice_set, insert, append_assoc, append-nil, Bool, true, false, cond, Option, Some, None, MatchOption, Result, Ok, Err, Bor, bytes_eq, Ordering, Less, Equal, Greater, nat_cmp, is_eq, is_ge, IsTrue}
 use Rattle.std.specs.Ordering.{match_ordering, ordering_reverse}
 use Rattle.std.specs.BTreeMap.{insert_entry}
 use Rattle.std.specs.List.{AllByRecursion}
@@ -76,7 +76,7 @@ up_ordered {X = X} (e ∷ es) h = behind e.0 es h
     behind low (f ∷ fs) k = (k.0.0, behind f.0 fs k.1)
 
 -- each of these names is below one
-abbrev Under : List Entry → List ℕ → Type 0
+abbrev pub Under : List Entry → List ℕ → Type 0
 Under [] name = Unit {0}
 Under (e ∷ es) name = (slice_cmp nat_cmp e.0 name ≡ Less) × Under es name
 
@@ -111,6 +111,59 @@ starts (e ∷ es) up = (tt, up)
 pub put_as_they_stand : (ms : List Member) → IsOrdered (entries ms) → put_all (entries ms) parsed.no_members ≡ members_view ms
 put_as_they_stand ms ordered = all_end (entries ms) [] (starts (entries ms) (up_ordered (entries ms) ordered)) ∙ made_entries ms
 
+-- ---- a member that is put leaves the order
+
+abbrev BehindIn : List ℕ → Members → Type 0
+BehindIn name parsed.no_members = Unit {0}
+BehindIn name (parsed.member k d ms) = (slice_cmp nat_cmp name k ≡ Less) × BehindIn k ms
+
+abbrev AscendsIn : Members → Type 0
+AscendsIn parsed.no_members = Unit {0}
+AscendsIn (parsed.member k d ms) = BehindIn k ms
+
+pub below : (k l : List ℕ) → slice_cmp nat_cmp k l ≡ Greater → slice_cmp nat_cmp l k ≡ Less
+below k l above = nat_list_cmp_total.antisymm l k ∙ ap ordering_reverse above
+
+behind_put : (low k : List ℕ) (d : Data) (ms : Members) → BehindIn low ms → slice_cmp nat_cmp low k ≡ Less → BehindIn low (put k d ms)
+behind_put low k d parsed.no_members behind less = (less, tt)
+behind_put low k d (parsed.member l e ms) behind less = go (slice_cmp nat_cmp k l) refl (behind_put l k d ms behind.1)
+  where
+    go : (o : Ordering) → slice_cmp nat_cmp k l ≡ o → (slice_cmp nat_cmp l k ≡ Less → BehindIn l (put k d ms))
+        → BehindIn low (match_ordering o (parsed.member k d (parsed.member l e ms)) (parsed.member l d ms) (parsed.member l e (put k d ms)))
+    go Less is rest = (less, (is, behind.1))
+    go Equal is rest = behind
+    go Greater is rest = (behind.0, rest (below k l is))
+
+up_put : (k : List ℕ) (d : Data) (ms : Members) → AscendsIn ms → AscendsIn (put k d ms)
+up_put k d parsed.no_members up = tt
+up_put k d (parsed.member l e ms) up = go (slice_cmp nat_cmp k l) refl
+  where
+    go : (o : Ordering) → slice_cmp nat_cmp k l ≡ o → AscendsIn (match_ordering o (parsed.member k d (parsed.member l e ms)) (parsed.member l d ms) (parsed.member l e (put k d ms)))
+    go Less is = (is, up)
+    go Equal is = up
+    go Greater is = behind_put l k d ms up (below k l is)
+
+behind_in : (name : List ℕ) (ms : List Member) → Behind name (entries ms) → BehindIn name (members_view ms)
+behind_in name [] behind = tt
+behind_in name (m ∷ ms) behind = (behind.0, behind_in m.0.now ms behind.1)
+
+in_behind : (name : List ℕ) (ms : List Member) → BehindIn name (members_view ms) → Behind name (entries ms)
+in_behind name [] behind = tt
+in_behind name (m ∷ ms) behind = (behind.0, in_behind m.0.now ms behind.1)
+
+up_in : (ms : List Member) → Ascends (entries ms) → AscendsIn (members_view ms)
+up_in [] up = tt
+up_in (m ∷ ms) up = behind_in m.0.now ms up
+
+in_up : (ms : List Member) → AscendsIn (members_view ms) → Ascends (entries ms)
+in_up [] up = tt
+in_up (m ∷ ms) up = in_behind m.0.now ms up
+
+pub put_ordered : (old new : List Member) (k : List ℕ) (d : Data) → members_view new ≡ put k d (members_view old) → IsOrdered (entries old) → IsOrdered (entries new)
+put_ordered old new k d is ordered = ordered_up (entries new) (in_up new (subst AscendsIn (sym is) (up_put k d (members_view old) (up_in old (up_ordered (entries old) ordered)))))
+
+-- ---- names before those that are left
+
 up_at_none : (before : Option (Bor (List ℕ))) → MatchOption before (Ascends (entries [])) (λ b. Behind b.now (entries []))
 up_at_none None = tt
 up_at_none (Some b) = tt
@@ -118,6 +171,14 @@ up_at_none (Some b) = tt
 -- behind the last member no name is left
 pub up_at_end : (before : Option (Bor (List ℕ))) (ms : List Member) (i : ℕ) → length ms ≤ i → MatchOption before (Ascends (entries (drop i ms))) (λ b. Behind b.now (entries (drop i ms)))
 up_at_end before ms i past = subst (λ xs. MatchOption before (Ascends (entries xs)) (λ b. Behind b.now (entries xs))) (sym (drop_of_length-le ms past)) (up_at_none before)
+
+-- a name that isn't above the one before it is out of order
+pub out_of_order : (before : Option (Bor (List ℕ))) (name : Bor (List ℕ)) (ms : List Member) (i : ℕ) (m : Member) → before ≡ Some name → i < length ms → m ≡ get_or ms i m → true ≡ is_ge (slice_cmp nat_cmp name.now m.0.now)
+    → MatchOption before (Ascends (entries (drop i ms))) (λ b. Behind b.now (entries (drop i ms))) → IsTrue false
+out_of_order before name ms i m at within is ge up =
+    let behind : Behind name.now (entries (drop i ms)) = subst (λ o. MatchOption o (Ascends (entries (drop i ms))) (λ b. Behind b.now (entries (drop i ms)))) at up in
+    let first : Behind name.now (entries (m ∷ drop (i + 1) ms)) = subst (λ xs. Behind name.now (entries xs)) (drop_more ms i m within ∙ ap (λ x. x ∷ drop (i + 1) ms) (sym is)) behind in
+    let no : true ≡ false = ge ∙ ap is_ge first.0 in absurd (cc no)
 
 -- ---- members that are put in turn
 

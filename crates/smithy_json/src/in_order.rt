@@ -1,5 +1,5 @@
 // The members of an object in byte order of their names.
-ghost use Rattle.std.specs.Prelude.{◌≡◌, map, IfOk, OnOk, IsTrue};
+ghost use Rattle.std.specs.Prelude.{◌≡◌, ◌↔◌, Err, length, IfOk, OnOk, IsTrue};
 ghost use Rattle.serde_json.specs.Data.{no_members, put};
 ghost use Rattle.smithy_types.specs.Maps.{IsOrdered};
 ghost use Rattle.smithy_json.specs.JsonView.{view, members_view, entries};
@@ -11,29 +11,63 @@ use std::alloc::Global;
 use std::cmp::Ordering;
 use std::collections::BTreeMap;
 
-// So many members are put in order one by one; more go through a map.
+// So many members are put in their places while they are read, in whatever order they come.
 const FEW_MEMBERS: usize = 16;
+
+// For how many members there is room at first.
+const FIRST_MEMBERS: usize = 2;
+
+// Room for the first members, which many objects don't go beyond.
+fn make_room(members: &mut Vec<(&str, JsonValue<'_>)>) -> Result<(), OutOfMemory>
+    ensures { members.new.items ≡ members.old.items }
+{
+    if members.is_empty() {
+        members.try_reserve_exact(FIRST_MEMBERS)?;
+    }
+    Ok(())
+}
+
+/// Adds a member to those that were read before it, and tells whether they stand in byte order of their names, each name
+/// once. They do as long as they are few, or come in that order.
+pub(crate) fn add_member<'t>(
+    members: &mut Vec<(&'t str, JsonValue<'t>)>,
+    are_ordered: bool,
+    name: &'t str,
+    value: JsonValue<'t>,
+) -> Result<bool, OutOfMemory>
+    requires { IsTrue are_ordered → IsOrdered (entries members.old.items) }
+    ensures put { OnOk result (put_all (entries members.new.items) no_members
+        ≡ put name.now (view value.entry) (put_all (entries members.old.items) no_members)) }
+    ensures ordered { IfOk result (λ o. IsTrue o → IsOrdered (entries members.new.items)) }
+{
+    make_room(members)?;
+    if are_ordered && (members.len() < FEW_MEMBERS || belongs_last(members.as_slice(), name)) {
+        put_member(members, name, value)?;
+        return Ok(true);
+    }
+    members.push((name, value))?;
+    Ok(false)
+}
 
 /// The members in byte order of their names. Of those with one name the last value stays.
 pub(crate) fn in_order<'t>(
     alloc: Global,
     members: Vec<(&'t str, JsonValue<'t>)>,
+    are_ordered: bool,
 ) -> Result<Vec<(&'t str, JsonValue<'t>)>, OutOfMemory>
+    requires { IsTrue are_ordered → IsOrdered (entries members.items) }
     ensures { IfOk result (λ v. members_view v.items ≡ put_all (entries members.entry.items) no_members) }
 {
-    if are_ascending(members.as_slice()) {
-        return Ok(members);
-    }
-    if members.len() <= FEW_MEMBERS {
-        few_in_order(alloc, members)
+    if are_ordered {
+        Ok(members)
     } else {
-        many_in_order(alloc, members)
+        sorted(alloc, members)
     }
 }
 
 /// Whether each name stands before the next in byte order. Takes no memory.
 pub fn are_ascending(members: &[(&str, JsonValue<'_>)]) -> bool
-    ensures { IsTrue result → IsOrdered (entries members.now) }
+    ensures { IsTrue result ↔ IsOrdered (entries members.now) }
 {
     let mut before = None;
     'names: for member in members {
@@ -47,17 +81,15 @@ pub fn are_ascending(members: &[(&str, JsonValue<'_>)]) -> bool
     true
 }
 
-fn few_in_order<'t>(
-    alloc: Global,
-    members: Vec<(&'t str, JsonValue<'t>)>,
-) -> Result<Vec<(&'t str, JsonValue<'t>)>, OutOfMemory>
-    ensures { IfOk result (λ v. members_view v.items ≡ put_all (entries members.entry.items) no_members) }
+// Whether a name belongs behind the last member.
+fn belongs_last(members: &[(&str, JsonValue<'_>)], name: &str) -> bool
+    ensures { IsTrue result → IsOrdered (entries members.now)
+        → place_of name.now (entries members.now) ≡ Err (length members.now) }
 {
-    let mut found = Vec::with_capacity(alloc, members.len())?;
-    'members: for (name, value) in members {
-        put_member(&mut found, name, value)?;
+    match members.last() {
+        Some(last) => matches!(name.cmp(last.0), Ordering::Greater),
+        None => true,
     }
-    Ok(found)
 }
 
 // Where a name stands among members in byte order, or where it would.
@@ -80,9 +112,15 @@ fn put_member<'t>(
     name: &'t str,
     value: JsonValue<'t>,
 ) -> Result<(), OutOfMemory>
-    ensures { OnOk result
+    requires { IsOrdered (entries members.old.items) }
+    ensures put { OnOk result
         (members_view members.new.items ≡ put name.now (view value.entry) (members_view members.old.items)) }
+    ensures ordered { OnOk result (IsOrdered (entries members.new.items)) }
 {
+    if belongs_last(members.as_slice(), name) {
+        members.push((name, value))?;
+        return Ok(());
+    }
     match place_of(members.as_slice(), name) {
         Ok(place) => members[place] = (name, value),
         Err(place) => members.insert(place, (name, value))?,
@@ -90,7 +128,8 @@ fn put_member<'t>(
     Ok(())
 }
 
-fn many_in_order<'t>(
+// The same, through a map.
+fn sorted<'t>(
     alloc: Global,
     members: Vec<(&'t str, JsonValue<'t>)>,
 ) -> Result<Vec<(&'t str, JsonValue<'t>)>, OutOfMemory>

@@ -4,17 +4,16 @@ ghost use Rattle.json.specs.Json.{value, items, members};
 ghost use Rattle.serde_json.specs.Data.{no_members};
 ghost use Rattle.serde_json.specs.Read.{of_json, of_items, of_members, converted, read};
 ghost use Rattle.smithy_json.specs.FromText.{json_of};
-ghost use Rattle.smithy_json.specs.JsonView.{view, items_view, entries};
-ghost use Rattle.smithy_json.specs.PutMembers.{put_all};
+ghost use Rattle.smithy_json.specs.JsonView.{view, items_view, members_view};
 ghost use Rattle.smithy_json.specs.Reads.{Reads};
 
 use crate::error::JsonError;
-use crate::in_order::in_order;
+use crate::in_order::{add_member, in_order};
 use crate::numbers::number_of;
 use crate::value::JsonValue;
 use json::{Reader, Scratch, Token};
+use simdutf8::compat::from_utf8;
 use std::alloc::Global;
-use std::str::from_utf8;
 
 // So deep arrays and objects may nest.
 const MAX_DEPTH: usize = 127;
@@ -84,8 +83,7 @@ fn next_value<'t>(
         }
         Token::BeginObject => {
             let depth = below(depth)?;
-            let members = next_members(alloc, reader, depth)?;
-            Ok(JsonValue::Object(in_order(alloc, members)?))
+            Ok(JsonValue::Object(next_members(alloc, reader, depth)?))
         }
         Token::EndObject | Token::EndArray | Token::Key(_) | Token::Bad => {
             Err(JsonError::Unreadable)
@@ -128,7 +126,7 @@ fn next_items<'t>(
     Ok(found)
 }
 
-// The members up to the end of an object, as they stand.
+// The members up to the end of an object, in byte order of their names.
 #[cycle(value)]
 #[inline(never)]
 fn next_members<'t>(
@@ -139,16 +137,17 @@ fn next_members<'t>(
     ensures members { IfOk result
         (λ v. converted (λ ms. of_members ms no_members)
         (members (value depth) (length reader.old) reader.old)
-        ≡ Some (put_all (entries v.items) no_members, reader.new)) }
+        ≡ Some (members_view v.items, reader.new)) }
     ensures shorter { OnOk result (length reader.new < length reader.old) }
     ensures refused { IsErrOf result JsonError.Unreadable
         → converted (λ ms. of_members ms no_members)
         (members (value depth) (length reader.old) reader.old) ≡ None }
 {
     let mut found = Vec::new(alloc);
+    let mut are_ordered = true;
     'members: while let Some(name) = reader.next_key()? {
         let member = next_value(alloc, reader, depth)?;
-        found.push((name, member))?;
+        are_ordered = add_member(&mut found, are_ordered, name, member)?;
     }
-    Ok(found)
+    Ok(in_order(alloc, found, are_ordered)?)
 }

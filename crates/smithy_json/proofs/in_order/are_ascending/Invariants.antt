@@ -1,4 +1,4 @@
-use Rattle.std.proofs.Common.{drop, MatchOption}
+use Rattle.std.proofs.Common.{drop, MatchOption, ◌↔◌}
 use Rattle.smithy_json.specs.JsonView.{entries}
 use Rattle.smithy_json.proofs.OrderLemmas.{Behind, Ascends}
 use Rattle.smithy_json.proofs.in_order.are_ascending.Given as goal
@@ -7,4 +7,4 @@ use Rattle.smithy_json.proofs.in_order.are_ascending.Given as goal
 abbrev pub invariant-names : goal.invariant-names
 invariant-names l =
     let rest = entries (drop l.member-index l.members) in
-    MatchOption l.before (Ascends rest) (λ b. Behind b.now rest) → Ascends (entries l.members)
+    MatchOption l.before (Ascends rest) (λ b. Behind b.now rest) ↔ Ascends (entries l.members)

@@ -6,7 +6,5 @@ use Rattle.smithy_json.specs.PutMembers.{put_all}
 use Rattle.smithy_json.proofs.OrderLemmas.{put_as_they_stand}
 use Rattle.smithy_json.proofs.in_order.in_order.Goals as goal
 
-pub returns-then-are_ascending : goal.returns-then-are_ascending
-returns-then-are_ascending c =
-    let ascends : IsOrdered (entries c.as_slice.result.now) = c.are_ascending.ensures c.if-are_ascending.true in
-    sym (put_as_they_stand c.args.members.items (subst (λ ms. IsOrdered (entries ms)) c.as_slice.ensures.value ascends))
+pub returns-then-are_ordered : goal.returns-then-are_ordered
+returns-then-are_ordered c = sym (put_as_they_stand c.args.members.items (c.requires c.if-are_ordered.true))

@@ -1,9 +1,11 @@
-use Rattle.std.proofs.Common.{◌≡◌, ◌-◌, ◌<◌, [], length, Some, None, sym, ap, ◌∙◌, arith}
+use Rattle.std.proofs.Common.{◌≡◌, subst, ◌-◌, ◌<◌, [], length, Some, None, sym, ap, ◌∙◌, arith}
 use Rattle.json.specs.Json.{parse_map, after_end_array, read_key, items, members, value}
 use Rattle.json.proofs.Grammar.{value_is, read_key-shorter}
-use Rattle.serde_json.specs.Data.{array, object, no_members}
+use Rattle.serde_json.specs.Data.{Data, array, object, no_members}
 use Rattle.serde_json.specs.Read.{of_json, of_items, of_members, converted}
+use Rattle.smithy_json.proofs.OrderLemmas.{ordered_up}
 use Rattle.smithy_json.proofs.GrammarLemmas.{item_read, item_refused, items_over, member_read, member_refused, key_refused, members_over}
+use Rattle.smithy_types.specs.Maps.{IsOrdered}
 use Rattle.smithy_json.specs.JsonView.{view, entries}
 use Rattle.smithy_json.specs.PutMembers.{put_all}
 use Rattle.smithy_json.proofs.ReadingLemmas.{view-Array, view-Object, null_read, truth_read, text_read, number_read, number_refused, array_read, array_too_deep, object_read, object_too_deep, behind_items, behind_items-none, one_item_more, behind_nothing, one_put}
@@ -49,26 +51,28 @@ next_items-returns-clause-items t c =
 
 pub next_members-members-init : goal.next_members-members-init
 next_members-members-init t c =
-    let all = members (value c.args.depth) (length c.args.reader.now) c.args.reader.now in
-    (length c.args.reader.now, omega arith, ap (λ vs. converted (λ ms. of_members ms (put_all (entries vs) no_members)) all) (sym c.new-found.ensures.items), omega arith)
+    let all = members (value c.args.depth) (length c.args.reader.now) c.args.reader.now in (
+      (length c.args.reader.now, omega arith, ap (λ vs. converted (λ ms. of_members ms (put_all (entries vs) no_members)) all) (sym c.new-found.ensures.items), omega arith),
+      λ _. subst (λ vs. IsOrdered (entries vs)) (sym c.new-found.ensures.items) (ordered_up {X = Data} [] tt),
+    )
 
 pub next_members-returns-in_err-name-clause-refused : goal.next_members-returns-in_err-name-clause-refused
 next_members-returns-in_err-name-clause-refused t c refused =
     let l = c.members in
-    l.invariant.2 ∙ key_refused (value c.args.depth) (put_all (entries l.found.items) no_members) l.invariant.0 l.reader c.in_err-name.ensures.value
+    l.invariant.0.2 ∙ key_refused (value c.args.depth) (put_all (entries l.found.items) no_members) l.invariant.0.0 l.reader c.in_err-name.ensures.value
 
 pub next_members-returns-in_err-member-clause-refused : goal.next_members-returns-in_err-member-clause-refused
 next_members-returns-in_err-member-clause-refused t c refused =
     let l = c.members in
     let named : read_key l.reader ≡ Some (Some c.in-Some.name.now, c.next_key.new.self) = grind arith in
-    l.invariant.2
-    ∙ member_refused (value c.args.depth) (put_all (entries l.found.items) no_members) l.invariant.0 l.reader c.in-Some.name.now c.next_key.new.self named (c.next_value.ensures.refused (grind arith))
+    l.invariant.0.2
+    ∙ member_refused (value c.args.depth) (put_all (entries l.found.items) no_members) l.invariant.0.0 l.reader c.in-Some.name.now c.next_key.new.self named (c.next_value.ensures.refused (grind arith))
 
 pub next_members-members-preserved : goal.next_members-members-preserved
 next_members-members-preserved t c =
     let p = value c.args.depth in
     let l = c.members in
-    let n = l.invariant.0 in
+    let n = l.invariant.0.0 in
     let put = put_all (entries l.found.items) no_members in
     let name = c.in-Some.name in
     let named : read_key l.reader ≡ Some (Some name.now, c.next_key.new.self) = grind arith in
@@ -77,18 +81,22 @@ next_members-members-preserved t c =
     let rest = c.next_value.new.reader in
     let fewer = read_key-shorter l.reader (Some name.now) c.next_key.new.self named in
     let fewest = member.shorter in (
-      n - 1,
-      omega (arith, l.invariant.1, fewer, fewest),
-      l.invariant.2 ∙ member_read p put n l.reader name.now c.next_key.new.self rest (view v) (omega (arith, l.invariant.1, fewer)) named member.value
-          ∙ ap (λ found. converted (λ ms. of_members ms found) (members p (n - 1) rest)) (sym (one_put l.found.items (name, v)))
-          ∙ ap (λ vs. converted (λ ms. of_members ms (put_all (entries vs) no_members)) (members p (n - 1) rest)) (sym c.in_ok-push.ensures.items),
-      omega (arith, l.invariant.3, fewer, fewest),
+      (
+        n - 1,
+        omega (arith, l.invariant.0.1, fewer, fewest),
+        l.invariant.0.2 ∙ member_read p put n l.reader name.now c.next_key.new.self rest (view v) (omega (arith, l.invariant.0.1, fewer)) named member.value
+            ∙ ap (λ found. converted (λ ms. of_members ms found) (members p (n - 1) rest)) (sym c.in_ok-are_ordered.ensures.put),
+        omega (arith, l.invariant.0.3, fewer, fewest),
+      ),
+      c.in_ok-are_ordered.ensures.ordered,
     )
 
 pub next_members-returns-clause-members : goal.next_members-returns-clause-members
 next_members-returns-clause-members t c =
     let l = c.members in
-    l.invariant.2 ∙ members_over (value c.args.depth) (put_all (entries l.found.items) no_members) l.invariant.0 l.reader c.next_key.new.self l.invariant.1 (grind arith)
+    let rest = c.next_key.new.self in
+    l.invariant.0.2 ∙ members_over (value c.args.depth) (put_all (entries l.found.items) no_members) l.invariant.0.0 l.reader rest l.invariant.0.1 (grind arith)
+    ∙ ap (λ ms. Some (ms, rest)) (sym c.in_ok-in_order.ensures)
 
 pub next_value-returns-in_default-clause-refused : goal.next_value-returns-in_default-clause-refused
 next_value-returns-in_default-clause-refused t c refused =
@@ -134,13 +142,12 @@ pub next_value-returns-in_err-depth-in-BeginObject-clause-refused : goal.next_va
 next_value-returns-in_err-depth-in-BeginObject-clause-refused t c refused =
     object_too_deep _ _ _ c.in-Some.token c.in-Some.ensures.value c.in-BeginObject.is (c.below-in-BeginObject.ensures.none (grind arith))
 
-pub next_value-returns-in_err-members-in-BeginObject-clause-refused : goal.next_value-returns-in_err-members-in-BeginObject-clause-refused
-next_value-returns-in_err-members-in-BeginObject-clause-refused t c refused =
+pub next_value-returns-in_err-next_members-in-BeginObject-clause-refused : goal.next_value-returns-in_err-next_members-in-BeginObject-clause-refused
+next_value-returns-in_err-next_members-in-BeginObject-clause-refused t c refused =
     object_read _ _ _ c.in-Some.token c.in-Some.ensures.value _ c.in-BeginObject.is c.in_ok-depth-in-BeginObject.ensures.ok ∙ ap (parse_map object) (c.next_members.ensures.refused (grind arith))
 
-pub next_value-returns-in_ok-in_order-in-BeginObject-clause-value : goal.next_value-returns-in_ok-in_order-in-BeginObject-clause-value
-next_value-returns-in_ok-in_order-in-BeginObject-clause-value t c =
-    let put = c.in_ok-members-in-BeginObject in
-    let found = c.in_ok-in_order-in-BeginObject in
-    object_read _ _ _ c.in-Some.token c.in-Some.ensures.value _ c.in-BeginObject.is c.in_ok-depth-in-BeginObject.ensures.ok ∙ ap (parse_map object) put.ensures.members
-    ∙ ap (λ ms. Some (object ms, c.next_members.new.reader)) (sym found.ensures) ∙ ap (λ d. Some (d, c.next_members.new.reader)) (sym (view-Object found.field-0))
+pub next_value-returns-in_ok-next_members-in-BeginObject-clause-value : goal.next_value-returns-in_ok-next_members-in-BeginObject-clause-value
+next_value-returns-in_ok-next_members-in-BeginObject-clause-value t c =
+    let found = c.in_ok-next_members-in-BeginObject in
+    object_read _ _ _ c.in-Some.token c.in-Some.ensures.value _ c.in-BeginObject.is c.in_ok-depth-in-BeginObject.ensures.ok ∙ ap (parse_map object) found.ensures.members
+    ∙ ap (λ d. Some (d, c.next_members.new.reader)) (sym (view-Object found.field-0))

@@ -1,7 +1,8 @@
-use Rattle.std.proofs.Common.{◌≡◌, ℕ, ◌+◌, ◌*◌, ◌≤◌, length}
+use Rattle.std.proofs.Common.{◌≡◌, IsTrue, ℕ, ◌+◌, ◌*◌, ◌≤◌, length}
 use Rattle.json.specs.Json.{items, members, value, parse_map}
 use Rattle.serde_json.specs.Data.{no_members}
 use Rattle.serde_json.specs.Read.{of_items, of_members, converted}
+use Rattle.smithy_types.specs.Maps.{IsOrdered}
 use Rattle.smithy_json.specs.JsonView.{entries}
 use Rattle.smithy_json.specs.PutMembers.{put_all}
 use Rattle.smithy_json.proofs.ReadingLemmas.{behind_items}
@@ -28,10 +29,11 @@ decreases-next_items-items l = length l.reader
 
 abbrev pub invariant-next_members-members : goal.invariant-next_members-members
 invariant-next_members-members l =
-    (n : ℕ) × (length l.reader ≤ n)
+    ((n : ℕ) × (length l.reader ≤ n)
     × (converted (λ ms. of_members ms no_members) (members (value l.depth) (length l.initial.reader) l.initial.reader)
     ≡ converted (λ ms. of_members ms (put_all (entries l.found.items) no_members)) (members (value l.depth) n l.reader))
-    × (length l.reader ≤ length l.initial.reader)
+    × (length l.reader ≤ length l.initial.reader))
+    × (IsTrue l.are_ordered → IsOrdered (entries l.found.items))
 
 abbrev pub decreases-next_members-members : goal.decreases-next_members-members
 decreases-next_members-members l = length l.reader

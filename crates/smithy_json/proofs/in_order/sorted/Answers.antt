@@ -1,7 +1,7 @@
 use Rattle.std.proofs.Common.{◌≡◌, ◌∷◌, ap, ◌∙◌, rules}
 use Rattle.smithy_json.specs.JsonView.{members_view}
 use Rattle.smithy_json.proofs.OrderLemmas.{one_fed, entry_put}
-use Rattle.smithy_json.proofs.in_order.many_in_order.Goals as goal
+use Rattle.smithy_json.proofs.in_order.sorted.Goals as goal
 
 pub members-preserved : goal.members-preserved
 members-preserved c =
