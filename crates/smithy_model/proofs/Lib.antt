@@ -11,4 +11,5 @@ pub mod ReachedLemmas
 pub mod Reading
 pub mod SpotLemmas
 pub mod TableLemmas
+pub mod TraitNames
 pub mod Views

@@ -75,12 +75,13 @@ fn has_form(id: &str, value: &JsonValue<'_>) -> bool
     true
 }
 
-// Whether an entry of traits has a full name, and a value of its trait's form.
+// Whether an entry of traits has a full name, as each trait with a field of its own has, and a value of its trait's form.
 #[inline(always)]
-fn is_fit(given: &(&str, JsonValue<'_>)) -> bool
+fn is_fit(given: &(&str, JsonValue<'_>), is_named: bool) -> bool
+    requires { is_named ≡ is_named_trait given.now.0.now }
     ensures { result ≡ is_fit_trait (entry_of given.now) }
 {
-    is_full_name(given.0) && has_form(given.0, &given.1)
+    (is_named || is_full_name(given.0)) && has_form(given.0, &given.1)
 }
 
 /// No traits.
@@ -143,10 +144,11 @@ fn plain_traits<'t>(members: &[(&'t str, JsonValue<'t>)]) -> Option<(Traits<'t>,
     let mut traits = Traits::NONE;
     let mut are_named = true;
     for member in members {
-        if !is_fit(member) {
+        let is_named = add_trait(&mut traits, member.0, &member.1);
+        if !is_fit(member, is_named) {
             return None;
         }
-        are_named = add_trait(&mut traits, member.0, &member.1) && are_named;
+        are_named = is_named && are_named;
     }
     Some((traits, are_named))
 }
