@@ -41,9 +41,8 @@ fn values_have_documents(rt: HostRuntime) {
     };
     let truth = document_of(alloc, truth).expect(&rt, "no document");
     assert_eq!(rt; truth.as_bool(), Some(true));
-    for without in [float, &value] {
-        assert!(rt; matches!(document_of(alloc, without), Err(JsonError::Unreadable)));
-    }
+    assert!(rt; matches!(document_of(alloc, float), Err(JsonError::Unreadable)));
+    assert!(rt; matches!(document_of(alloc, &value), Err(JsonError::Unreadable)));
 }
 
 #[test]

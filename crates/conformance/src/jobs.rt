@@ -1,6 +1,6 @@
 // Jobs, from bytes to bytes: runs over sources and sinks in memory.
 use smithy_bind::laws::run_in_memory;
-use smithy_bind::{Status, run};
+use smithy_bind::{Command, Scratch, Status, answer_bytes, answer_bytes_over, run};
 use smithy_io::{MemorySink, MemorySource, Source, SureSink, SureSource};
 use smithy_types::{Blob, Longs, OutOfMemory, Words};
 use std::alloc::Global;
@@ -60,6 +60,32 @@ fn answers(
     let found = run_of(alloc, &["request"], job.as_bytes())?;
     assert_eq!(rt; found.status, status, "{job}");
     assert_eq!(rt; found.written.as_slice(), text.as_bytes(), "{job}");
+    Ok(())
+}
+
+// Bytes that are at hand, over one scratch and by themselves; the second job has an escape in a text, the third is none.
+#[test]
+fn answers_bytes_at_hand(rt: HostRuntime) -> Result<(), Fail> {
+    let alloc = rt.alloc();
+    let escaped =
+        r#""operation":"ex#Get","input":[["Bucket","b"],["Key","x/y\u0020z"],["Max",3],["Id",7]]"#;
+    let rows = [
+        (ASKED, Status::Done, REQUEST),
+        (escaped, Status::Done, REQUEST),
+        ("", Status::Job, ""),
+        (ASKED, Status::Done, REQUEST),
+    ];
+    let mut scratch = Scratch::new(alloc);
+    for (asked, status, text) in rows {
+        let job = job_of(alloc, GET, GET_IN, asked)?;
+        let bytes = job.as_bytes();
+        let over = answer_bytes_over(alloc, &mut scratch, Command::Request, bytes);
+        assert_eq!(rt; over.status, status, "{job}");
+        assert_eq!(rt; over.text.as_slice(), text.as_bytes(), "{job}");
+        let alone = answer_bytes(alloc, Command::Request, bytes);
+        assert_eq!(rt; alone.status, status, "{job}");
+        assert_eq!(rt; alone.text.as_slice(), text.as_bytes(), "{job}");
+    }
     Ok(())
 }
 

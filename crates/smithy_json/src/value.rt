@@ -5,8 +5,8 @@ ghost use Rattle.smithy_json.specs.JsonView.{view, items_view, members_view};
 
 use serde_json::Number;
 
-/// A value of JSON (RFC 8259), which borrows its texts. The members of an object stand in byte order of their names, each
-/// name once.
+/// A value of JSON (RFC 8259), which borrows its texts. Of a text that was read the members of an object stand in byte order
+/// of their names, each name once.
 #[derive(Drop)]
 pub enum JsonValue<'t> {
     Null,
