@@ -1,5 +1,5 @@
 // Each call, recorded; writers and structures, recorded.
-ghost use Rattle.std.specs.Prelude.{◌≡◌};
+ghost use Rattle.std.specs.Prelude.{◌≡◌, OnOk};
 ghost use Rattle.smithy_schema.specs.References.{schema_of};
 ghost use Rattle.smithy_serde.specs.Values.{scalar, text, write};
 ghost use Rattle.smithy_serde.specs.Told.{one_write};
@@ -195,17 +195,33 @@ fn one_word(rt: &impl Abort, alloc: Global) -> OneWord {
     }
 }
 
+// Tells the word as each group.
+fn tell_groups(serializer: &mut dyn ShapeSerializer, one: &OneWord) -> Result<(), SerdeError>
+    ensures { OnOk result ((seen serializer.new).lists ≡ (seen serializer.old).lists) }
+{
+    let node = SchemaRef::prelude(ShapeType::Document);
+    write_list(serializer, node, one)?;
+    write_list_with_length(serializer, node, 1, one)?;
+    write_map(serializer, node, one)?;
+    write_map_with_length(serializer, node, 1, one)?;
+    write_struct(serializer, node, one)?;
+    Ok(())
+}
+
+// The same, told to a recorder.
+fn record_groups(to: &mut Recorder, one: &OneWord) -> Result<(), SerdeError>
+    ensures { OnOk result (open_count to.new ≡ open_count to.old) }
+{
+    tell_groups(to, one)?;
+    Ok(())
+}
+
 #[test]
 fn groups_are_opened_told_and_closed(rt: HostRuntime) {
     let alloc = rt.alloc();
     let one = one_word(&rt, alloc);
-    let node = SchemaRef::prelude(ShapeType::Document);
     let mut to = Recorder::new(alloc);
-    write_list(&mut to, node, &one).expect(&rt, "refused");
-    write_list_with_length(&mut to, node, 1, &one).expect(&rt, "refused");
-    write_map(&mut to, node, &one).expect(&rt, "refused");
-    write_map_with_length(&mut to, node, 1, &one).expect(&rt, "refused");
-    write_struct(&mut to, node, &one).expect(&rt, "refused");
+    record_groups(&mut to, &one).expect(&rt, "refused");
     let text = shown(&rt, alloc, to);
     assert_eq!(rt;
         text.as_str(),
