@@ -6,7 +6,6 @@ use Rattle.std.specs.Cmp.Lexicographic.{slice_cmp}
 use Rattle.std.specs.List.{AllByRecursion}
 use Rattle.std.proofs.lemmas.Bool.{and_parts, and_from}
 use Rattle.std.proofs.lemmas.Cmp.{nat_list_cmp_total}
-use Rattle.serde_json.specs.Read.{read}
 use Rattle.serde_json.specs.Data as parsed
 use Rattle.serde_json.specs.Data.{Num, Data}
 use Rattle.smithy_types.specs.Documents as doc
@@ -15,6 +14,7 @@ use Rattle.smithy_serde.specs.Lawful.{is_canonical, are_items_canonical, are_mem
 use Rattle.smithy_serde.specs.Ranges.{is_before}
 use Rattle.smithy_json.specs.FromData.{number_of_data, of_data, items_of_data, pairs_of_data}
 use Rattle.smithy_json.specs.FromText.{json_of, document_of_text}
+use Rattle.smithy_json.proofs.OptionLemmas.{mapped, joined}
 use Rattle.smithy_document.specs.InOrder.{is_in_order, are_items_in_order, are_members_in_order, is_read}
 use Rattle.smithy_document.proofs.PartLemmas.{IsCanonical, IsInOrder, member_ordered}
 
@@ -66,16 +66,6 @@ all_put_read [] ms h j = j
 all_put_read (p ∷ ps) ms h j = all_put_read ps (put p.0 p.1 ms) h.1 (put_read p.0 p.1 ms h.0 j)
 
 -- ---- data
-
-mapped : {A B : Type 0} (P : A → Type 0) (Q : B → Type 0) (f : A → B) → ((x : A) → P x → Q (f x)) → (o : Option A) → IfSome o P → IfSome (option_map f o) Q
-mapped P Q f step None h = tt
-mapped P Q f step (Some x) h = step x h
-
-joined : {A B C : Type 0} (P : A → Type 0) (Q : B → Type 0) (R : C → Type 0) (f : A → B → C) → ((x : A) (y : B) → P x → Q y → R (f x y)) → (o : Option A) (p : Option B) → IfSome o P → IfSome p Q
-    → IfSome (option_and_then (λ x. option_map (f x) p) o) R
-joined P Q R f step None p h j = tt
-joined P Q R f step (Some x) None h j = tt
-joined P Q R f step (Some x) (Some y) h j = step x y h j
 
 number_read : (n : Num) → IfSome (option_map doc.number (number_of_data n)) IsRead
 number_read (parsed.unsigned n) = (refl, refl)

@@ -1,16 +1,10 @@
--- Trees of JSON made into documents, and documents into trees.
-use Rattle.std.proofs.Common.{◌≡◌, ℕ, zero, suc, ◌+◌, ◌<◌, ◌≤◌, List, [], ◌∷◌, ◌++◌, length, get_or, take, drop, map, IsTrue, refl, sym, ap, ap₂, ◌∙◌, append_assoc, arith, rules}
+-- Trees of JSON made into documents, and trees whose texts grow.
+use Rattle.std.proofs.Common.{◌≡◌, ℕ, zero, suc, ◌+◌, ◌<◌, ◌≤◌, List, [], ◌∷◌, ◌++◌, length, get_or, take, drop, map, IsTrue, refl, sym, ap, ap₂, ◌∙◌, append_assoc, arith}
 use Rattle.std.proofs.lemmas.Bool.{and_parts}
 use Rattle.std.proofs.lemmas.List.{drop_more, take_more, map-append, append-nil}
 use Rattle.std.proofs.Math.ListN.{drop_of_length-le}
 use Rattle.smithy_types.specs.Documents as doc
 use Rattle.smithy_types.specs.Documents.{Document, Members, nesting, items_nesting, members_nesting, items_of, items_snoc, put, put_all, list_of_members}
-use Rattle.smithy_types.specs.DocumentView.{view, items_view, members_view}
-use Rattle.smithy_types.specs.declared.document.Document.{the_lemmas}
-use Rattle.smithy_types.specs.declared.document.Document.TheVariants as code
-use Rattle.smithy_types.specs.declared.document.Documents.{Documents}
-use Rattle.smithy_types.specs.declared.document.Members.{Members as MemberMap}
-use Rattle.smithy_types.specs.declared.text.Text.{Text}
 use Rattle.smithy_types.proofs.Views.{items_of-snoc}
 use Rattle.smithy_document.specs.declared.json_tree.Node.{Node}
 use Rattle.smithy_document.specs.InOrder.{is_in_order, are_items_in_order, are_members_in_order}
@@ -71,7 +65,7 @@ put_field texts done all fs i f within is h = rw (drop_more fs i f within, ← i
 pub put_all_fields : (texts : List (List ℕ)) (done all : Members) (fs : List Field) (i : ℕ) → length fs ≤ i → put_fields texts (drop i fs) done ≡ all → done ≡ all
 put_all_fields texts done all fs i past h = rw (drop_of_length-le fs past) at h
 
--- ---- nodes of documents
+-- ---- texts that grow
 
 abbrev Texts : Type 0
 Texts = List (List ℕ)
@@ -107,12 +101,3 @@ field_stays old mid new k place n d is at g h =
 pub fields_from : (texts : Texts) (fs : List Field) → fields_view texts fs ≡ members_from (map (field_view texts) fs)
 fields_from texts [] = refl
 fields_from texts (f ∷ fs) = ap (doc.member (text_at texts f.0) (node_view texts f.1)) (fields_from texts fs)
-
-pub view-String : (t : Text) → view (code.String t) ≡ doc.string t
-view-String t = search (rules, the_lemmas)
-
-pub view-Array : (ds : Documents) → view (code.Array ds) ≡ doc.array (items_view ds)
-view-Array ds = search (rules, the_lemmas)
-
-pub view-Object : (ms : MemberMap) → view (code.Object ms) ≡ doc.object (members_view ms)
-view-Object ms = search (rules, the_lemmas)

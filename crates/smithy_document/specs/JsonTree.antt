@@ -1,5 +1,5 @@
 -- The document that a tree of JSON is.
-use Rattle.std.specs.Prelude.{◌≡◌, ℕ, List, [], ◌∷◌, ◌++◌, map, slice_get, Option, option_map}
+use Rattle.std.specs.Prelude.{◌≡◌, ℕ, List, [], ◌∷◌, ◌++◌, map, slice_get, Option, Some, option_map}
 use Rattle.std.specs.Option.{option_map_or, unwrap_or}
 use Rattle.smithy_types.specs.Documents as doc
 use Rattle.smithy_types.specs.Documents.{Document}
@@ -54,3 +54,7 @@ Grows old new = (added : List (List ℕ)) × (new ≡ old ++ added)
 -- what f sees in the texts is x, also once others are added
 abbrev pub StaysIn : {X : Type 0} → (List (List ℕ) → X) → List (List ℕ) → X → Type 0
 StaysIn f texts x = (more : List (List ℕ)) → f (texts ++ more) ≡ x
+
+-- there is one, and f sees it in the texts, also once others are added
+abbrev pub IsFound : {X : Type 0} → Option X → (List (List ℕ) → X) → List (List ℕ) → Type 0
+IsFound {X} found f texts = (x : X) × (found ≡ Some x) × StaysIn f texts x

@@ -27,16 +27,6 @@ impl Model for TextList {
 impl TextList {
     ghost use Rattle.std.specs.Prelude.{◌≡◌, ◌++◌, ◌∷◌, [], length, IfOk, OnOk, OnErr};
 
-    /// No texts. Takes no memory.
-    pub(crate) fn new(alloc: Global) -> TextList
-        ensures { result ≡ [] }
-    {
-        TextList {
-            bytes: String::new(alloc),
-            cuts: Vec::new(alloc),
-        }
-    }
-
     /// No texts, and room for so many bytes of them.
     pub(crate) fn with_capacity(alloc: Global, bytes: usize) -> Result<TextList, OutOfMemory>
         ensures { IfOk result (λ texts. texts ≡ []) }

@@ -1,12 +1,12 @@
 -- Documents, an item or a member at a time.
-use Rattle.std.proofs.Common.{◌≡◌, refl, sym, ap, ◌∙◌, ℕ, ◌+◌, ◌<◌, ◌≤◌, List, ◌∷◌, length, get_or, drop, Option, Some, None, option_map}
+use Rattle.std.proofs.Common.{◌≡◌, refl, sym, ap, ◌∙◌, ℕ, ◌+◌, ◌<◌, ◌≤◌, List, length, get_or, drop, Option, Some, None, option_map}
 use Rattle.std.proofs.lemmas.List.{drop_more}
 use Rattle.std.proofs.Math.ListN.{drop_of_length-le}
-use Rattle.smithy_json.specs.JsonView.{Member, view, items_view, members_view}
+use Rattle.smithy_json.specs.JsonView.{view, items_view}
 use Rattle.smithy_json.specs.declared.value.JsonValue.{JsonValue}
 use Rattle.smithy_types.specs.Documents as doc
 use Rattle.smithy_types.specs.Documents.{Document, Items, Members, items_snoc, put, put_all}
-use Rattle.smithy_json.specs.FromData.{of_data, items_of_data, pairs_of_data}
+use Rattle.smithy_json.specs.FromData.{of_data, items_of_data}
 
 -- items, and then others
 abbrev pub and_items : Items → Items → Items
@@ -36,28 +36,9 @@ pub items_more : (done : Items) (d : Document) (vs : List JsonValue) (i : ℕ) (
     → option_map (and_items done) (items_of_data (items_view (drop i vs))) ≡ all → option_map (and_items (items_snoc done d)) (items_of_data (items_view (drop (i + 1) vs))) ≡ all
 items_more done d vs i v all l is e h = sym (and_all done d _) ∙ (rw (drop_more vs i v l, ← is, e) at h)
 
-pub items_none : (done : Items) (vs : List JsonValue) (i : ℕ) (v : JsonValue) (all : Option Items) → i < length vs → v ≡ get_or vs i v → of_data (view v) ≡ None
-    → option_map (and_items done) (items_of_data (items_view (drop i vs))) ≡ all → all ≡ None
-items_none done vs i v all l is e h = sym (rw (drop_more vs i v l, ← is, e) at h)
-
 pub items_end : (done : Items) (vs : List JsonValue) (i : ℕ) (all : Option Items) → length vs ≤ i → option_map (and_items done) (items_of_data (items_view (drop i vs))) ≡ all → all ≡ Some done
 items_end done vs i all l h = sym (ap (λ (x : Items). Some x) (sym (and_items-none done)) ∙ (rw (drop_of_length-le vs l) at h))
 
 -- what members put into an object
 abbrev pub put_rest : Members → Option (List (List ℕ × Document)) → Option Members
 put_rest done o = option_map (λ ps. put_all ps done) o
-
-put_one : (done : Members) (k : List ℕ) (d : Document) (o : Option (List (List ℕ × Document))) → put_rest done (option_map (λ ps. (k, d) ∷ ps) o) ≡ put_rest (put k d done) o
-put_one done k d None = refl
-put_one done k d (Some ps) = refl
-
-pub fields_more : (done : Members) (d : Document) (ms : List Member) (i : ℕ) (m : Member) (all : Option Members) → i < length ms → m ≡ get_or ms i m → of_data (view m.1) ≡ Some d
-    → put_rest done (pairs_of_data (members_view (drop i ms))) ≡ all → put_rest (put m.0.now d done) (pairs_of_data (members_view (drop (i + 1) ms))) ≡ all
-fields_more done d ms i m all within is found h = sym (put_one done m.0.now d _) ∙ (rw (drop_more ms i m within, ← is, found) at h)
-
-pub fields_none : (done : Members) (ms : List Member) (i : ℕ) (m : Member) (all : Option Members) → i < length ms → m ≡ get_or ms i m → of_data (view m.1) ≡ None
-    → put_rest done (pairs_of_data (members_view (drop i ms))) ≡ all → all ≡ None
-fields_none done ms i m all within is found h = sym (rw (drop_more ms i m within, ← is, found) at h)
-
-pub fields_end : (done : Members) (ms : List Member) (i : ℕ) (all : Option Members) → length ms ≤ i → put_rest done (pairs_of_data (members_view (drop i ms))) ≡ all → all ≡ Some done
-fields_end done ms i all past h = sym (rw (drop_of_length-le ms past) at h)

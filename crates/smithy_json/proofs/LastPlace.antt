@@ -1,12 +1,17 @@
 -- A name that belongs behind the last of members in byte order.
-use Rattle.std.proofs.Common.{◌≡◌, sym, ap, ◌∙◌, ℕ, zero, suc, ◌-◌, ◌<◌, arith, List, [], ◌∷◌, length, get_or, Err, Less, Greater, nat_cmp, refl}
-use Rattle.std.specs.Ordering.{match_ordering, ordering_reverse}
+use Rattle.std.proofs.Common.{◌≡◌, sym, ap, ◌∙◌, ℕ, zero, suc, ◌-◌, arith, List, [], ◌∷◌, length, get_or, Err, true, Ordering, Less, Equal, Greater, nat_cmp, refl}
+use Rattle.std.specs.Ordering.{is_gt, ordering_reverse}
 use Rattle.std.specs.Cmp.Lexicographic.{slice_cmp}
 use Rattle.std.proofs.lemmas.Cmp.{nat_list_cmp_total}
 use Rattle.smithy_types.specs.Maps.{IsOrdered}
 use Rattle.smithy_json.specs.JsonView.{Member, entries}
 use Rattle.smithy_json.specs.PutMembers.{further, place_of}
 use Rattle.smithy_json.proofs.OrderLemmas.{Entry, Under, Ascends, up_ordered}
+
+pub is_greater : (o : Ordering) → is_gt o ≡ true → o ≡ Greater
+is_greater Less h = absurd (cc h)
+is_greater Equal h = absurd (cc h)
+is_greater Greater h = refl
 
 place_under : (name : List ℕ) (es : List Entry) → Under es name → place_of name es ≡ Err (length es)
 place_under name [] under = refl

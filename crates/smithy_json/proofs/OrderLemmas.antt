@@ -8,6 +8,7 @@ use Rattle.std.specs.Map.{keys_of}
 use Rattle.std.specs.Cmp.Lexicographic.{slice_cmp, same_text as same_from_test}
 use Rattle.std.proofs.lemmas.Cmp.{nat_list_cmp_total}
 use Rattle.std.proofs.lemmas.List.{drop_more}
+use Rattle.std.proofs.lemmas.List.Edits.{insert_end}
 use Rattle.std.proofs.lemmas.Map.Text.{is_eq-slice_cmp}
 use Rattle.std.proofs.Math.ListN.{drop_of_length-le}
 use Rattle.serde_json.specs.Data as parsed
@@ -185,9 +186,6 @@ out_of_order before name ms i m at within is ge up =
 pub one_fed : (m : Member) (old new : List Member) (before after all : Members) → old ≡ m ∷ new → after ≡ put m.0.now (entry_of m).1 before → put_all (entries old) before ≡ all → put_all (entries new) after ≡ all
 one_fed m old new before after all is given h = ap (put_all (entries new)) given ∙ ap (λ ms. put_all (entries ms) before) (sym is) ∙ h
 
-pub all_fed : (rest : List Member) (found all : Members) → rest ≡ [] → put_all (entries rest) found ≡ all → found ≡ all
-all_fed rest found all is h = ap (λ ms. put_all (entries ms) found) (sym is) ∙ h
-
 -- ---- the place of a name
 
 -- so many places further on
@@ -269,6 +267,11 @@ put_between m (x ∷ ms) i e = go (slice_cmp nat_cmp m.0.now x.0.now) refl e (λ
     go Greater is h rest =
         let f = missed_place (place_of m.0.now (entries ms)) i h in
         ap (λ n. members_view (insert (x ∷ ms) n m)) f.1 ∙ ap (parsed.member x.0.now (entry_of x).1) (rest f.0 f.2)
+
+-- a member that belongs behind the others leaves the order
+pub pushed_in_order : (ms : List Member) (m : Member) → IsOrdered (entries ms) → place_of m.0.now (entries ms) ≡ Err (length ms) → IsOrdered (entries (ms ++ m ∷ []))
+pushed_in_order ms m ordered last =
+    put_ordered ms (ms ++ m ∷ []) m.0.now (entry_of m).1 (ap members_view (sym (insert_end ms m)) ∙ put_between m ms (length ms) last) ordered
 
 pub place_within : (name : List ℕ) (ms : List Member) (i : ℕ) → place_of name (entries ms) ≡ Ok i → i < length ms
 place_within name [] i e = absurd (cc e)

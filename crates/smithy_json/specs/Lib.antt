@@ -1,5 +1,6 @@
 pub mod FromData
 pub mod FromText
 pub mod JsonView
+pub mod Ordered
 pub mod PutMembers
 pub mod Reads

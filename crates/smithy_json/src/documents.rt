@@ -16,7 +16,8 @@ use serde_json::Number as JsonNumber;
 use smithy_types::{Document, Documents, Members, Number, Text};
 use std::alloc::Global;
 
-fn number_of(number: &JsonNumber) -> Option<Number>
+/// The number of a document that a number of JSON is, None where it is a float.
+pub fn whole_number(number: &JsonNumber) -> Option<Number>
     ensures { option_map number_view result ≡ number_of_data (json_number_view number.now) }
 {
     match number.as_u64() {
@@ -35,7 +36,7 @@ pub fn document_of(alloc: Global, value: &JsonValue<'_>) -> Result<Document, Jso
     match value {
         JsonValue::Null => Ok(Document::Null),
         JsonValue::Bool(truth) => Ok(Document::Bool(*truth)),
-        JsonValue::Number(number) => match number_of(number) {
+        JsonValue::Number(number) => match whole_number(number) {
             Some(number) => Ok(Document::Number(number)),
             None => Err(JsonError::Unreadable),
         },

@@ -41,7 +41,11 @@ pub(crate) fn add_member<'t>(
     ensures ordered { IfOk result (λ o. IsTrue o → IsOrdered (entries members.new.items)) }
 {
     make_room(members)?;
-    if are_ordered && (members.len() < FEW_MEMBERS || belongs_last(members.as_slice(), name)) {
+    if are_ordered && belongs_last(members.as_slice(), name) {
+        members.push((name, value))?;
+        return Ok(true);
+    }
+    if are_ordered && members.len() < FEW_MEMBERS {
         put_member(members, name, value)?;
         return Ok(true);
     }
@@ -87,7 +91,7 @@ fn belongs_last(members: &[(&str, JsonValue<'_>)], name: &str) -> bool
         → place_of name.now (entries members.now) ≡ Err (length members.now) }
 {
     match members.last() {
-        Some(last) => matches!(name.cmp(last.0), Ordering::Greater),
+        Some(last) => name > last.0,
         None => true,
     }
 }
@@ -117,10 +121,6 @@ fn put_member<'t>(
         (members_view members.new.items ≡ put name.now (view value.entry) (members_view members.old.items)) }
     ensures ordered { OnOk result (IsOrdered (entries members.new.items)) }
 {
-    if belongs_last(members.as_slice(), name) {
-        members.push((name, value))?;
-        return Ok(());
-    }
     match place_of(members.as_slice(), name) {
         Ok(place) => members[place] = (name, value),
         Err(place) => members.insert(place, (name, value))?,

@@ -8,7 +8,7 @@ mod numbers;
 mod reading;
 mod value;
 
-pub use documents::{document_of, read_document};
+pub use documents::{document_of, read_document, whole_number};
 pub use error::JsonError;
 pub use in_order::are_ascending;
 pub use json::Scratch;

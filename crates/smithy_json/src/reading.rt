@@ -5,6 +5,7 @@ ghost use Rattle.serde_json.specs.Data.{no_members};
 ghost use Rattle.serde_json.specs.Read.{of_json, of_items, of_members, converted, read};
 ghost use Rattle.smithy_json.specs.FromText.{json_of};
 ghost use Rattle.smithy_json.specs.JsonView.{view, items_view, members_view};
+ghost use Rattle.smithy_json.specs.Ordered.{is_ordered};
 ghost use Rattle.smithy_json.specs.Reads.{Reads};
 
 use crate::error::JsonError;
@@ -27,7 +28,8 @@ pub fn read_json<'t>(
     text: &'t [u8],
     scratch: &'t mut Scratch,
 ) -> Result<JsonValue<'t>, JsonError>
-    ensures { Reads view (json_of text.now) result }
+    ensures value { Reads view (json_of text.now) result }
+    ensures ordered { IfOk result (λ v. IsTrue (is_ordered (view v))) }
 {
     match from_utf8(text) {
         Ok(text) => whole_value(alloc, text, scratch),

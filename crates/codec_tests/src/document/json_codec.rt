@@ -1,11 +1,11 @@
-// The JSON text of values.
+// The JSON text of values, and what texts are read as.
 ghost use Rattle.std.specs.Prelude.{◌≡◌};
 ghost use Rattle.smithy_document.specs.JsonSeen.{json_seen};
 
 use smithy_document::{JsonCodec, JsonSerializer};
 use smithy_ids::ShapeType;
 use smithy_schema::SchemaRef;
-use smithy_serde::{Codec, FinishSerializer, SerdeError, ShapeSerializer};
+use smithy_serde::{Codec, FinishSerializer, SerdeError, ShapeDeserializer, ShapeSerializer};
 use smithy_types::{BigDecimal, BigInteger, Blob, DateTime, Document};
 use std::alloc::Global;
 use std::process::Abort;
@@ -48,5 +48,47 @@ fn values_have_a_text(rt: HostRuntime) -> Result<(), SerdeError> {
         b"[-128,300,-70000,9876543210,\"12345678901234567890\",\"1.50\",\"a\\\"b\",\"AQID/w==\",true,1515523620,false,{\"a\":null,\"b\":1}]".as_slice()
     );
     assert!(rt; made(&rt, alloc).finish()?.as_slice().is_empty());
+    Ok(())
+}
+
+// Texts with the compact text of what they are read as, none of what is no JSON or has a float in it.
+const READ: [(&str, Option<&str>); 9] = [
+    (
+        " [ null , -2 , \"\\u0061\\n\" ] ",
+        Some("[null,-2,\"a\\n\"]"),
+    ),
+    ("{\"b\":{},\"a\":[[]]}", Some("{\"a\":[[]],\"b\":{}}")),
+    ("{\"a\":1.5,\"b\":0,\"a\":2}", Some("{\"a\":2,\"b\":0}")),
+    ("{\"a\":2,\"b\":0,\"a\":1.5}", None),
+    ("[{\"a\":1.5}]", None),
+    ("[18446744073709551616]", None),
+    ("-0", None),
+    ("{\"a\":", None),
+    ("", None),
+];
+
+#[test]
+fn texts_are_read_or_refused(rt: HostRuntime) -> Result<(), SerdeError> {
+    let alloc = rt.alloc();
+    let node = SchemaRef::prelude(ShapeType::Document);
+    for (text, compact) in READ {
+        let mut reader = JsonCodec.create_deserializer(alloc, text.as_bytes())?;
+        match reader.read_document(alloc, node) {
+            Ok(document) => {
+                let mut serializer = made(&rt, alloc);
+                serializer.write_document(node, &document)?;
+                let again = serializer.finish()?;
+                let compact = compact.expect(&rt, "a document");
+                assert_eq!(rt; again.as_slice(), compact.as_bytes());
+            }
+            Err(error) => {
+                assert!(rt; compact.is_none(), "at {text}");
+                assert!(rt;
+                    matches!(error, SerdeError::InvalidInput { .. }),
+                    "at {text}"
+                );
+            }
+        }
+    }
     Ok(())
 }

@@ -1,10 +1,5 @@
-use Rattle.std.proofs.Common.{Some, sym, ap, ◌∙◌}
 use Rattle.smithy_document.proofs.ReadData.{text_is_read}
 use Rattle.smithy_document.proofs.json_tree_reading.read_tree.Goals as goal
 
 pub returns-in-Ok-clause-read : goal.returns-in-Ok-clause-read
 returns-in-Ok-clause-read c = text_is_read c.args.text.now _ c.in-Ok.ensures
-
-pub returns-in_ok-tree_of-in-Ok-read_document-clause-read : goal.returns-in_ok-tree_of-in-Ok-read_document-clause-read
-returns-in_ok-tree_of-in-Ok-read_document-clause-read c =
-    text_is_read c.args.text.now _ (c.in-Ok-read_document.ensures ∙ ap Some (sym c.in_ok-tree_of-in-Ok-read_document.ensures))

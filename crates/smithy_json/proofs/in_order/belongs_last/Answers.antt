@@ -1,13 +1,13 @@
-use Rattle.std.proofs.Common.{◌≡◌, sym, length, ◌-◌, get_or, Less, nat_cmp}
+use Rattle.std.proofs.Common.{◌≡◌, sym, ◌∙◌, Less}
+use Rattle.std.specs.Ordering.{nat_cmp}
 use Rattle.std.specs.Cmp.Lexicographic.{slice_cmp}
 use Rattle.smithy_json.proofs.OrderLemmas.{below}
-use Rattle.smithy_json.proofs.LastPlace.{place_behind_last}
+use Rattle.smithy_json.proofs.LastPlace.{is_greater, place_behind_last}
 use Rattle.smithy_json.proofs.in_order.belongs_last.Goals as goal
 
-pub returns-in-Greater : goal.returns-in-Greater
-returns-in-Greater c truth ordered =
+pub returns-in-Some : goal.returns-in-Some
+returns-in-Some c truth ordered =
     let name = c.args.name.now in
-    let ms = c.args.members.now in
     let m = c.in-Some.last.now in
-    let less : slice_cmp nat_cmp m.0.now name ≡ Less = below name m.0.now (sym c.in-Greater.ensures) in
-    place_behind_last name ms m ordered c.in-Some.ensures.item.1 less
+    let less : slice_cmp nat_cmp m.0.now name ≡ Less = below name m.0.now (is_greater _ (sym c.gt.ensures ∙ truth)) in
+    place_behind_last name c.args.members.now m ordered c.in-Some.ensures.item.1 less

@@ -1,8 +1,4 @@
-use Rattle.std.proofs.Common.{sym, subst}
-use Rattle.smithy_types.specs.Maps.{IsOrdered}
-use Rattle.serde_json.specs.Data.{no_members}
-use Rattle.smithy_json.specs.JsonView.{members_view, entries}
-use Rattle.smithy_json.specs.PutMembers.{put_all}
+use Rattle.std.proofs.Common.{sym}
 use Rattle.smithy_json.proofs.OrderLemmas.{put_as_they_stand}
 use Rattle.smithy_json.proofs.in_order.in_order.Goals as goal
 

@@ -8,7 +8,7 @@ use Rattle.smithy_json.proofs.GrammarLemmas.{item_read, item_refused, items_over
 use Rattle.smithy_types.specs.Maps.{IsOrdered}
 use Rattle.smithy_json.specs.JsonView.{view, entries}
 use Rattle.smithy_json.specs.PutMembers.{put_all}
-use Rattle.smithy_json.proofs.ReadingLemmas.{view-Array, view-Object, null_read, truth_read, text_read, number_read, number_refused, array_read, array_too_deep, object_read, object_too_deep, behind_items, behind_items-none, one_item_more, behind_nothing, one_put}
+use Rattle.smithy_json.proofs.ReadingLemmas.{view-Array, view-Object, null_read, truth_read, text_read, number_read, number_refused, array_read, array_too_deep, object_read, object_too_deep, behind_items, behind_items-none, one_item_more, behind_nothing}
 use Rattle.smithy_json.proofs.reading.+value.Goals as goal
 
 pub next_items-items-init : goal.next_items-items-init
