@@ -146,10 +146,6 @@ and_one : (ps : List Pair) (k : List ℕ) (d : Document) (o : Option (List Pair)
 and_one ps k d None = refl
 and_one ps k d (Some more) = ap (λ (qs : List Pair). Some qs) (append_assoc ps ((k, d) ∷ []) more)
 
-and_none : (o : Option (List Pair)) → and_pairs [] o ≡ o
-and_none None = refl
-and_none (Some more) = refl
-
 -- the members before a place are found, and what is left gives the rest
 pub record FieldsFound (ms : List Member) (i : ℕ) (fs : List (ℕ × Node)) (texts : Texts) : Type 0 where
   pub pairs : List Pair
