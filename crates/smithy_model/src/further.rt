@@ -2,46 +2,17 @@
 ghost use Rattle.std.specs.Prelude.{◌≡◌, [], map, option_map, IfOk, OnOk};
 ghost use Rattle.smithy_json.specs.JsonView.{view, entries};
 ghost use Rattle.smithy_schema.specs.Nodes.{no_traits};
-ghost use Rattle.smithy_model.specs.Traits.{is_named_trait};
 ghost use Rattle.smithy_model.specs.Further.{with_further, further_in, further_traits};
 ghost use Rattle.smithy_model.specs.ModelView.{traits_view};
 
 use crate::json_value::members_of;
 use crate::shape::ShapeTraits;
+use crate::traits::is_named_trait;
 use smithy_ids::ShapeId;
 use smithy_json::{JsonError, JsonValue, document_of};
 use smithy_schema::{DocumentTrait, Schema, Trait, TraitMap};
 use smithy_types::OutOfMemory;
 use std::alloc::Global;
-
-// Whether a trait has a field of its own.
-#[tactic(auto, unfolding(crate::specs::Traits::is_named_trait))]
-fn is_named_trait(id: &str) -> bool
-    ensures { result ≡ is_named_trait id.now }
-{
-    match id {
-        "smithy.api#httpHeader"
-        | "smithy.api#httpPrefixHeaders"
-        | "smithy.api#httpQuery"
-        | "smithy.api#httpQueryParams"
-        | "smithy.api#httpLabel"
-        | "smithy.api#httpPayload"
-        | "smithy.api#httpResponseCode"
-        | "smithy.api#mediaType"
-        | "smithy.api#timestampFormat"
-        | "smithy.api#streaming"
-        | "smithy.api#jsonName"
-        | "smithy.api#xmlName"
-        | "smithy.api#xmlNamespace"
-        | "smithy.api#xmlAttribute"
-        | "smithy.api#xmlFlattened"
-        | "smithy.api#sensitive"
-        | "smithy.api#hostLabel"
-        | "smithy.api#eventHeader"
-        | "smithy.api#eventPayload" => true,
-        _ => false,
-    }
-}
 
 // Adds a trait that has no field of its own, and no float in it.
 fn insert_further(

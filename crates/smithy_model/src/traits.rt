@@ -134,6 +134,14 @@ fn add_trait<'t>(traits: &mut Traits<'t>, id: &str, value: &JsonValue<'t>) -> bo
     true
 }
 
+/// Whether a trait has a field of its own: whether it is added to none, whatever its value. Takes no memory.
+pub fn is_named_trait(id: &str) -> bool
+    ensures { result ≡ is_named_trait id.now }
+{
+    let mut traits = Traits::NONE;
+    add_trait(&mut traits, id, &JsonValue::Null)
+}
+
 // The traits with a field of their own among an object's members, and whether all have one. None where one isn't fit.
 fn plain_traits<'t>(members: &[(&'t str, JsonValue<'t>)]) -> Option<(Traits<'t>, bool)>
     ensures plain { option_map (λ p. traits_described p.0) result
