@@ -27,8 +27,8 @@ fn make_room(members: &mut Vec<(&str, JsonValue<'_>)>) -> Result<(), OutOfMemory
     Ok(())
 }
 
-/// Adds a member to those that were read before it, and tells whether they stand in byte order of their names, each name
-/// once. They do as long as they are few, or come in that order.
+/// Adds a member to those that were read before it, and tells whether they are kept in byte order of their names, each name
+/// once. They are as long as they are few, or come in that order; from then on they stand as they come.
 pub(crate) fn add_member<'t>(
     members: &mut Vec<(&'t str, JsonValue<'t>)>,
     are_ordered: bool,
@@ -128,7 +128,7 @@ fn put_member<'t>(
     Ok(())
 }
 
-// The same, through a map.
+// Members in any order, in byte order of their names, through a map.
 fn sorted<'t>(
     alloc: Global,
     members: Vec<(&'t str, JsonValue<'t>)>,
