@@ -1,5 +1,5 @@
 -- The words of refusals.
-use Rattle.std.specs.Prelude.{ℕ, List, codes}
+use Rattle.std.specs.Prelude.{◌≡◌, ◌⊎◌, ℕ, List, codes}
 use Rattle.smithy_http.specs.declared.error.ListFault.{ListFault}
 use Rattle.smithy_http.specs.declared.error.ListFault.TheVariants as fault
 use Rattle.smithy_http.specs.declared.error.HttpError.{HttpError}
@@ -21,3 +21,7 @@ refusal_text (error.List f) = list_fault_text f
 refusal_text error.NotUtf8 = codes "header value is not UTF-8"
 refusal_text error.Address = codes "invalid endpoint address"
 refusal_text error.OutOfMemory = codes "out of memory"
+
+-- a pair is refused for its name, for its value or for want of memory
+abbrev pub IsPairRefusal : HttpError → Type 0
+IsPairRefusal e = (e ≡ error.Name) ⊎ (e ≡ error.Value) ⊎ (e ≡ error.OutOfMemory)

@@ -9,7 +9,7 @@ ghost use Rattle.smithy_http.specs.Endpoints.{is_prefix_byte, is_endpoint_prefix
 use crate::error::HttpError;
 use crate::headers::Headers;
 use http_uri::{Uri, UriError};
-use smithy_types::{OutOfMemory, Text, legal_target};
+use smithy_types::{OutOfMemory, Text, before_query, legal_target};
 use std::alloc::Global;
 use std::marker::Model;
 
@@ -21,11 +21,14 @@ pub struct EndpointPrefix {
 }
 
 impl Model for EndpointPrefix {
-    ghost use Rattle.std.specs.Prelude.{List, ℕ};
+    ghost use Rattle.std.specs.Prelude.{List, ℕ, IsTrue};
+    ghost use Rattle.smithy_http.specs.Endpoints.{is_endpoint_prefix};
 
     ghost Value = { List ℕ };
 
     ghost view = { λ p. p.prefix };
+
+    ghost invariant = { λ p. IsTrue (is_endpoint_prefix p.prefix) };
 }
 
 impl EndpointPrefix {
@@ -44,9 +47,10 @@ impl EndpointPrefix {
         })
     }
 
-    /// The text.
+    /// The text, one or more ASCII letters, digits, `-` and `.`.
     pub fn as_str(&self) -> &str
-        ensures { result.now ≡ self.now }
+        ensures value { result.now ≡ self.now }
+        ensures prefix { IsTrue (is_endpoint_prefix result.now) }
     {
         self.prefix.as_str()
     }
@@ -227,19 +231,9 @@ fn before_last_slash(path: &str) -> &str
 fn behind_first_slash(target: &str) -> &str
     ensures { result.now ≡ path_behind_slash target.now }
 {
-    match behind_scheme(stem(target)).split_once('/') {
+    match behind_scheme(before_query(target)).split_once('/') {
         Some((_, path)) => path,
         None => "",
-    }
-}
-
-// What stands before the query.
-fn stem(target: &str) -> &str
-    ensures { result.now ≡ before_query target.now }
-{
-    match target.split_once('?') {
-        Some((stem, _)) => stem,
-        None => target,
     }
 }
 

@@ -1,5 +1,5 @@
 // Header fields.
-ghost use Rattle.std.specs.Prelude.{◌≡◌, ◌∷◌, ◌++◌, [], map, false, true, ◌↔◌, IfOk, OnOk, OnErr, IsErrOf};
+ghost use Rattle.std.specs.Prelude.{◌≡◌, ◌∷◌, ◌++◌, [], map, false, true, ◌↔◌, IfOk, IfErr, OnOk, OnErr, IsErrOf};
 ghost use Rattle.std.specs.Cow.{cow_str_bytes};
 ghost use Rattle.std.specs.Option.{option_copied};
 ghost use Rattle.std.specs.Str.{str_to_ascii_lowercase};
@@ -8,6 +8,7 @@ ghost use Rattle.smithy_http.specs.Facts.{values_at};
 ghost use Rattle.smithy_http.specs.HeaderValues.{first_text, texts_in};
 ghost use Rattle.smithy_http.specs.Headers.{put, without};
 ghost use Rattle.smithy_http.specs.Pairs.{pair_of};
+ghost use Rattle.smithy_http.specs.Refusals.{IsPairRefusal};
 
 use crate::error::HttpError;
 use crate::pairs::{
@@ -61,6 +62,7 @@ impl Headers {
         ensures name { IsErrOf result HttpError.Name ↔ (grammar.is_token name.now ≡ false) }
         ensures value { IsErrOf result HttpError.Value ↔ (grammar.is_token name.now ≡ true)
             × (grammar.is_header_value value.now ≡ false) }
+        ensures refusals { IfErr result IsPairRefusal }
         ensures err { OnErr result (self.new ≡ self.old) }
     {
         let pair = tested_pair(self.allocator(), name, value.as_bytes())?;
@@ -77,6 +79,7 @@ impl Headers {
         ensures name { IsErrOf result HttpError.Name ↔ (grammar.is_token name.now ≡ false) }
         ensures value { IsErrOf result HttpError.Value ↔ (grammar.is_token name.now ≡ true)
             × (grammar.is_header_value (cow_str_bytes value.entry) ≡ false) }
+        ensures refusals { IfErr result IsPairRefusal }
         ensures err { OnErr result (self.new ≡ self.old) }
     {
         let pair = tested_text_pair(self.allocator(), name, value)?;
@@ -93,6 +96,7 @@ impl Headers {
         ensures name { IsErrOf result HttpError.Name ↔ (grammar.is_token name.now ≡ false) }
         ensures value { IsErrOf result HttpError.Value ↔ (grammar.is_token name.now ≡ true)
             × (grammar.is_header_value value.now ≡ false) }
+        ensures refusals { IfErr result IsPairRefusal }
         ensures err { OnErr result (self.new ≡ self.old) }
     {
         let pair = tested_pair(self.allocator(), name, value)?;

@@ -1,5 +1,5 @@
 // Pairs of a name and a value, in order, and the place of each name among them.
-ghost use Rattle.std.specs.Prelude.{◌≡◌, ◌∷◌, ◌++◌, [], map, position, string_bytes, false, true, ◌↔◌, IfOk, OnOk, OnErr, IsErrOf, MatchOption, vec_capacity};
+ghost use Rattle.std.specs.Prelude.{◌≡◌, ◌∷◌, ◌++◌, [], map, position, string_bytes, false, true, ◌↔◌, IfOk, IfErr, OnOk, OnErr, IsErrOf, MatchOption, vec_capacity};
 ghost use Rattle.std.specs.Bool.{OnTrue};
 ghost use Rattle.std.specs.Cow.{cow_str_bytes};
 ghost use Rattle.std.specs.Option.{ForSome};
@@ -9,6 +9,7 @@ ghost use Rattle.smithy_types.specs.Texts.{same_text};
 ghost use Rattle.smithy_http.specs.Facts.{values_at};
 ghost use Rattle.smithy_http.specs.Headers.{put, without};
 ghost use Rattle.smithy_http.specs.Pairs.{pair_of, name_of, is_named, named_otherwise, place_of as place_of_name, AreApart, IsIndex};
+ghost use Rattle.smithy_http.specs.Refusals.{IsPairRefusal};
 
 use crate::error::HttpError;
 use smithy_types::{Blob, OutOfMemory, is_header_value, is_token};
@@ -37,6 +38,7 @@ fn test_pair(name: &str, value: &[u8]) -> Result<(), HttpError>
     ensures name { IsErrOf result HttpError.Name ↔ (grammar.is_token name.now ≡ false) }
     ensures value { IsErrOf result HttpError.Value ↔ (grammar.is_token name.now ≡ true)
         × (grammar.is_header_value value.now ≡ false) }
+    ensures refusals { IfErr result IsPairRefusal }
 {
     if !is_token(name) {
         return Err(HttpError::Name);
@@ -62,6 +64,7 @@ pub(crate) fn tested_pair(alloc: Global, name: &str, value: &[u8]) -> Result<Pai
     ensures name { IsErrOf result HttpError.Name ↔ (grammar.is_token name.now ≡ false) }
     ensures value { IsErrOf result HttpError.Value ↔ (grammar.is_token name.now ≡ true)
         × (grammar.is_header_value value.now ≡ false) }
+    ensures refusals { IfErr result IsPairRefusal }
 {
     test_pair(name, value)?;
     Ok(Pair {
@@ -81,6 +84,7 @@ pub(crate) fn tested_text_pair(
     ensures name { IsErrOf result HttpError.Name ↔ (grammar.is_token name.now ≡ false) }
     ensures value { IsErrOf result HttpError.Value ↔ (grammar.is_token name.now ≡ true)
         × (grammar.is_header_value (cow_str_bytes value.entry) ≡ false) }
+    ensures refusals { IfErr result IsPairRefusal }
 {
     test_pair(name, value.as_str().as_bytes())?;
     Ok(Pair {

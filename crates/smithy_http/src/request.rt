@@ -1,5 +1,5 @@
 // Requests.
-ghost use Rattle.std.specs.Prelude.{◌≡◌, ◌↔◌, [], false, codes, IsTrue, IfOk, IfErr, OnOk, OnErr, IsErrOf};
+ghost use Rattle.std.specs.Prelude.{◌≡◌, ◌↔◌, ◌⊎◌, [], false, codes, IsTrue, IfOk, IfErr, OnOk, OnErr, IsErrOf};
 ghost use Rattle.std.specs.Borrow.{sem};
 ghost use Rattle.smithy_types.specs.Grammars.{is_token, is_legal_target};
 ghost use Rattle.smithy_http.specs.Lends.{LendsHeaders};
@@ -123,6 +123,7 @@ impl Request {
     pub fn set_uri(&mut self, target: &str) -> Result<(), HttpError>
         ensures ok { OnOk result (self.new ≡ record self.old { target = target.now }) }
         ensures target { IsErrOf result HttpError.Target ↔ (is_legal_target target.now ≡ false) }
+        ensures refusals { IfErr result (λ e. (e ≡ HttpError.Target) ⊎ (e ≡ HttpError.OutOfMemory)) }
         ensures err { OnErr result (self.new ≡ self.old) }
     {
         if !legal_target(target) {

@@ -1,8 +1,10 @@
 pub mod DocumentLemmas
-pub mod GrammarLemmas
 pub mod LastPlace
+pub mod NumberLemmas
 pub mod OptionLemmas
 pub mod OrderLemmas
 pub mod OrderedData
 pub mod ReadingLemmas
+pub mod Shortening
 pub mod TextDocuments
+pub mod TokenSteps

@@ -1,12 +1,13 @@
 // JSON texts as values.
-ghost use Rattle.std.specs.Prelude.{◌≡◌, ◌<◌, suc, length, Some, None, IfOk, OnOk, IsErrOf, IsTrue};
-ghost use Rattle.json.specs.Json.{value, items, members};
+ghost use Rattle.std.specs.Prelude.{◌≡◌, ◌≤◌, ◌∷◌, [], suc, length, IfOk, OnOk, MatchResult, IsTrue};
+ghost use Rattle.json.specs.Reads.{token_of};
 ghost use Rattle.serde_json.specs.Data.{no_members};
-ghost use Rattle.serde_json.specs.Read.{of_json, of_items, of_members, converted, read};
+ghost use Rattle.serde_json.specs.Read.{read};
 ghost use Rattle.smithy_json.specs.FromText.{json_of};
 ghost use Rattle.smithy_json.specs.JsonView.{view, items_view, members_view};
 ghost use Rattle.smithy_json.specs.Ordered.{is_ordered};
 ghost use Rattle.smithy_json.specs.Reads.{Reads};
+ghost use Rattle.smithy_json.specs.Tokens.{value_at, items_at, members_at, Takes};
 
 use crate::error::JsonError;
 use crate::in_order::{add_member, in_order};
@@ -32,14 +33,14 @@ pub fn read_json<'t>(
     ensures ordered { IfOk result (λ v. IsTrue (is_ordered (view v))) }
 {
     match from_utf8(text) {
-        Ok(text) => whole_value(alloc, text, scratch),
+        Ok(text) => only_value(alloc, text, scratch),
         Err(_) => Err(JsonError::Unreadable),
     }
 }
 
 // The value of a text in UTF-8. It is no part of its caller, so that the scratch, of some 16 KiB, is not moved.
 #[inline(never)]
-fn whole_value<'t>(
+fn only_value<'t>(
     alloc: Global,
     text: &'t str,
     scratch: &'t mut Scratch,
@@ -47,47 +48,46 @@ fn whole_value<'t>(
     ensures { Reads view (read text.now) result }
 {
     let mut reader = Reader::new(text, scratch)?;
-    let value = next_value(alloc, &mut reader, MAX_DEPTH)?;
-    if reader.next().is_some() {
-        return Err(JsonError::Unreadable);
+    let first = next_token(&mut reader)?;
+    let value = value_from(alloc, &mut reader, first, MAX_DEPTH)?;
+    match reader.next() {
+        None => Ok(value),
+        Some(_) => Err(JsonError::Unreadable),
     }
-    Ok(value)
 }
 
-// The value that comes next, whose arrays and objects nest so deep at most.
+// The token that comes next, where one is wanted.
+#[inline(always)]
+fn next_token<'t>(reader: &mut Reader<'t>) -> Result<Token<'t>, JsonError>
+    ensures { MatchResult result (λ t. reader.old ≡ token_of t ∷ reader.new)
+        (λ e. (e ≡ JsonError.Unreadable) × (reader.old ≡ [])) }
+{
+    reader.next().ok_or(JsonError::Unreadable)
+}
+
+// The value that begins with a token, whose arrays and objects nest so deep at most.
 #[cycle(value)]
 #[inline(always)]
-fn next_value<'t>(
+fn value_from<'t>(
     alloc: Global,
     reader: &mut Reader<'t>,
+    first: Token<'t>,
     depth: usize,
 ) -> Result<JsonValue<'t>, JsonError>
-    ensures value { IfOk result
-        (λ v. converted of_json (value depth reader.old) ≡ Some (view v, reader.new)) }
-    ensures shorter { OnOk result (length reader.new < length reader.old) }
-    ensures refused { IsErrOf result JsonError.Unreadable
-        → converted of_json (value depth reader.old) ≡ None }
+    ensures value { Takes view (value_at depth (token_of first.entry ∷ reader.old)) reader.new result }
+    ensures left { OnOk result (length reader.new ≤ length reader.old) }
 {
-    let Some(token) = reader.next() else {
-        return Err(JsonError::Unreadable);
-    };
-    match token {
-        Token::Null => Ok(JsonValue::Null),
-        Token::Bool(truth) => Ok(JsonValue::Bool(truth)),
+    match first {
+        Token::String(text) => Ok(JsonValue::String(text)),
         Token::Number(text) => match number_of(text) {
             Some(number) => Ok(JsonValue::Number(number)),
             None => Err(JsonError::Unreadable),
         },
-        Token::String(text) => Ok(JsonValue::String(text)),
-        Token::BeginArray => {
-            let depth = below(depth)?;
-            Ok(JsonValue::Array(next_items(alloc, reader, depth)?))
-        }
-        Token::BeginObject => {
-            let depth = below(depth)?;
-            Ok(JsonValue::Object(next_members(alloc, reader, depth)?))
-        }
-        Token::EndObject | Token::EndArray | Token::Key(_) | Token::Bad => {
+        Token::Bool(truth) => Ok(JsonValue::Bool(truth)),
+        Token::Null => Ok(JsonValue::Null),
+        Token::BeginArray => Ok(JsonValue::Array(items_from(alloc, reader, below(depth)?)?)),
+        Token::BeginObject => Ok(JsonValue::Object(members_from(alloc, reader, below(depth)?)?)),
+        Token::Key(_) | Token::EndArray | Token::EndObject | Token::Bad => {
             Err(JsonError::Unreadable)
         }
     }
@@ -96,8 +96,8 @@ fn next_value<'t>(
 // How deep the values in an array or an object may nest.
 #[inline(always)]
 fn below(depth: usize) -> Result<usize, JsonError>
-    ensures ok { IfOk result (λ below. depth ≡ suc below) }
-    ensures none { IsErrOf result JsonError.Unreadable → depth ≡ 0 }
+    ensures { MatchResult result (λ below. depth ≡ suc below)
+        (λ e. (e ≡ JsonError.Unreadable) × (depth ≡ 0)) }
 {
     match depth.checked_sub(1) {
         Some(below) => Ok(below),
@@ -108,21 +108,18 @@ fn below(depth: usize) -> Result<usize, JsonError>
 // The values up to the end of an array.
 #[cycle(value)]
 #[inline(never)]
-fn next_items<'t>(
+fn items_from<'t>(
     alloc: Global,
     reader: &mut Reader<'t>,
     depth: usize,
 ) -> Result<Vec<JsonValue<'t>>, JsonError>
-    ensures items { IfOk result
-        (λ v. converted of_items (items (value depth) (length reader.old) reader.old)
-        ≡ Some (items_view v.items, reader.new)) }
-    ensures shorter { OnOk result (length reader.new < length reader.old) }
-    ensures refused { IsErrOf result JsonError.Unreadable
-        → converted of_items (items (value depth) (length reader.old) reader.old) ≡ None }
+    ensures items { Takes (λ v. items_view v.items) (items_at depth reader.old) reader.new result }
+    ensures left { OnOk result (length reader.new ≤ length reader.old) }
 {
     let mut found = Vec::new(alloc);
-    'items: while !reader.take_end_array() {
-        let item = next_value(alloc, reader, depth)?;
+    'more: while !reader.take_end_array() {
+        let first = next_token(reader)?;
+        let item = value_from(alloc, reader, first, depth)?;
         found.push(item)?;
     }
     Ok(found)
@@ -131,25 +128,21 @@ fn next_items<'t>(
 // The members up to the end of an object, in byte order of their names.
 #[cycle(value)]
 #[inline(never)]
-fn next_members<'t>(
+fn members_from<'t>(
     alloc: Global,
     reader: &mut Reader<'t>,
     depth: usize,
 ) -> Result<Vec<(&'t str, JsonValue<'t>)>, JsonError>
-    ensures members { IfOk result
-        (λ v. converted (λ ms. of_members ms no_members)
-        (members (value depth) (length reader.old) reader.old)
-        ≡ Some (members_view v.items, reader.new)) }
-    ensures shorter { OnOk result (length reader.new < length reader.old) }
-    ensures refused { IsErrOf result JsonError.Unreadable
-        → converted (λ ms. of_members ms no_members)
-        (members (value depth) (length reader.old) reader.old) ≡ None }
+    ensures members { Takes (λ v. members_view v.items) (members_at depth no_members reader.old)
+        reader.new result }
+    ensures left { OnOk result (length reader.new ≤ length reader.old) }
 {
     let mut found = Vec::new(alloc);
     let mut are_ordered = true;
-    'members: while let Some(name) = reader.next_key()? {
-        let member = next_value(alloc, reader, depth)?;
-        are_ordered = add_member(&mut found, are_ordered, name, member)?;
+    'more: while let Some(name) = reader.next_key()? {
+        let first = next_token(reader)?;
+        let value = value_from(alloc, reader, first, depth)?;
+        are_ordered = add_member(&mut found, are_ordered, name, value)?;
     }
     Ok(in_order(alloc, found, are_ordered)?)
 }

@@ -7,6 +7,7 @@ pub mod DigitLaws
 pub mod EpochReading
 pub mod Lookups
 pub mod MapLemmas
+pub mod MembersAgain
 pub mod OnLiterals
 pub mod Positions
 pub mod ReadBack

@@ -1,11 +1,6 @@
 -- A document, level by level.
-use Rattle.std.proofs.Common.{◌≡◌, List, [], ◌∷◌, ◌++◌, map, String, Vec, BTreeMap, Global, Ordering, Less, Equal, Greater, string_bytes, string_cmp, nat_cmp, refl, ap, ◌∙◌, rules}
-use Rattle.std.specs.Ordering.{match_ordering, ordering_reverse}
-use Rattle.std.proofs.lemmas.Cmp.{nat_list_cmp_total}
-use Rattle.std.specs.Cmp.Lexicographic.{slice_cmp}
-use Rattle.std.specs.List.{AllByRecursion}
-use Rattle.std.specs.List.Sorted.{IsStrictlySortedBy}
-use Rattle.std.specs.Map.{keys_of}
+use Rattle.std.proofs.Common.{◌≡◌, List, [], ◌∷◌, ◌++◌, map, String, Vec, BTreeMap, Global, Ordering, Less, Equal, Greater, string_bytes, string_cmp, refl, ap, rules}
+use Rattle.std.specs.Ordering.{match_ordering}
 use Rattle.std.specs.BTreeMap.{insert_entry}
 use Rattle.smithy_types.specs.Documents as doc
 use Rattle.smithy_types.specs.Documents.{put, items_of}
@@ -42,25 +37,16 @@ pub items_pushed : (ds : List Document) (d : Document) → items_of (map view (d
 items_pushed [] d = refl
 items_pushed (e ∷ ds) d = ap (doc.item (view e)) (items_pushed ds d)
 
-entries_view-match_ordering : (o : Ordering) (a b c : List Entry) → entries_view (match_ordering o a b c) ≡ match_ordering o (entries_view a) (entries_view b) (entries_view c)
-entries_view-match_ordering Less a b c = refl
-entries_view-match_ordering Equal a b c = refl
-entries_view-match_ordering Greater a b c = refl
+-- an entry that is put before others, in the place of the first, or behind it
+module _ (e new : Entry) (es later : List Entry) (rest : doc.Members) where
+  put_here : (o : Ordering) → entries_view later ≡ rest
+      → entries_view (match_ordering o (new ∷ e ∷ es) ((e.0, new.1) ∷ es) (e ∷ later))
+      ≡ match_ordering o (entries_view (new ∷ e ∷ es)) (entries_view ((e.0, new.1) ∷ es)) (doc.member (string_bytes e.0) (view e.1) rest)
+  put_here Less same = refl
+  put_here Equal same = refl
+  put_here Greater same = ap (doc.member (string_bytes e.0) (view e.1)) same
 
-pub entries_view-insert_entry : (es : List Entry) (k : String Global) (v : Document) → entries_view (insert_entry string_cmp es k v) ≡ put (string_bytes k) (view v) (entries_view es)
-entries_view-insert_entry [] k v = refl
-entries_view-insert_entry (e ∷ es) k v = entries_view-match_ordering (string_cmp k e.0) _ _ _ ∙ rw (entries_view-insert_entry es k v)
-
-below_middle : (first : Entry) (es : List Entry) (e : Entry) (more : List Entry) → AllByRecursion (λ y. string_cmp first.0 y ≡ Less) (keys_of (es ++ e ∷ more)) → string_cmp first.0 e.0 ≡ Less
-below_middle first [] e more h = h.0
-below_middle first (x ∷ es) e more h = below_middle first es e more h.1
-
--- a key that is above those before it goes last
-pub put_last : (done : List Entry) (e : Entry) (more : List Entry) → IsStrictlySortedBy string_cmp (keys_of (done ++ e ∷ more))
-    → put (string_bytes e.0) (view e.1) (entries_view done) ≡ entries_view (done ++ e ∷ [])
-unfolding IsStrictlySortedBy
-put_last [] e more h = refl
-put_last (first ∷ done) e more h =
-    let above : slice_cmp nat_cmp (string_bytes e.0) (string_bytes first.0) ≡ Greater =
-    nat_list_cmp_total.antisymm (string_bytes e.0) (string_bytes first.0) ∙ ap ordering_reverse (below_middle first done e more h.0) in
-    rw above (ap (doc.member (string_bytes first.0) (view first.1)) (put_last done e more h.1))
+-- what a map has after an insertion
+pub entries_inserted : (k : String Global) (v : Document) (es : List Entry) → entries_view (insert_entry string_cmp es k v) ≡ put (string_bytes k) (view v) (entries_view es)
+entries_inserted k v [] = refl
+entries_inserted k v (e ∷ es) = put_here e (k, v) es (insert_entry string_cmp es k v) _ (string_cmp k e.0) (entries_inserted k v es)

@@ -6,50 +6,46 @@ use crate::document::{Document, Documents, Members};
 use crate::error::OutOfMemory;
 use crate::text::Text;
 use std::alloc::Global;
-use std::collections::BTreeMap;
 
 impl Document {
-    /// An equal document.
+    /// An equal document. Takes memory.
+    #[cycle(copied)]
     pub fn copy(&self, alloc: Global) -> Result<Document, OutOfMemory>
         ensures { IfOk result (λ d. view d ≡ view self.now) }
     {
-        copied(alloc, self)
+        Ok(match self {
+            Document::String(text) => Document::String(Text::from_str(alloc, text.as_str())?),
+            Document::Array(items) => Document::Array(items.copy(alloc)?),
+            Document::Object(members) => Document::Object(members.copy(alloc)?),
+            Document::Number(number) => Document::Number(*number),
+            Document::Bool(truth) => Document::Bool(*truth),
+            Document::Null => Document::Null,
+        })
     }
 }
 
-#[cycle(copied)]
-fn copied(alloc: Global, document: &Document) -> Result<Document, OutOfMemory>
-    ensures { IfOk result (λ d. view d ≡ view document.now) }
-{
-    match document {
-        Document::Null => Ok(Document::Null),
-        Document::Bool(value) => Ok(Document::Bool(*value)),
-        Document::Number(number) => Ok(Document::Number(*number)),
-        Document::String(text) => Ok(Document::String(Text::from_str(alloc, text.as_str())?)),
-        Document::Array(items) => Ok(Document::Array(copied_items(alloc, items)?)),
-        Document::Object(members) => Ok(Document::Object(copied_members(alloc, members)?)),
+impl Documents {
+    #[cycle(copied)]
+    fn copy(&self, alloc: Global) -> Result<Documents, OutOfMemory>
+        ensures { IfOk result (λ ds. items_view ds ≡ items_view self.now) }
+    {
+        let mut items = Vec::with_capacity(alloc, self.len())?;
+        for item in &self.items {
+            items.push(item.copy(alloc)?)?;
+        }
+        Ok(Documents { items })
     }
 }
 
-#[cycle(copied)]
-fn copied_items(alloc: Global, documents: &Documents) -> Result<Documents, OutOfMemory>
-    ensures { IfOk result (λ d. items_view d ≡ items_view documents.now) }
-{
-    let mut items = Vec::with_capacity(alloc, documents.items.len())?;
-    for item in &documents.items {
-        items.push(copied(alloc, item)?)?;
+impl Members {
+    #[cycle(copied)]
+    fn copy(&self, alloc: Global) -> Result<Members, OutOfMemory>
+        ensures { IfOk result (λ ms. members_view ms ≡ members_view self.now) }
+    {
+        let mut found = Members::new(alloc);
+        for (name, value) in self.entries.iter() {
+            found.insert(Text::from_str(alloc, name.as_str())?, value.copy(alloc)?)?;
+        }
+        Ok(found)
     }
-    Ok(Documents { items })
-}
-
-#[cycle(copied)]
-fn copied_members(alloc: Global, members: &Members) -> Result<Members, OutOfMemory>
-    ensures { IfOk result (λ m. members_view m ≡ members_view members.now) }
-{
-    let mut entries = BTreeMap::new(alloc);
-    for (key, member) in members.entries.iter() {
-        let name = key.clone()?;
-        drop(entries.insert(name, copied(alloc, member)?)?);
-    }
-    Ok(Members { entries })
 }

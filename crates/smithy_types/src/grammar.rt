@@ -2,7 +2,7 @@
 ghost use Rattle.std.specs.Prelude.{◌≡◌, ◌≤◌, ◌+◌, ◌==◌, drop, length, position};
 ghost use Rattle.std.specs.List.{list_all, before_first, after_first, position_or_len};
 ghost use Rattle.smithy_types.specs.ByteClasses.{bytes_of, flag_of};
-ghost use Rattle.smithy_types.specs.Grammars.{is_token, is_header_value, is_path, scheme_len, is_authority_and_path, is_stem, is_target, is_legal_target};
+ghost use Rattle.smithy_types.specs.Grammars.{is_token, is_header_value, is_path, before_query, scheme_len, is_authority_and_path, is_stem, is_target, is_legal_target};
 
 /// The most bytes that a request target may have.
 pub const MAX_TARGET_LEN: usize = 65_534;
@@ -114,6 +114,16 @@ fn is_authority_and_path(text: &[u8]) -> bool
     !authority.is_empty()
         && are_all(ByteClass::Authority, authority)
         && are_all(ByteClass::Path, after(text, b'/'))
+}
+
+/// What stands before the first `?` of a target, or all where there is none. Takes no memory.
+pub fn before_query(target: &str) -> &str
+    ensures { result.now ≡ before_query target.now }
+{
+    match target.split_once('?') {
+        Some((stem, _)) => stem,
+        None => target,
+    }
 }
 
 /// What stands behind `http://` or `https://`, or all where neither stands first. Takes no memory.

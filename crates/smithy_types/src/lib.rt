@@ -27,7 +27,9 @@ pub use date_time::{DateTime, Format};
 pub use discriminated::DiscriminatedDocument;
 pub use document::{Document, Documents, MemberPairs, Members};
 pub use error::{DocumentError, OutOfMemory, TypesError};
-pub use grammar::{MAX_TARGET_LEN, behind_scheme, is_header_value, is_token, legal_target};
+pub use grammar::{
+    MAX_TARGET_LEN, before_query, behind_scheme, is_header_value, is_token, legal_target,
+};
 pub use lists::{Blobs, Integers, Items, Longs, Words};
 pub use maps::{TextMap, TextPairs};
 pub use number::Number;

@@ -1,21 +1,17 @@
-use Rattle.std.proofs.Common.{◌≡◌, drop, get_or, true, false, ◌==◌, sym, ap, ◌∙◌, arith, take_all, length-drop}
+use Rattle.std.proofs.Common.{ap, ◌∙◌}
 use Rattle.fast_float.specs.Text.{scan}
 use Rattle.serde_json.specs.Read.{number_of, number_from}
+use Rattle.smithy_json.proofs.NumberLemmas.{integer_first, float_else, by_sign}
 use Rattle.smithy_json.proofs.numbers.number_of.Goals as goal
 
-pub returns-then-has_minus : goal.returns-then-has_minus
-unfolding number_of
-returns-then-has_minus c =
-    let s = c.as_bytes-bytes.result.now in
-    let signed : (get_or s 0 0 == 45) ≡ true = sym c.if-has_minus.ensures.value in
-    let parts : c.scan.result ≡ scan (drop 1 s) = c.scan.ensures.parts ∙ ap scan (take_all _ (drop 1 s) (omega (arith, length-drop 1 s))) in
-    let read : number_from true (scan (drop 1 s)) ≡ number_of s = rw signed in
-    c.number_below_zero.ensures ∙ ap (number_from true) parts ∙ read ∙ ap number_of c.as_bytes-bytes.ensures.value
+pub returns-in-Some : goal.returns-in-Some
+returns-in-Some c =
+    let sign = c.has_minus-is_negative.result in
+    integer_first sign c.scan-numeral.result _ c.in-Some.ensures
+    ∙ ap (number_from sign) (c.scan-numeral.ensures.parts ∙ ap scan c.behind_minus-digits.ensures) ∙ by_sign _ sign c.has_minus-is_negative.ensures ∙ ap number_of c.as_bytes-text.ensures.value
 
-pub returns-else-has_minus : goal.returns-else-has_minus
-unfolding number_of
-returns-else-has_minus c =
-    let s = c.as_bytes-bytes.result.now in
-    let unsigned : (get_or s 0 0 == 45) ≡ false = sym c.if-has_minus.ensures.value in
-    let read : number_from false (scan s) ≡ number_of s = rw unsigned in
-    c.number_from_zero.ensures ∙ ap (number_from false) c.scan-else-has_minus.ensures.parts ∙ read ∙ ap number_of c.as_bytes-bytes.ensures.value
+pub returns-in-None : goal.returns-in-None
+returns-in-None c =
+    let sign = c.has_minus-is_negative.result in
+    c.nearest_float.ensures ∙ float_else sign c.scan-numeral.result c.in-None.ensures
+    ∙ ap (number_from sign) (c.scan-numeral.ensures.parts ∙ ap scan c.behind_minus-digits.ensures) ∙ by_sign _ sign c.has_minus-is_negative.ensures ∙ ap number_of c.as_bytes-text.ensures.value

@@ -1,39 +1,37 @@
-use Rattle.std.proofs.Common.{◌≡◌, IsTrue, ℕ, ◌+◌, ◌*◌, ◌≤◌, length}
-use Rattle.json.specs.Json.{items, members, value, parse_map}
+use Rattle.std.proofs.Common.{◌≡◌, IsTrue, ◌+◌, ◌*◌, ◌≤◌, length}
+use Rattle.json.specs.Json.{parse_map}
 use Rattle.serde_json.specs.Data.{no_members}
-use Rattle.serde_json.specs.Read.{of_items, of_members, converted}
 use Rattle.smithy_types.specs.Maps.{IsOrdered}
-use Rattle.smithy_json.specs.JsonView.{entries}
+use Rattle.smithy_json.specs.JsonView.{items_view, entries}
 use Rattle.smithy_json.specs.PutMembers.{put_all}
-use Rattle.smithy_json.proofs.ReadingLemmas.{behind_items}
+use Rattle.smithy_json.specs.Tokens.{items_at, members_at}
+use Rattle.smithy_json.proofs.ReadingLemmas.{joined}
 use Rattle.smithy_json.proofs.reading.+value.Given as goal
 
-abbrev pub decreases-next_value : goal.decreases-next_value
-decreases-next_value l = 2 * l.depth
+-- each container that is opened takes one from the depth, and its values come after it
+abbrev pub decreases-value_from : goal.decreases-value_from
+decreases-value_from l = 2 * l.depth
 
-abbrev pub decreases-next_items : goal.decreases-next_items
-decreases-next_items l = 2 * l.depth + 1
+abbrev pub decreases-items_from : goal.decreases-items_from
+decreases-items_from l = 2 * l.depth + 1
 
-abbrev pub decreases-next_members : goal.decreases-next_members
-decreases-next_members l = 2 * l.depth + 1
+abbrev pub decreases-members_from : goal.decreases-members_from
+decreases-members_from l = 2 * l.depth + 1
 
--- what is left gives the rest, in at most n steps
-abbrev pub invariant-next_items-items : goal.invariant-next_items-items
-invariant-next_items-items l =
-    (n : ℕ) × (length l.reader ≤ n)
-    × (converted of_items (items (value l.depth) (length l.initial.reader) l.initial.reader) ≡ parse_map (behind_items l.found.items) (converted of_items (items (value l.depth) n l.reader)))
-    × (length l.reader ≤ length l.initial.reader)
+-- the items that were read and those to come are all of them
+abbrev pub invariant-items_from-more : goal.invariant-items_from-more
+invariant-items_from-more l =
+    (length l.reader ≤ length l.initial.reader)
+    × (items_at l.depth l.initial.reader ≡ parse_map (joined (items_view l.found.items)) (items_at l.depth l.reader))
 
-abbrev pub decreases-next_items-items : goal.decreases-next_items-items
-decreases-next_items-items l = length l.reader
+abbrev pub decreases-items_from-more : goal.decreases-items_from-more
+decreases-items_from-more l = length l.reader
 
-abbrev pub invariant-next_members-members : goal.invariant-next_members-members
-invariant-next_members-members l =
-    ((n : ℕ) × (length l.reader ≤ n)
-    × (converted (λ ms. of_members ms no_members) (members (value l.depth) (length l.initial.reader) l.initial.reader)
-    ≡ converted (λ ms. of_members ms (put_all (entries l.found.items) no_members)) (members (value l.depth) n l.reader))
-    × (length l.reader ≤ length l.initial.reader))
+abbrev pub invariant-members_from-more : goal.invariant-members_from-more
+invariant-members_from-more l =
+    (length l.reader ≤ length l.initial.reader)
+    × (members_at l.depth no_members l.initial.reader ≡ members_at l.depth (put_all (entries l.found.items) no_members) l.reader)
     × (IsTrue l.are_ordered → IsOrdered (entries l.found.items))
 
-abbrev pub decreases-next_members-members : goal.decreases-next_members-members
-decreases-next_members-members l = length l.reader
+abbrev pub decreases-members_from-more : goal.decreases-members_from-more
+decreases-members_from-more l = length l.reader

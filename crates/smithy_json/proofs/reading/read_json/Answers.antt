@@ -7,10 +7,10 @@ use Rattle.smithy_json.proofs.TextDocuments.{text_read, not_read}
 use Rattle.smithy_json.proofs.reading.read_json.Goals as goal
 
 pub returns-in-Ok-clause-value : goal.returns-in-Ok-clause-value
-returns-in-Ok-clause-value c = subst (λ o. Reads view o c.whole_value.result) (ap read c.in-Ok.ensures.cases.0 ∙ sym (text_read c.args.text.now c.in-Ok.ensures.cases.1)) c.whole_value.ensures
+returns-in-Ok-clause-value c = subst (λ o. Reads view o c.only_value.result) (ap read c.in-Ok.ensures.cases.0 ∙ sym (text_read c.args.text.now c.in-Ok.ensures.cases.1)) c.only_value.ensures
 
 pub returns-in-Err-clause-value : goal.returns-in-Err-clause-value
 returns-in-Err-clause-value c = not_read c.args.text.now c.in-Err.ensures.cases.0
 
 pub returns-in-Ok-clause-ordered : goal.returns-in-Ok-clause-ordered
-returns-in-Ok-clause-ordered c = reading_ordered c.in-Ok.text.now c.whole_value.result c.whole_value.ensures
+returns-in-Ok-clause-ordered c = reading_ordered c.in-Ok.text.now c.only_value.result c.only_value.ensures
