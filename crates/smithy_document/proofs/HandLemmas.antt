@@ -1,6 +1,6 @@
 -- Readers of documents, as they are seen.
-use Rattle.std.proofs.Common.{◌≡◌, Bool, true, false, List, [], ◌∷◌, ◌++◌, map, Option, Some, None, Result, Err, inl, inr, refl, sym, ap}
-use Rattle.std.specs.Prelude.{IfNone, IfSome, is_none}
+use Rattle.std.proofs.Common.{◌≡◌, Bool, true, false, List, [], ◌∷◌, ◌++◌, map, Option, Some, None, Result, Ok, Err, inl, inr, refl, sym, ap}
+use Rattle.std.specs.Prelude.{IfSome, OnErr, is_none, option_map}
 use Rattle.smithy_types.specs.Documents.{Document}
 use Rattle.smithy_schema.specs.Nodes.{Schema}
 use Rattle.smithy_serde.specs.DocumentReads.{scalar_of_document}
@@ -15,15 +15,34 @@ use Rattle.smithy_serde.specs.HeldReads.{read_scalar, elements, entries, fields}
 use Rattle.smithy_serde.specs.ReadCalls.{Frame, Gives, Answered, NotOpened, Reads, scalar_of_read, read_at, type_of}
 use Rattle.smithy_serde.specs.Refusals.{IsRefusal}
 use Rattle.smithy_serde.specs.Writes.{only_if}
+use Rattle.smithy_document.specs.declared.cursor.Cursor.{Cursor}
+use Rattle.smithy_document.specs.CursorView.{place_list, seen}
 use Rattle.smithy_document.specs.JsonHand.{refusing}
 use Rattle.smithy_document.specs.JsonHeld.{not_json}
 use Rattle.smithy_document.specs.OpenDocuments.{Opened, frame_of, reading}
+use Rattle.smithy_document.specs.Paths.{at_path, opened_along}
+use Rattle.smithy_document.specs.SettingsReads.{Coercions, ReadsBy}
 
-pub read_gives : {X : Type 0} (settings : Option X) (k : ScalarKind) (node : Schema) (d : Document) (r : Result ReadScalar SerdeError)
-    → IfNone settings (Gives scalar_of_read (Some (scalar_of_document (type_of k) d)) r) → Gives scalar_of_read (read_at k node (only_if (is_none settings) (held.document d))) r
+pub read_gives : (k : ScalarKind) (node : Schema) (d : Document) (r : Result ReadScalar SerdeError)
+    → Gives scalar_of_read (Some (scalar_of_document (type_of k) d)) r → Gives scalar_of_read (read_at k node (Some (held.document d))) r
 unfolding read_scalar
-read_gives None k node d r h = h
-read_gives (Some s) k node d r h = tt
+read_gives k node d r h = h
+
+-- with settings of a caller's own nothing is told
+pub read_by : {X S : Type 0} (f : X → S) (by : S → Coercions) (settings : Option X) (k : ScalarKind) (node : Schema) (d : Document) (r : Result ReadScalar SerdeError)
+    → ReadsBy by (option_map f settings) k d r → Gives scalar_of_read (read_at k node (only_if (is_none settings) (held.document d))) r
+unfolding read_scalar
+read_by f by None k node d r h = h
+read_by f by (Some s) k node d r h = tt
+
+-- ---- what a refused call leaves
+
+pub left_alike : {A : Type 0} {P Q : Type 0} (r : Result A SerdeError) → (P → Q) → OnErr r P → OnErr r Q
+left_alike (Ok a) f p = tt
+left_alike (Err e) f p = f p
+
+pub plain_alike : (root : Document) (old new : Cursor) → place_list new ≡ place_list old → seen true root new ≡ seen true root old
+plain_alike root old new same = ap (λ ps. reading true (at_path root ps) (opened_along root ps)) same
 
 settled_first : Frame → List Frame → Option (SerdeError → Answer)
 settled_first f [] = f.settled

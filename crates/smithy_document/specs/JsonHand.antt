@@ -1,10 +1,10 @@
 -- What is seen of a reader of JSON.
-use Rattle.std.specs.Prelude.{ℕ, [], Option, Some, None, Result, Ok, Err}
+use Rattle.std.specs.Prelude.{◌≡◌, ℕ, [], Option, Some, None, Ok, Err}
 use Rattle.smithy_serde.specs.Held as held
+use Rattle.smithy_serde.specs.Held.{Answer}
 use Rattle.smithy_serde.specs.Listings.{contents_at, told_at}
 use Rattle.smithy_serde.specs.ReadCalls.{AtHand}
 use Rattle.smithy_serde.specs.Refusals.{IsRefusal}
-use Rattle.smithy_serde.specs.declared.error.SerdeError.{SerdeError}
 use Rattle.smithy_document.specs.declared.json_deserializer.JsonDeserializer.{JsonDeserializer}
 use Rattle.smithy_document.specs.declared.json_tree.JsonTree.{JsonTree}
 use Rattle.smithy_document.specs.declared.json_tree_cursor.TreeCursor.{TreeCursor}
@@ -34,11 +34,11 @@ size_over (Some t) c = container_size (document_at (tree_view t) c)
 abbrev pub json_size : JsonDeserializer → Option ℕ
 json_size r = size_over r.tree r.cursor
 
--- the value at hand is passed over, and what is no JSON is refused
-abbrev pub PassesOver : {U : Type 0} → JsonDeserializer → Result U SerdeError → Type 0
-PassesOver {U} r result = Passed r.tree result
+-- the value at hand is passed over, which changes nothing, and what is no JSON is refused
+abbrev pub PassesOver : JsonDeserializer → JsonDeserializer → Answer → Type 0
+PassesOver old new answer = (new ≡ old) × Passed old.tree answer
   where
-    Passed : Option JsonTree → Result U SerdeError → Type 0
+    Passed : Option JsonTree → Answer → Type 0
     Passed (Some t) (Ok u) = Unit {0}
     Passed (Some t) (Err e) = ⊥
     Passed None (Ok u) = ⊥

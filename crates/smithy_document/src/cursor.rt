@@ -59,8 +59,9 @@ impl Cursor {
         root: &Document,
         group: Group,
     ) -> Result<(), SerdeError>
-        ensures { (tells : Bool) (schema : Schema) → OpensAt group schema
+        ensures opens { (tells : Bool) (schema : Schema) → OpensAt group schema
             (seen tells (view root.entry.now) self.old) (seen tells (view root.entry.now) self.new) result }
+        ensures kept { OnErr result (place_list self.new ≡ place_list self.old) }
     {
         let document = self.document(root);
         if !opens_as(group, document) {

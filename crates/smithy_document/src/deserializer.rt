@@ -1,5 +1,5 @@
 // A reader of documents.
-ghost use Rattle.std.specs.Prelude.{Some, None, IsTrue};
+ghost use Rattle.std.specs.Prelude.{◌≡◌, Some, None, IsTrue};
 ghost use Rattle.smithy_types.specs.DocumentView.{view};
 ghost use Rattle.smithy_serde.specs.Held as held;
 ghost use Rattle.smithy_serde.specs.Lawful.{is_canonical};
@@ -15,7 +15,8 @@ use std::alloc::Global;
 
 /// Reads a document by the kind that is asked for (Smithy, data model: a value without its shapes). Opening a structure
 /// hands out the fields whose names are members, a map all entries, each in byte order of the names. Texts that stand for
-/// blobs and points in time, and numbers that stand for these, are read as the settings answer.
+/// blobs and points in time, and numbers that stand for these, are read as the settings answer. A read leaves the document
+/// at hand.
 #[derive(Drop)]
 pub struct DocumentShapeDeserializer<'a, S: DocumentSettings> {
     root: &'a Document,
@@ -41,16 +42,18 @@ impl<'a> DocumentShapeDeserializer<'a, NoSettings> {
 }
 
 impl<'a, S: DocumentSettings> DocumentShapeDeserializer<'a, S> {
-    ghost use Rattle.smithy_document.specs.DocumentHand.{document_hand};
+    ghost use Rattle.smithy_document.specs.DocumentHand.{document_hand, plain_hand, settings_of};
 
-    /// A reader of the document by these settings. It doesn't tell what it holds. Condition: the document is canonical.
-    /// Takes no memory.
+    /// A reader of the document by these settings. Code that serves any reader isn't told what it holds; its own calls say
+    /// what they answer. Condition: the document is canonical. Takes no memory.
     pub fn new_with_settings(
         document: &'a Document,
         settings: &'a S,
     ) -> DocumentShapeDeserializer<'a, S>
         requires { IsTrue (is_canonical (view document.now)) }
-        ensures { Begins None (document_hand result) }
+        ensures begins { Begins None (document_hand result) }
+        ensures plainly { Begins (Some (held.document (view document.entry.now))) (plain_hand result) }
+        ensures settings { settings_of result ≡ Some settings.entry.now }
     {
         DocumentShapeDeserializer {
             root: document,
@@ -61,28 +64,53 @@ impl<'a, S: DocumentSettings> DocumentShapeDeserializer<'a, S> {
 }
 
 impl<S: DocumentSettings> ShapeDeserializer for DocumentShapeDeserializer<'_, S> {
-    ghost use Rattle.std.specs.Prelude.{◌≡◌, IsOk};
-    ghost use Rattle.smithy_serde.specs.ReadCalls.{Skips};
-    ghost use Rattle.smithy_document.specs.DocumentHand.{document_hand};
+    ghost use Rattle.std.specs.Prelude.{◌≡◌, Err, OnErr};
+    ghost use Rattle.smithy_schema.specs.References.{schema_of as node};
+    ghost use Rattle.smithy_serde.specs.declared.scalar.Group.TheVariants as group;
+    ghost use Rattle.smithy_serde.specs.Unchanged.{DoesNothing};
+    ghost use Rattle.smithy_serde.specs.ReadCalls.{IsIn, scalar_of_read, Reads, OpensAt, NextMember, NextElement, NextEntry, Settles, TellsNull};
+    ghost use Rattle.smithy_document.specs.DocumentHand.{document_hand, plain_hand, settings_of};
+    ghost use Rattle.smithy_document.specs.SettingsReads.{coercions, ReadsBy};
     ghost use Rattle.smithy_document.specs.Sizes.{container_size, document_at_hand};
 
     ghost at_hand = { document_hand };
+
+    // How many items an array or an object at hand has, and 10,000 where it has more; none of any other document.
+    ghost has_size = { λ reader size. size ≡ container_size (document_at_hand reader) };
+
+    ghost reads_null = { DoesNothing };
+
+    ghost passes_over = { DoesNothing };
 
     fn read(
         &mut self,
         alloc: Global,
         _schema: SchemaRef<'_>,
         kind: ScalarKind,
-    ) -> Result<ReadScalar, SerdeError> {
+    ) -> Result<ReadScalar, SerdeError>
+        ensures reads { Reads scalar_of_read kind (node _schema.entry)
+            (document_hand self.old) (document_hand self.new) result }
+        ensures by_settings { ReadsBy (coercions S.gives_blob S.gives_number_timestamp S.gives_text_timestamp)
+            (settings_of self.old) kind (document_at_hand self.old) result }
+        ensures left { plain_hand self.new ≡ plain_hand self.old }
+        ensures settings { settings_of self.new ≡ settings_of self.old }
+    {
         read_as(alloc, self.cursor.document(self.root), kind, self.settings)
     }
 
+    /// A refused opening leaves the document at hand.
     fn open(
         &mut self,
         alloc: Global,
         _schema: SchemaRef<'_>,
         group: Group,
-    ) -> Result<(), SerdeError> {
+    ) -> Result<(), SerdeError>
+        ensures opens { OpensAt group (node _schema.entry)
+            (document_hand self.old) (document_hand self.new) result }
+        ensures plainly { OpensAt group (node _schema.entry) (plain_hand self.old) (plain_hand self.new) result }
+        ensures left { OnErr result (plain_hand self.new ≡ plain_hand self.old) }
+        ensures settings { settings_of self.new ≡ settings_of self.old }
+    {
         self.cursor.open(alloc, self.root, group)
     }
 
@@ -90,48 +118,58 @@ impl<S: DocumentSettings> ShapeDeserializer for DocumentShapeDeserializer<'_, S>
         &mut self,
         _alloc: Global,
         schema: SchemaRef<'s>,
-    ) -> Result<Option<SchemaRef<'s>>, SerdeError> {
+    ) -> Result<Option<SchemaRef<'s>>, SerdeError>
+        requires { IsIn group.Structure (document_hand self.old) }
+        ensures next { NextMember (node schema.entry) (document_hand self.old) (document_hand self.new) result }
+        ensures plainly { NextMember (node schema.entry) (plain_hand self.old) (plain_hand self.new) result }
+        ensures settings { settings_of self.new ≡ settings_of self.old }
+    {
         Ok(self.cursor.next_member(self.root, schema))
     }
 
-    fn next_element(&mut self, _alloc: Global) -> Result<bool, SerdeError> {
+    fn next_element(&mut self, _alloc: Global) -> Result<bool, SerdeError>
+        requires { IsIn group.List (document_hand self.old) }
+        ensures next { NextElement (document_hand self.old) (document_hand self.new) result }
+        ensures plainly { NextElement (plain_hand self.old) (plain_hand self.new) result }
+        ensures settings { settings_of self.new ≡ settings_of self.old }
+    {
         Ok(self.cursor.next_element(self.root))
     }
 
-    fn next_entry(&mut self, alloc: Global) -> Result<Option<Text>, SerdeError> {
+    fn next_entry(&mut self, alloc: Global) -> Result<Option<Text>, SerdeError>
+        requires { IsIn group.Map (document_hand self.old) }
+        ensures next { NextEntry (document_hand self.old) (document_hand self.new) result }
+        ensures plainly { NextEntry (plain_hand self.old) (plain_hand self.new) result }
+        ensures settings { settings_of self.new ≡ settings_of self.old }
+    {
         self.cursor.next_entry(alloc, self.root)
     }
 
-    fn settle(&mut self, _alloc: Global, refusal: SerdeError) -> Result<(), SerdeError> {
+    fn settle(&mut self, _alloc: Global, refusal: SerdeError) -> Result<(), SerdeError>
+        ensures settles { Settles refusal (document_hand self.old) (document_hand self.new) result }
+        ensures as_it_is { result ≡ Err refusal }
+        ensures left { self.new ≡ self.old }
+    {
         Err(refusal)
     }
 
-    fn is_null(&self) -> bool {
+    fn is_null(&self) -> bool
+        ensures told { TellsNull (document_hand self.now) result }
+        ensures plainly { TellsNull (plain_hand self.now) result }
+    {
         is_null(self.cursor.document(self.root))
     }
 
-    /// Answers Ok, and leaves the reader as it was. Takes no memory.
-    fn read_null(&mut self) -> Result<(), SerdeError>
-        ensures skips { Skips (document_hand self.old) (document_hand self.new) result }
-        ensures stays { self.new ≡ self.old }
-        ensures ok { IsOk result }
-    {
+    fn read_null(&mut self) -> Result<(), SerdeError> {
         Ok(())
     }
 
-    /// Passes over the value at hand: it reads nothing. Takes no memory.
-    fn skip_value(&mut self, _alloc: Global) -> Result<(), SerdeError>
-        ensures skips { Skips (document_hand self.old) (document_hand self.new) result }
-        ensures stays { self.new ≡ self.old }
-        ensures ok { IsOk result }
-    {
+    /// It reads nothing.
+    fn skip_value(&mut self, _alloc: Global) -> Result<(), SerdeError> {
         Ok(())
     }
 
-    /// How many items an array or an object at hand has, and 10,000 where it has more; none of any other document.
-    fn container_size(&self) -> Option<usize>
-        ensures { result ≡ container_size (document_at_hand self.now) }
-    {
+    fn container_size(&self) -> Option<usize> {
         size_of(self.cursor.document(self.root))
     }
 }

@@ -17,7 +17,7 @@ use smithy_types::{NoSettings, Text};
 use std::alloc::Global;
 
 /// Reads a JSON text as `DocumentShapeDeserializer` reads its document. Over what is no JSON, or has a float in it, each
-/// read and each opening is refused with `InvalidInput`.
+/// read and each opening is refused with `InvalidInput`. A read leaves the value at hand.
 #[derive(Drop)]
 pub struct JsonDeserializer {
     pub(crate) tree: Option<JsonTree>,
@@ -55,30 +55,48 @@ fn read_node(
 }
 
 impl ShapeDeserializer for JsonDeserializer {
-    ghost use Rattle.std.specs.Prelude.{◌≡◌, IsOk};
-    ghost use Rattle.smithy_serde.specs.ReadCalls.{Skips};
+    ghost use Rattle.std.specs.Prelude.{◌≡◌, OnErr};
+    ghost use Rattle.smithy_schema.specs.References.{schema_of as node};
+    ghost use Rattle.smithy_serde.specs.Unchanged.{DoesNothing};
+    ghost use Rattle.smithy_serde.specs.ReadCalls.{Reads, OpensAt};
     ghost use Rattle.smithy_document.specs.JsonHand.{json_hand, json_size, PassesOver};
 
     ghost at_hand = { json_hand };
+
+    // How many items an array or an object at hand has, and 10,000 where it has more; none of any other value, and none
+    // over what is no JSON.
+    ghost has_size = { λ reader size. size ≡ json_size reader };
+
+    ghost reads_null = { DoesNothing };
+
+    ghost passes_over = { PassesOver };
 
     fn read(
         &mut self,
         alloc: Global,
         _schema: SchemaRef<'_>,
         kind: ScalarKind,
-    ) -> Result<ReadScalar, SerdeError> {
+    ) -> Result<ReadScalar, SerdeError>
+        ensures reads { Reads scalar_of_read kind (node _schema.entry)
+            (json_hand self.old) (json_hand self.new) result }
+        ensures left { self.new ≡ self.old }
+    {
         match &self.tree {
             Some(tree) => read_node(alloc, tree, self.cursor.node(tree), kind),
             None => Err(not_json(alloc)),
         }
     }
 
+    /// A refused opening leaves the value at hand.
     fn open(
         &mut self,
         alloc: Global,
         _schema: SchemaRef<'_>,
         group: Group,
-    ) -> Result<(), SerdeError> {
+    ) -> Result<(), SerdeError>
+        ensures opens { OpensAt group (node _schema.entry) (json_hand self.old) (json_hand self.new) result }
+        ensures left { OnErr result (json_hand self.new ≡ json_hand self.old) }
+    {
         match &self.tree {
             Some(tree) => self.cursor.open(alloc, tree, group),
             None => Err(not_json(alloc)),
@@ -121,32 +139,19 @@ impl ShapeDeserializer for JsonDeserializer {
         }
     }
 
-    /// Answers Ok, and leaves the reader as it was. Takes no memory.
-    fn read_null(&mut self) -> Result<(), SerdeError>
-        ensures skips { Skips (json_hand self.old) (json_hand self.new) result }
-        ensures stays { self.new ≡ self.old }
-        ensures ok { IsOk result }
-    {
+    fn read_null(&mut self) -> Result<(), SerdeError> {
         Ok(())
     }
 
-    /// Passes over the value at hand; over what is no JSON it is refused as each read is. Takes no memory where it is Ok.
-    fn skip_value(&mut self, alloc: Global) -> Result<(), SerdeError>
-        ensures skips { Skips (json_hand self.old) (json_hand self.new) result }
-        ensures stays { self.new ≡ self.old }
-        ensures passes { PassesOver self.old result }
-    {
+    /// Over what is no JSON it is refused as each read is.
+    fn skip_value(&mut self, alloc: Global) -> Result<(), SerdeError> {
         match &self.tree {
             Some(_) => Ok(()),
             None => Err(not_json(alloc)),
         }
     }
 
-    /// How many items an array or an object at hand has, and 10,000 where it has more; none of any other value, and none
-    /// over what is no JSON.
-    fn container_size(&self) -> Option<usize>
-        ensures { result ≡ json_size self.now }
-    {
+    fn container_size(&self) -> Option<usize> {
         match &self.tree {
             Some(tree) => self.cursor.node(tree).container_size(),
             None => None,

@@ -1,5 +1,5 @@
 // Where a reader stands in a JSON value.
-ghost use Rattle.std.specs.Prelude.{◌≡◌, Ok, [], option_map};
+ghost use Rattle.std.specs.Prelude.{◌≡◌, Ok, [], OnErr, option_map};
 ghost use Rattle.smithy_schema.specs.Nodes.{Schema};
 ghost use Rattle.smithy_schema.specs.References.{schema_of as node};
 ghost use Rattle.smithy_serde.specs.declared.scalar.Group.TheVariants as group;
@@ -104,8 +104,9 @@ impl TreeCursor {
         tree: &JsonTree,
         group: Group,
     ) -> Result<(), SerdeError>
-        ensures { (schema : Schema) → OpensAt group schema (tree_seen (tree_view tree.now) self.old)
+        ensures opens { (schema : Schema) → OpensAt group schema (tree_seen (tree_view tree.now) self.old)
             (tree_seen (tree_view tree.now) self.new) result }
+        ensures kept { OnErr result (self.new.places.items ≡ self.old.places.items) }
     {
         let node = self.node(tree);
         if !node.opens_as(group) {

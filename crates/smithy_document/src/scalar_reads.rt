@@ -1,10 +1,12 @@
 // Documents read as scalars.
-ghost use Rattle.std.specs.Prelude.{◌≡◌, Some, IfOk, IfNone, IsTrue};
+ghost use Rattle.std.specs.Prelude.{◌≡◌, Some, IfOk, IsTrue};
+ghost use Rattle.std.specs.Option.{option_copied};
 ghost use Rattle.smithy_types.specs.DocumentView.{view};
 ghost use Rattle.smithy_serde.specs.DocumentReads.{scalar_of_document};
 ghost use Rattle.smithy_serde.specs.Lawful.{is_canonical};
-ghost use Rattle.smithy_serde.specs.ReadCalls.{Gives, is_of_kind, scalar_of_read, type_of};
+ghost use Rattle.smithy_serde.specs.ReadCalls.{Gives, is_of_kind, scalar_of_read};
 ghost use Rattle.smithy_serde.specs.Values as value;
+ghost use Rattle.smithy_document.specs.SettingsReads.{coercions, ReadsBy, ReadsWith};
 
 use crate::big_number_reads::{big_decimal, big_integer};
 use crate::mismatch::mismatch;
@@ -45,10 +47,17 @@ fn blob<S: DocumentSettings>(
     alloc: Global,
     document: &Document,
     settings: &S,
-) -> Result<Blob, SerdeError> {
+) -> Result<Blob, SerdeError>
+    ensures { ReadsWith (coercions S.gives_blob S.gives_number_timestamp S.gives_text_timestamp settings.now)
+        value.blob ShapeType.Blob (view document.now) result }
+{
     match document {
         Document::String(text) => Ok(settings.coerce_string_to_blob(alloc, text.as_str())?),
-        _ => Err(mismatch(alloc, ShapeType::Blob, document)),
+        Document::Null => Err(mismatch(alloc, ShapeType::Blob, document)),
+        Document::Bool(_) => Err(mismatch(alloc, ShapeType::Blob, document)),
+        Document::Number(_) => Err(mismatch(alloc, ShapeType::Blob, document)),
+        Document::Array(_) => Err(mismatch(alloc, ShapeType::Blob, document)),
+        Document::Object(_) => Err(mismatch(alloc, ShapeType::Blob, document)),
     }
 }
 
@@ -71,11 +80,17 @@ fn timestamp<S: DocumentSettings>(
     alloc: Global,
     document: &Document,
     settings: &S,
-) -> Result<DateTime, SerdeError> {
+) -> Result<DateTime, SerdeError>
+    ensures { ReadsWith (coercions S.gives_blob S.gives_number_timestamp S.gives_text_timestamp settings.now)
+        value.timestamp ShapeType.Timestamp (view document.now) result }
+{
     match document {
         Document::Number(number) => Ok(settings.coerce_number_to_timestamp(alloc, *number)?),
         Document::String(text) => Ok(settings.coerce_string_to_timestamp(alloc, text.as_str())?),
-        _ => Err(mismatch(alloc, ShapeType::Timestamp, document)),
+        Document::Null => Err(mismatch(alloc, ShapeType::Timestamp, document)),
+        Document::Bool(_) => Err(mismatch(alloc, ShapeType::Timestamp, document)),
+        Document::Array(_) => Err(mismatch(alloc, ShapeType::Timestamp, document)),
+        Document::Object(_) => Err(mismatch(alloc, ShapeType::Timestamp, document)),
     }
 }
 
@@ -105,8 +120,8 @@ pub(crate) fn read_as<S: DocumentSettings>(
 ) -> Result<ReadScalar, SerdeError>
     requires { IsTrue (is_canonical (view document.now)) }
     ensures of_kind { IfOk result (λ a. IsTrue (is_of_kind kind (scalar_of_read a))) }
-    ensures gives { IfNone settings.entry
-        (Gives scalar_of_read (Some (scalar_of_document (type_of kind) (view document.entry.now))) result) }
+    ensures gives { ReadsBy (coercions S.gives_blob S.gives_number_timestamp S.gives_text_timestamp)
+        (option_copied settings.entry) kind (view document.entry.now) result }
 {
     match kind {
         ScalarKind::Boolean => Ok(ReadScalar::Boolean(boolean(alloc, document)?)),

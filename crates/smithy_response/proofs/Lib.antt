@@ -5,12 +5,10 @@ pub mod HandedItems
 pub mod KnownKeys
 pub mod Members
 pub mod MembersReading
-pub mod OnLiterals
 pub mod Passing
 pub mod Presenting
 pub mod Readings
 pub mod Refusing
-pub mod Rows
 pub mod Settles
 pub mod StageSteps
 pub mod Takings

@@ -9,7 +9,10 @@ use Rattle.smithy_serde.specs.declared.read_scalar.ReadScalar.{ReadScalar}
 use Rattle.smithy_serde.specs.declared.scalar.Group.{Group}
 use Rattle.smithy_serde.specs.declared.scalar.Group.TheVariants as group
 use Rattle.smithy_serde.specs.Held.{Answer}
+use Rattle.smithy_serde.specs.Unchanged.{DoesNothing}
 use Rattle.smithy_serde.specs.ReadCalls.{Frame, AtHand, scalar_of_read, Reads, Skips, OpensAt, NextMember, NextElement, NextEntry, TellsNull}
+use Rattle.smithy_response.specs.declared.parts.BoundMember.{BoundMember}
+use Rattle.smithy_response.specs.Transporting.{is_nothing, RefusesNothing}
 use Rattle.smithy_response.specs.declared.composite.CompositeReader.{CompositeReader}
 use Rattle.smithy_response.specs.declared.response_reader.ResponseReader.{ResponseReader}
 use Rattle.smithy_response.specs.declared.response_reader.ResponseReader.TheVariants.{BodyOnly, Composite}
@@ -25,12 +28,20 @@ seen at c = composite_at_hand c.stage c.transport (at c.body.reader)
 pub record Standing : Type 0 where
   pub stage : Option Stage
   pub body : AtHand
+  -- the response's structure is open, and no member of it is at hand
+  pub nothing : Bool
+
+abbrev pub begins : Stage → BoundMember → Bool
+begins (stage.Bound is_given) member = is_nothing member
+begins stage.Top member = false
+begins stage.Payload member = false
+begins stage.Body member = false
 
 abbrev pub stands : {D : Type 0} {is_read : Ghosts D} → (D → AtHand) → CompositeReader D is_read → Standing
-stands at c = record { stage = Some c.stage; body = at c.body.reader }
+stands at c = record { stage = Some c.stage; body = at c.body.reader; nothing = begins c.stage c.transport.member }
 
 abbrev pub reader_stands : {D : Type 0} {is_read : Ghosts D} → (D → AtHand) → ResponseReader D is_read → Standing
-reader_stands at (BodyOnly body) = record { stage = None; body = at body }
+reader_stands at (BodyOnly body) = record { stage = None; body = at body; nothing = false }
 reader_stands at (Composite c) = stands at c
 
 -- it comes no further
@@ -61,6 +72,10 @@ ReadsUnless false k node old new result = Reads scalar_of_read k node old new re
 abbrev pub ReadsBody : {R : Type 0} → (R → Standing) → ScalarKind → Schema → R → R → Result ReadScalar SerdeError → Type 0
 ReadsBody at k node old new result = ReadsUnless (is_bound (at old).stage) k node (at old).body (at new).body result
 
+-- until its first member came to hand, a read is refused
+abbrev pub ReadsNothing : Standing → Result ReadScalar SerdeError → Type 0
+ReadsNothing old result = RefusesNothing old.nothing result
+
 -- A bound member is not the null. Otherwise the body's reader tells it.
 abbrev pub TellsNullUnless : (bound : Bool) → AtHand → Bool → Type 0
 TellsNullUnless true body result = result ≡ false
@@ -69,21 +84,42 @@ TellsNullUnless false body result = TellsNull body result
 abbrev pub TellsBodyNull : Standing → Bool → Type 0
 TellsBodyNull now result = TellsNullUnless (is_bound now.stage) now.body result
 
--- of a bound member no size is known
-abbrev pub IsUnsized : Standing → Option ℕ → Type 0
-IsUnsized now size = is_bound now.stage ≡ true → size ≡ None
+-- Of a bound member and of its items no size is known. Otherwise the body's reader tells it.
+abbrev pub SizedUnless : (bound : Bool) → Option ℕ → Type 0 → Type 0
+SizedUnless true size told = size ≡ None
+SizedUnless false size told = told
 
--- A bound member is passed over by doing nothing. Otherwise the body's reader does it.
+abbrev pub size_by_body : {D : Type 0} {is_read : Ghosts D} → (D → Option ℕ → Type 0) → CompositeReader D is_read → Option ℕ → Type 0
+size_by_body tells now size = SizedUnless (is_bound (Some now.stage)) size (tells now.body.reader size)
+
+abbrev pub reader_size_by_body : {D : Type 0} {is_read : Ghosts D} → (D → Option ℕ → Type 0) → ResponseReader D is_read → Option ℕ → Type 0
+reader_size_by_body tells (BodyOnly now) size = tells now size
+reader_size_by_body tells (Composite now) size = size_by_body tells now size
+
+-- A bound member is passed over by doing nothing. Otherwise the body's reader passes over its value.
 abbrev pub SkipsUnless : {R : Type 0} → (bound : Bool) → R → R → AtHand → AtHand → Answer → Type 0
-SkipsUnless true old new body left result = (new ≡ old) × (result ≡ Ok tt)
+SkipsUnless true old new body left result = DoesNothing old new result
 SkipsUnless false old new body left result = Skips body left result
 
 abbrev pub SkipsBody : {R : Type 0} → (R → Standing) → R → R → Answer → Type 0
 SkipsBody at old new result = SkipsUnless (is_bound (at old).stage) old new (at old).body (at new).body result
 
--- While nothing is open, a structure opens as the response's, and the body's reader is as it was. Anything else that reader opens.
+-- and as that reader does
+abbrev pub NothingIf : {R : Type 0} → (bound : Bool) → R → R → Answer → Type 0 → Type 0
+NothingIf true old new answer done = DoesNothing old new answer
+NothingIf false old new answer done = done
+
+abbrev pub by_body : {D : Type 0} {is_read : Ghosts D} → (D → D → Answer → Type 0) → CompositeReader D is_read → CompositeReader D is_read → Answer → Type 0
+by_body does old new answer = NothingIf (is_bound (Some old.stage)) old new answer (does old.body.reader new.body.reader answer)
+
+abbrev pub reader_by_body : {D : Type 0} {is_read : Ghosts D} → (D → D → Answer → Type 0) → ResponseReader D is_read → ResponseReader D is_read → Answer → Type 0
+reader_by_body does (BodyOnly old) (BodyOnly new) answer = does old new answer
+reader_by_body does (Composite old) (Composite new) answer = by_body does old new answer
+reader_by_body does old new answer = ⊥
+
+-- While nothing is open, a structure opens as the response's, no member is at hand, and the body's reader is as it was. Anything else that reader opens.
 abbrev pub OpensUnder : List Frame → Group → Schema → AtHand → Standing → Answer → Type 0
-OpensUnder [] group.Structure node old new result = (result ≡ Ok tt) × (new.body ≡ old) × (is_top new.stage ≡ false)
+OpensUnder [] group.Structure node old new result = (result ≡ Ok tt) × (new.body ≡ old) × (is_top new.stage ≡ false) × (new.nothing ≡ true)
 OpensUnder [] group.List node old new result = OpensAt group.List node old new.body result × (is_top new.stage ≡ true)
 OpensUnder [] group.Map node old new result = OpensAt group.Map node old new.body result × (is_top new.stage ≡ true)
 OpensUnder (o ∷ os) g node old new result = OpensAt g node old new.body result × (is_top new.stage ≡ true)

@@ -1,11 +1,11 @@
 -- What the part of a response that needs no reader of its body has at hand, and what it hands out next.
-use Rattle.std.specs.Prelude.{◌≡◌, ◌<◌, ◌≤◌, ◌⊎◌, ℕ, ◌-◌, Bool, true, false, List, [], ◌∷◌, ◌++◌, map, filter_map, drop, length, slice_get, Option, Some, None, option_map, Result, Ok, Err, IfOk}
+use Rattle.std.specs.Prelude.{◌≡◌, ◌<◌, ◌≤◌, ◌⊎◌, ℕ, codes, ◌-◌, Bool, true, false, List, [], ◌∷◌, ◌++◌, map, filter_map, drop, length, slice_get, Option, Some, None, option_map, Result, Ok, Err, IfOk}
 use Rattle.std.specs.Option.{option_map_or}
 use Rattle.smithy_http.specs.Responses.{Response}
 use Rattle.smithy_schema.specs.Nodes.{Schema, at_place, name_of}
 use Rattle.smithy_schema.specs.References.{schema_of}
 use Rattle.smithy_serde.specs.declared.error.SerdeError.{SerdeError}
-use Rattle.smithy_serde.specs.declared.error.SerdeError.TheVariants.{OutOfMemory}
+use Rattle.smithy_serde.specs.declared.error.SerdeError.TheVariants.{InvalidInput, OutOfMemory}
 use Rattle.smithy_serde.specs.declared.scalar.Group.{Group}
 use Rattle.smithy_serde.specs.declared.scalar.Group.TheVariants as group
 use Rattle.smithy_serde.specs.Held as held
@@ -13,7 +13,7 @@ use Rattle.smithy_serde.specs.Held.{Held, Prefixed, Answer, levels_of}
 use Rattle.smithy_serde.specs.Listings.{Slot, at_member, at_element, at_key, all_of, contents, contents_at, told_at}
 use Rattle.smithy_serde.specs.declared.read_scalar.ScalarKind.{ScalarKind}
 use Rattle.smithy_serde.specs.declared.read_scalar.ReadScalar.{ReadScalar}
-use Rattle.smithy_serde.specs.ReadCalls.{Frame, AtHand, scalar_of_read, Reads, OpensAt, IsMember}
+use Rattle.smithy_serde.specs.ReadCalls.{Frame, AtHand, Gives, scalar_of_read, Reads, OpensAt, IsMember}
 use Rattle.smithy_response.specs.declared.parts.BoundMember.{BoundMember}
 use Rattle.smithy_response.specs.declared.parts.BoundMember.TheVariants as bound
 use Rattle.smithy_response.specs.declared.parts.HeaderAtHand.{HeaderAtHand}
@@ -110,6 +110,22 @@ member_settled policy response _ e = Err e
 -- what is at hand is read as a scalar
 abbrev pub ReadsBound : Transport → ScalarKind → Schema → Result ReadScalar SerdeError → Type 0
 ReadsBound t k node result = Reads scalar_of_read k node (transport_at_hand t) (transport_at_hand t) result
+
+-- no member is at hand
+abbrev pub is_nothing : BoundMember → Bool
+is_nothing bound.Nothing = true
+is_nothing (bound.Header member h) = false
+is_nothing (bound.Prefix member prefix entries) = false
+is_nothing bound.Status = false
+is_nothing bound.Raw = false
+is_nothing bound.Body = false
+
+-- the refusal of a read there
+abbrev pub nothing_at_hand : SerdeError
+nothing_at_hand = InvalidInput (codes "no value is at hand")
+
+abbrev pub RefusesNothing : Bool → Result ReadScalar SerdeError → Type 0
+RefusesNothing none result = none ≡ true → Gives scalar_of_read (Some (Err nothing_at_hand)) result
 
 -- it is opened
 abbrev pub OpensBound : Group → Schema → Transport → Transport → Answer → Type 0

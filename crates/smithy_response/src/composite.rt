@@ -44,9 +44,15 @@ impl<D: ShapeDeserializer> ShapeDeserializer for CompositeReader<D> {
     ghost use Rattle.smithy_schema.specs.References.{schema_of as node};
     ghost use Rattle.smithy_serde.specs.declared.scalar.Group.TheVariants as group;
     ghost use Rattle.smithy_serde.specs.ReadCalls.{IsIn, scalar_of_read, Reads, Skips, OpensAt, NextMember, NextElement, NextEntry, Settles, TellsNull};
-    ghost use Rattle.smithy_response.specs.BodyCalls.{seen, stands, ReadsBody, OpensFirst, NextMemberFirst, NextElementFirst, NextEntryFirst, SettlesFirst, TellsBodyNull, IsUnsized, SkipsBody, Stays};
+    ghost use Rattle.smithy_response.specs.BodyCalls.{seen, stands, ReadsBody, ReadsNothing, OpensFirst, NextMemberFirst, NextElementFirst, NextEntryFirst, SettlesFirst, TellsBodyNull, SkipsBody, Stays, by_body, size_by_body};
 
     ghost at_hand = { seen D.at_hand };
+
+    ghost has_size = { size_by_body D.has_size };
+
+    ghost reads_null = { by_body D.reads_null };
+
+    ghost passes_over = { by_body D.passes_over };
 
     #[inline(always)]
     fn read(
@@ -59,6 +65,7 @@ impl<D: ShapeDeserializer> ShapeDeserializer for CompositeReader<D> {
             Reads scalar_of_read kind (node schema.entry) old (seen D.at_hand self.new) result }
         ensures body { ReadsBody (stands D.at_hand) kind (node schema.entry) self.old self.new result }
         ensures stage { Stays (stands D.at_hand) self.old self.new }
+        ensures nothing { ReadsNothing (stands D.at_hand self.old) result }
     {
         match self.stage {
             Stage::Bound { .. } => self.transport.read(alloc, schema, kind),
@@ -196,18 +203,19 @@ impl<D: ShapeDeserializer> ShapeDeserializer for CompositeReader<D> {
         }
     }
 
-    fn container_size(&self) -> Option<usize>
-        ensures { IsUnsized (stands D.at_hand self.now) result }
-    {
+    fn container_size(&self) -> Option<usize> {
         match self.stage {
             Stage::Bound { .. } => None,
-            _ => self.body.container_size(),
+            Stage::Top => self.body.container_size(),
+            Stage::Payload => self.body.container_size(),
+            Stage::Body => self.body.container_size(),
         }
     }
 
     fn read_null(&mut self) -> Result<(), SerdeError>
         ensures told { Skips (seen D.at_hand self.old) (seen D.at_hand self.new) result }
         ensures body { SkipsBody (stands D.at_hand) self.old self.new result }
+        ensures null { by_body D.reads_null self.old self.new result }
         ensures stage { Stays (stands D.at_hand) self.old self.new }
     {
         match self.stage {
@@ -221,6 +229,7 @@ impl<D: ShapeDeserializer> ShapeDeserializer for CompositeReader<D> {
     fn skip_value(&mut self, alloc: Global) -> Result<(), SerdeError>
         ensures told { Skips (seen D.at_hand self.old) (seen D.at_hand self.new) result }
         ensures body { SkipsBody (stands D.at_hand) self.old self.new result }
+        ensures passed { by_body D.passes_over self.old self.new result }
         ensures stage { Stays (stands D.at_hand) self.old self.new }
     {
         match self.stage {

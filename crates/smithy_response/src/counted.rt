@@ -120,12 +120,15 @@ impl<D: ShapeDeserializer> Counted<D> {
         self.reader.is_null()
     }
 
-    pub(crate) fn container_size(&self) -> Option<usize> {
+    pub(crate) fn container_size(&self) -> Option<usize>
+        ensures { D.has_size self.now.reader result }
+    {
         self.reader.container_size()
     }
 
     pub(crate) fn read_null(&mut self) -> Result<(), SerdeError>
         ensures read { Skips (D.at_hand self.old.reader) (D.at_hand self.new.reader) result }
+        ensures null { D.reads_null self.old.reader self.new.reader result }
         ensures depth { self.new.depth ≡ self.old.depth }
     {
         self.reader.read_null()
@@ -133,6 +136,7 @@ impl<D: ShapeDeserializer> Counted<D> {
 
     pub(crate) fn skip_value(&mut self, alloc: Global) -> Result<(), SerdeError>
         ensures read { Skips (D.at_hand self.old.reader) (D.at_hand self.new.reader) result }
+        ensures passed { D.passes_over self.old.reader self.new.reader result }
         ensures depth { self.new.depth ≡ self.old.depth }
     {
         self.reader.skip_value(alloc)

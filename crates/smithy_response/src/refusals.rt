@@ -8,6 +8,7 @@ ghost use Rattle.smithy_serde.specs.Refusals.{IsRefusal};
 ghost use Rattle.smithy_serde.specs.Requests.{requested, plain_word};
 ghost use Rattle.smithy_response.specs.GivenScalars.{item_refusal, date_text};
 ghost use Rattle.smithy_response.specs.Routes.{not_buffered};
+ghost use Rattle.smithy_response.specs.Transporting.{nothing_at_hand};
 ghost use Rattle.smithy_response.specs.Settling.{header_context, prefix_context, in_header_for, behind_prefix_for};
 
 use smithy_http::{HttpError, ListFault};
@@ -249,6 +250,8 @@ pub(crate) fn not_buffered(alloc: Global, member: &str) -> SerdeError
 }
 
 /// Nothing is at hand.
-pub(crate) fn nothing_at_hand(alloc: Global) -> SerdeError {
+pub(crate) fn nothing_at_hand(alloc: Global) -> SerdeError
+    ensures { IsRefusal nothing_at_hand result }
+{
     SerdeError::invalid_input(alloc, "no value is at hand")
 }

@@ -26,10 +26,16 @@ impl<D: ShapeDeserializer> ShapeDeserializer for ResponseReader<D> {
     ghost use Rattle.smithy_schema.specs.References.{schema_of as node};
     ghost use Rattle.smithy_serde.specs.declared.scalar.Group.TheVariants as group;
     ghost use Rattle.smithy_serde.specs.ReadCalls.{IsIn, scalar_of_read, Reads, Skips, OpensAt, NextMember, NextElement, NextEntry, Settles, TellsNull};
-    ghost use Rattle.smithy_response.specs.BodyCalls.{reader_stands as stands, ReadsBody, OpensFirst, NextMemberFirst, NextElementFirst, NextEntryFirst, SettlesFirst, TellsBodyNull, IsUnsized, SkipsBody, Stays};
+    ghost use Rattle.smithy_response.specs.BodyCalls.{reader_stands as stands, ReadsBody, ReadsNothing, OpensFirst, NextMemberFirst, NextElementFirst, NextEntryFirst, SettlesFirst, TellsBodyNull, SkipsBody, Stays, reader_by_body as by_body, reader_size_by_body as size_by_body};
     ghost use Rattle.smithy_response.specs.ResponseReaders.{reader_at_hand as seen};
 
     ghost at_hand = { seen D.at_hand };
+
+    ghost has_size = { size_by_body D.has_size };
+
+    ghost reads_null = { by_body D.reads_null };
+
+    ghost passes_over = { by_body D.passes_over };
 
     fn read(
         &mut self,
@@ -41,6 +47,7 @@ impl<D: ShapeDeserializer> ShapeDeserializer for ResponseReader<D> {
             Reads scalar_of_read kind (node schema.entry) old (seen D.at_hand self.new) result }
         ensures body { ReadsBody (stands D.at_hand) kind (node schema.entry) self.old self.new result }
         ensures stage { Stays (stands D.at_hand) self.old self.new }
+        ensures nothing { ReadsNothing (stands D.at_hand self.old) result }
     {
         match self {
             ResponseReader::BodyOnly(reader) => reader.read(alloc, schema, kind),
@@ -117,9 +124,7 @@ impl<D: ShapeDeserializer> ShapeDeserializer for ResponseReader<D> {
         }
     }
 
-    fn container_size(&self) -> Option<usize>
-        ensures { IsUnsized (stands D.at_hand self.now) result }
-    {
+    fn container_size(&self) -> Option<usize> {
         match self {
             ResponseReader::BodyOnly(reader) => reader.container_size(),
             ResponseReader::Composite(reader) => reader.container_size(),
@@ -129,6 +134,7 @@ impl<D: ShapeDeserializer> ShapeDeserializer for ResponseReader<D> {
     fn read_null(&mut self) -> Result<(), SerdeError>
         ensures told { Skips (seen D.at_hand self.old) (seen D.at_hand self.new) result }
         ensures body { SkipsBody (stands D.at_hand) self.old self.new result }
+        ensures null { by_body D.reads_null self.old self.new result }
         ensures stage { Stays (stands D.at_hand) self.old self.new }
     {
         match self {
@@ -140,6 +146,7 @@ impl<D: ShapeDeserializer> ShapeDeserializer for ResponseReader<D> {
     fn skip_value(&mut self, alloc: Global) -> Result<(), SerdeError>
         ensures told { Skips (seen D.at_hand self.old) (seen D.at_hand self.new) result }
         ensures body { SkipsBody (stands D.at_hand) self.old self.new result }
+        ensures passed { by_body D.passes_over self.old self.new result }
         ensures stage { Stays (stands D.at_hand) self.old self.new }
     {
         match self {

@@ -44,20 +44,21 @@ pub enum Turn<'s> {
 }
 
 impl Transport {
-    ghost use Rattle.std.specs.Prelude.{◌≡◌, false, []};
+    ghost use Rattle.std.specs.Prelude.{◌≡◌, true, false, []};
     ghost use Rattle.smithy_schema.specs.References.{schema_of};
     ghost use Rattle.smithy_serde.specs.declared.scalar.Group.TheVariants as group;
     ghost use Rattle.smithy_serde.specs.Held.{IsAnswer};
     ghost use Rattle.smithy_serde.specs.ReadCalls.{IsIn, NextElement, NextEntry, TellsNull};
     ghost use Rattle.smithy_response.specs.Handed.{reads_body};
     ghost use Rattle.smithy_response.specs.Routes.{in_header, in_prefix};
-    ghost use Rattle.smithy_response.specs.Transporting.{transport_at_hand, transport_settled, settled_from, ReadsBound, OpensBound, IsSameResponse, IsSameTurn, NextBound};
+    ghost use Rattle.smithy_response.specs.Transporting.{transport_at_hand, transport_settled, settled_from, is_nothing, RefusesNothing, ReadsBound, OpensBound, IsSameResponse, IsSameTurn, NextBound};
 
     /// The response from its first member on.
     pub(crate) fn start(&mut self)
         ensures same { IsSameResponse self.old self.new }
         ensures place { self.new.place ≡ 0 }
         ensures closed { (transport_at_hand self.new).opened ≡ [] }
+        ensures nothing { is_nothing self.new.member ≡ true }
     {
         self.place = 0;
         self.member = BoundMember::Nothing;
@@ -118,7 +119,8 @@ impl Transport {
         schema: SchemaRef<'_>,
         kind: ScalarKind,
     ) -> Result<ReadScalar, SerdeError>
-        ensures { ReadsBound self.now kind (schema_of schema.entry) result }
+        ensures reads { ReadsBound self.now kind (schema_of schema.entry) result }
+        ensures nothing { RefusesNothing (is_nothing self.now.member) result }
     {
         match &self.member {
             BoundMember::Header(_, header) => header.read(alloc, &self.response, schema, kind),

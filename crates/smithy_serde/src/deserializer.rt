@@ -1,8 +1,10 @@
 // What hands out a value, one read at a time.
+ghost use Rattle.std.specs.Prelude.{ℕ, Option};
 ghost use Rattle.smithy_schema.specs.References.{schema_of as node};
 ghost use Rattle.smithy_serde.specs.Values.{byte, short, integer, long, boolean, whole, big_integer, big_decimal, text, blob, timestamp};
 ghost use Rattle.smithy_serde.specs.declared.scalar.Group.TheVariants as group;
 ghost use Rattle.smithy_serde.specs.declared.read_scalar.ScalarKind.TheVariants as k;
+ghost use Rattle.smithy_serde.specs.Held.{Answer};
 ghost use Rattle.smithy_serde.specs.ListReads.{ReadsEach, ReadsTexts};
 ghost use Rattle.smithy_serde.specs.ReadCalls.{AtHand, IsIn, scalar_of_read, tree, Reads, Skips, OpensAt, NextMember, NextElement, NextEntry, Settles, TellsNull};
 
@@ -20,10 +22,20 @@ use std::alloc::Global;
 /// list, a map or a structure, whose items then come to hand one after the other, and behind the last one it is at hand
 /// again. A read is by the kind that is asked for; of the node a reader may look at the media type and the time format.
 /// A read that refuses leaves open what was open. Each call may want memory, and is then refused with `OutOfMemory`.
-/// `read`, `open`, `settle`, `is_null` and the three `next` calls are all that an implementation has to write.
+/// An implementation writes `read`, `open`, `settle`, `is_null`, the three `next` calls, and `container_size`, `read_null`
+/// and `skip_value`, of which it says itself what they answer.
 pub trait ShapeDeserializer {
     /// What is seen of the reader: the value at hand, where it is told, and the open containers.
     ghost at_hand: { Self → AtHand };
+
+    /// What `container_size` answers.
+    ghost has_size: { Self → Option ℕ → Type 0 };
+
+    /// What `read_null` does: the reader before it and after it, and the answer.
+    ghost reads_null: { Self → Self → Answer → Type 0 };
+
+    /// What `skip_value` does, likewise.
+    ghost passes_over: { Self → Self → Answer → Type 0 };
 
     /// Reads what is at hand as a scalar or a document. It is refused where the value at hand is none of that kind.
     fn read(
@@ -70,25 +82,19 @@ pub trait ShapeDeserializer {
     fn is_null(&self) -> bool
         ensures { TellsNull (at_hand self.now) result };
 
-    /// How many items the container at hand has, or fewer, where that is known. None unless it is implemented.
-    fn container_size(&self) -> Option<usize> {
-        None
-    }
+    /// How many items the container at hand has, or fewer, where that is known.
+    fn container_size(&self) -> Option<usize>
+        ensures { has_size self.now result };
 
-    /// Reads the null. It takes any value unless it is implemented.
+    /// Reads the null.
     fn read_null(&mut self) -> Result<(), SerdeError>
-        ensures { Skips (at_hand self.old) (at_hand self.new) result }
-    {
-        Ok(())
-    }
+        ensures skips { Skips (at_hand self.old) (at_hand self.new) result }
+        ensures null { reads_null self.old self.new result };
 
-    /// Passes over the value at hand. Unless it is implemented, it reads a document by the prelude's node.
+    /// Passes over the value at hand.
     fn skip_value(&mut self, alloc: Global) -> Result<(), SerdeError>
-        ensures { Skips (at_hand self.old) (at_hand self.new) result }
-    {
-        self.read_document(alloc, SchemaRef::prelude(ShapeType::Document))?;
-        Ok(())
-    }
+        ensures skips { Skips (at_hand self.old) (at_hand self.new) result }
+        ensures passed { passes_over self.old self.new result };
 
     /// Opens a structure.
     fn open_struct(&mut self, alloc: Global, schema: SchemaRef<'_>) -> Result<(), SerdeError>

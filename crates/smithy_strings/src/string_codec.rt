@@ -1,5 +1,5 @@
 // The string codec.
-ghost use Rattle.std.specs.Prelude.{◌≡◌, ◌⊎◌, [], IsSome, Some, IfOk};
+ghost use Rattle.std.specs.Prelude.{◌≡◌, ◌⊎◌, [], IsSome, Some, None, IfOk, IfErr, OnOk};
 ghost use Rattle.smithy_serde.specs.Finishing.{Finishes};
 ghost use Rattle.smithy_strings.specs.StringReading.{held_by_bytes};
 ghost use Rattle.smithy_strings.specs.StringWriting.{string_seen, open_count, kept_refusal, IsWrittenText};
@@ -18,11 +18,13 @@ use std::str;
 pub struct HttpStringCodec;
 
 impl FinishSerializer for HttpStringSerializer {
-    /// The bytes of the text of what was written.
+    /// The bytes of the text of what was written, or the first refusal, as `HttpStringSerializer::finish` has it.
     fn finish(self) -> Result<Blob, SerdeError>
         requires { (open_count self ≡ 0) ⊎ IsSome (kept_refusal self) }
         ensures finishes { Finishes (string_seen self) result }
         ensures text { IfOk result (IsWrittenText self) }
+        ensures unrefused { OnOk result (kept_refusal self ≡ None) }
+        ensures refusal { IfErr result (λ e. kept_refusal self ≡ Some e) }
     {
         let text = HttpStringSerializer::finish(self)?;
         Ok(Blob::from_vec(text.into_string().into_bytes()))

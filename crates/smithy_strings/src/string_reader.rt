@@ -1,8 +1,9 @@
 // The string codec's reader.
-ghost use Rattle.std.specs.Prelude.{◌≡◌, Some, false, IsOk, IfOk, IfErr, OnErr, MatchOption, option_copied, length};
+ghost use Rattle.std.specs.Prelude.{◌≡◌, Some, Ok, false, IfOk, IfErr, OnErr, MatchOption, option_copied, length};
 ghost use Rattle.smithy_schema.specs.References.{schema_of as node};
 ghost use Rattle.smithy_serde.specs.Held as held;
-ghost use Rattle.smithy_serde.specs.ReadCalls.{scalar_of_read, Reads, Skips, OpensAt, Begins};
+ghost use Rattle.smithy_serde.specs.Unchanged.{DoesNothing};
+ghost use Rattle.smithy_serde.specs.ReadCalls.{scalar_of_read, Reads, OpensAt, Begins};
 ghost use Rattle.smithy_serde.specs.declared.error.SerdeError.TheVariants.{OutOfMemory as NoMemory};
 ghost use Rattle.smithy_strings.specs.ReadingRefusals.{not_utf8 as not_utf8_refusal};
 ghost use Rattle.smithy_strings.specs.StringReading.{string_at_hand, Leaves, CanOpen, RefusesOpening, listed_texts, text_left, texts_in, texts_left, used_up, used_by, passed_over, kept};
@@ -141,6 +142,15 @@ impl HttpStringDeserializer {
 impl ShapeDeserializer for HttpStringDeserializer {
     ghost at_hand = { string_at_hand };
 
+    // The number of texts that are left in the list, the one at hand counted until it is used up; outside a list that of
+    // the texts that the input spells, none where it spells no list.
+    ghost has_size = { λ reader size. size ≡ texts_left reader };
+
+    ghost reads_null = { DoesNothing };
+
+    // In a list an element is used up; outside it nothing happens. It refuses nothing.
+    ghost passes_over = { λ old new answer. Leaves passed_over old new × (answer ≡ Ok tt) };
+
     /// A text that is read is used up, whatever is answered.
     fn read(
         &mut self,
@@ -225,32 +235,18 @@ impl ShapeDeserializer for HttpStringDeserializer {
         }
     }
 
-    /// It takes any value, and nothing is used up.
-    fn read_null(&mut self) -> Result<(), SerdeError>
-        ensures skips { Skips (string_at_hand self.old) (string_at_hand self.new) result }
-        ensures left { Leaves kept self.old self.new }
-        ensures ok { IsOk result }
-    {
+    fn read_null(&mut self) -> Result<(), SerdeError> {
         Ok(())
     }
 
-    /// In a list an element is used up; outside it nothing happens. It refuses nothing.
-    fn skip_value(&mut self, _alloc: Global) -> Result<(), SerdeError>
-        ensures skips { Skips (string_at_hand self.old) (string_at_hand self.new) result }
-        ensures left { Leaves passed_over self.old self.new }
-        ensures ok { IsOk result }
-    {
+    fn skip_value(&mut self, _alloc: Global) -> Result<(), SerdeError> {
         if let Some(list) = &mut self.list {
             list.at_hand = None;
         }
         Ok(())
     }
 
-    /// The number of texts that are left in the list, the one at hand counted until it is used up; outside a list that
-    /// of the texts that the input spells, none where it spells no list.
-    fn container_size(&self) -> Option<usize>
-        ensures { result ≡ texts_left self.now }
-    {
+    fn container_size(&self) -> Option<usize> {
         match self.list {
             None => Some(self.texts()?.len()),
             Some(list) => Some(self.len().saturating_sub(list.at_hand.unwrap_or(list.next))),

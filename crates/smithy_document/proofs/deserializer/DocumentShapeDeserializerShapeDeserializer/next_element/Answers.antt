@@ -1,4 +1,4 @@
-use Rattle.std.specs.Prelude.{is_none}
+use Rattle.std.specs.Prelude.{true, is_none}
 use Rattle.smithy_types.specs.DocumentView.{view}
 use Rattle.smithy_serde.specs.declared.scalar.Group.TheVariants as group
 use Rattle.smithy_document.specs.CursorView.{document_in, opened_in}
@@ -10,5 +10,8 @@ next_element-requires g c =
     let r = c.args.self.now in
     in_told (is_none r.settings) group.List (document_in (view r.root.now) r.cursor) (opened_in (view r.root.now) r.cursor) c.requires
 
-pub returns : goal.returns
-returns g c = c.next_element.ensures (is_none c.args.self.now.settings)
+pub returns-clause-next : goal.returns-clause-next
+returns-clause-next g c = c.next_element.ensures (is_none c.args.self.now.settings)
+
+pub returns-clause-plainly : goal.returns-clause-plainly
+returns-clause-plainly g c = c.next_element.ensures true

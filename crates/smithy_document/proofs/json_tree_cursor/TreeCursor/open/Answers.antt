@@ -9,8 +9,8 @@ use Rattle.smithy_document.proofs.CursorLemmas.{opened_here, refused_here}
 use Rattle.smithy_document.proofs.WayLemmas.{opened_last}
 use Rattle.smithy_document.proofs.json_tree_cursor.TreeCursor.open.Goals as goal
 
-pub returns-then-not-opens_as : goal.returns-then-not-opens_as
-returns-then-not-opens_as c = λ schema.
+pub returns-then-not-opens_as-clause-opens : goal.returns-then-not-opens_as-clause-opens
+returns-then-not-opens_as-clause-opens c = λ schema.
     let root = tree_view c.args.tree.now in
     let d = document_at root c.args.self.now in
     let word : word_of_document d ≡ c.word.result.now = ap word_of_document (sym c.node-node.ensures) ∙ c.word.ensures c.args.tree.now.texts in
@@ -18,8 +18,8 @@ returns-then-not-opens_as c = λ schema.
     (ap (opens_as c.args.group) (sym c.node-node.ensures) ∙ sym (c.opens_as.ensures c.args.tree.now.texts) ∙ c.if-not-opens_as.true)
     (subst (λ k. IsRefusal (mismatch k d) c.mismatch_of.result) c.kind_of.ensures (c.mismatch_of.ensures d word))
 
-pub returns : goal.returns
-returns c = λ schema.
+pub returns-clause-opens : goal.returns-clause-opens
+returns-clause-opens c = λ schema.
     let root = tree_view c.args.tree.now in
     let d = document_at root c.args.self.now in
     let ps = c.args.self.now.places.items in
