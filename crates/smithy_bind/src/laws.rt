@@ -2,7 +2,7 @@
 
 ghost use Rattle.std.specs.Prelude.{◌≡◌, ◌<◌, ◌⊎◌, length, [], IfSome, Some};
 ghost use Rattle.smithy_bind.specs.Outcome.{outcome};
-ghost use Rattle.smithy_bind.specs.Ends.{due, text_of, input_of};
+ghost use Rattle.smithy_bind.specs.Ends.{due, text_of, input_of, HasWritten};
 
 use crate::top_call::{Status, run};
 use smithy_io::{Sink, Source, SureSink, SureSource};
@@ -10,7 +10,7 @@ use smithy_types::Words;
 use std::alloc::Global;
 
 /// `run` over a source that can't fail and a fresh sink: where the sink has room for the whole text it ends as is due, or there
-/// was no memory.
+/// was no memory. With 0 and 3 the sink has exactly the text, with any other such end it is as before.
 pub fn run_in_memory(
     alloc: Global,
     words: &Words,
@@ -18,9 +18,12 @@ pub fn run_in_memory(
     sink: &mut SureSink,
 ) -> Status
     requires { ⟦<SureSink as Sink>⟧.written sink.old ≡ Some [] }
-    ensures { IfSome (input_of words.now (⟦<SureSource as Source>⟧.left source.old)) (λ bytes.
+    ensures due { IfSome (input_of words.now (⟦<SureSource as Source>⟧.left source.old)) (λ bytes.
         length (text_of (outcome words.now bytes)) < ⟦<SureSink as Sink>⟧.room sink.old →
         (result ≡ due words.now bytes) ⊎ (result ≡ Status.Memory)) }
+    ensures has_written { IfSome (input_of words.now (⟦<SureSource as Source>⟧.left source.old)) (λ bytes.
+        let text = text_of (outcome words.now bytes) in
+        HasWritten result (⟦<SureSink as Sink>⟧.written sink.old) text (⟦<SureSink as Sink>⟧.written sink.new)) }
 {
     run(alloc, words, source, sink)
 }

@@ -2,7 +2,7 @@
 use Rattle.std.specs.Prelude.{ℕ, nat_eq, Bool, true, not, ◌&&◌, ◌||◌, ◌==◌, codes, List, [], ◌∷◌, ◌++◌, length, drop, map, filter, filter_map}
 use Rattle.std.specs.List.{list_all, starts_with, ends_with, concat}
 use Rattle.smithy_types.specs.Texts.{same_text, has_byte}
-use Rattle.smithy_types.specs.Grammars.{is_legal_target, scheme_len}
+use Rattle.smithy_types.specs.Grammars.{is_legal_target, scheme_len, before_query}
 use Rattle.smithy_schema.specs.Nodes.{Schema, members_of}
 use Rattle.smithy_schema.specs.Templates.{Hole, Piece, Template, pieces, holes_of, has_unclosed_brace}
 
@@ -23,10 +23,11 @@ abbrev pub are_whole_segments : List ℕ → List Piece → Bool
 are_whole_segments before [] = true
 are_whole_segments before (p ∷ ps) = ends_segment before && begins_segment p.literal && are_whole_segments p.literal ps
 
--- in absolute form the authority and the `/` behind it stand before the first hole
+-- in absolute form the authority and the `/` behind it stand before the first hole and before any query
 abbrev pub has_whole_authority : Template → Bool
 has_whole_authority template =
-    (scheme_len template.first == 0) || has_byte 47 (drop (scheme_len template.first) template.first)
+    let stem = before_query template.first in
+    (scheme_len stem == 0) || has_byte 47 (drop (scheme_len stem) stem)
 
 -- the members that are labels (httpLabel)
 abbrev pub label_members : Schema → List Schema

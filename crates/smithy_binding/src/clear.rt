@@ -10,7 +10,7 @@ ghost use Rattle.smithy_binding.specs.CutTemplate.{hole_shown, template_shown};
 ghost use Rattle.smithy_binding.specs.TargetParts.{is_close};
 
 use crate::template::{CutHole, CutTemplate, cut};
-use smithy_types::{behind_scheme, legal_target};
+use smithy_types::{before_query, behind_scheme, legal_target};
 use std::alloc::{AllocError, Global};
 use std::collections::BTreeMap;
 
@@ -90,13 +90,13 @@ fn first_literal<'t>(template: &CutTemplate<'t>) -> &'t str
     }
 }
 
-/// Whether, in absolute form, the authority and the `/` behind it stand before the first hole.
+/// Whether, in absolute form, the authority and the `/` behind it stand before the first hole and before any query.
 pub fn has_whole_authority(template: &CutTemplate<'_>) -> bool
     ensures { result ≡ has_whole_authority (template_shown template.now) }
 {
-    let first = first_literal(template).as_bytes();
-    let rest = behind_scheme(first);
-    rest.len() == first.len() || rest.contains(&b'/')
+    let stem = before_query(first_literal(template)).as_bytes();
+    let rest = behind_scheme(stem);
+    rest.len() == stem.len() || rest.contains(&b'/')
 }
 
 /// Whether no hole but the last is greedy.
