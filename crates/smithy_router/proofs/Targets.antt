@@ -1,0 +1,146 @@
+-- The target that has given segments and given pieces.
+use Rattle.std.proofs.Common.{◌≡◌, ◌≢◌, refl, ◌∙◌, ap, ℕ, suc, ◌+◌, arith, Bool, true, false, not, cond, ◌==◌, ◌&&◌, ◌||◌, List, [], ◌∷◌, ◌++◌, take, drop, eq-eqb, ne_eqb}
+use Rattle.std.specs.List.{AllByRecursion, slice_split, onto_first, join_with_byte, before_first, after_first, position_or_len}
+use Rattle.std.proofs.lemmas.List.{append-nil}
+use Rattle.smithy_types.specs.Texts.{has_byte}
+use Rattle.smithy_http.specs.Facts.{is_question_mark, query_pieces}
+use Rattle.smithy_router.specs.Segments.{segments_of, fits_path}
+use Rattle.smithy_router.specs.QueryPieces.{fits_query}
+use Rattle.smithy_router.specs.Routes.{Route, fits_target, HasNo}
+
+-- a segment of a path
+pub record IsClean (segment : List ℕ) : Type 0 where
+  pub slash : HasNo 47 segment
+  pub question : HasNo 63 segment
+
+-- nothing for no piece, and else the pieces behind a `?`
+abbrev pub query_text : List (List ℕ) → List ℕ
+query_text [] = []
+query_text (p ∷ ps) = 63 ∷ join_with_byte 38 (p ∷ ps)
+
+-- the path of these segments and the query of these pieces
+abbrev pub target_of : List (List ℕ) → List (List ℕ) → List ℕ
+target_of segments pieces = (47 ∷ join_with_byte 47 segments) ++ query_text pieces
+
+onto-append : (x : ℕ) (parts tail : List (List ℕ)) → parts ≢ [] → onto_first x (parts ++ tail) ≡ onto_first x parts ++ tail
+onto-append x [] tail some = absurd (some refl)
+onto-append x (part ∷ parts) tail some = refl
+
+onto_some : (x : ℕ) (parts : List (List ℕ)) → onto_first x parts ≢ []
+onto_some x [] e = cc e
+onto_some x (part ∷ parts) e = cc e
+
+pub split_some : (c : ℕ) (text : List ℕ) → slice_split (λ b. b == c) text ≢ []
+split_some c [] e = cc e
+split_some c (b ∷ text) e = go (b == c) e
+  where
+    go : (t : Bool) → cond t ([] ∷ slice_split (λ x. x == c) text) (onto_first b (slice_split (λ x. x == c) text)) ≢ []
+    go true e = cc e
+    go false e = onto_some b _ e
+
+-- the parts of two texts with the byte between them
+split-append : (c : ℕ) (xs ys : List ℕ) → slice_split (λ b. b == c) (xs ++ c ∷ ys) ≡ slice_split (λ b. b == c) xs ++ slice_split (λ b. b == c) ys
+split-append c [] ys = ap (λ t. cond t ([] ∷ slice_split (λ b. b == c) ys) (onto_first c (slice_split (λ b. b == c) ys))) (eq-eqb c c refl)
+split-append c (x ∷ xs) ys = go (x == c) (split-append c xs ys)
+  where
+    tail : List (List ℕ)
+    tail = slice_split (λ b. b == c) ys
+
+    parts : List (List ℕ)
+    parts = slice_split (λ b. b == c) xs
+
+    go : (t : Bool) → slice_split (λ b. b == c) (xs ++ c ∷ ys) ≡ parts ++ tail
+        → cond t ([] ∷ slice_split (λ b. b == c) (xs ++ c ∷ ys)) (onto_first x (slice_split (λ b. b == c) (xs ++ c ∷ ys))) ≡ cond t ([] ∷ parts) (onto_first x parts) ++ tail
+    go true rest = ap (λ r. [] ∷ r) rest
+    go false rest = ap (onto_first x) rest ∙ onto-append x parts tail (split_some c xs)
+
+split_none : (c : ℕ) (xs : List ℕ) → HasNo c xs → slice_split (λ b. b == c) xs ≡ xs ∷ []
+split_none c [] none = refl
+split_none c (x ∷ xs) none =
+    ap (λ t. cond t ([] ∷ slice_split (λ b. b == c) xs) (onto_first x (slice_split (λ b. b == c) xs))) (ne_eqb x c none.0) ∙ ap (onto_first x) (split_none c xs none.1)
+
+-- texts without the byte, joined by it, are the parts
+split-join : (c : ℕ) (text : List ℕ) (texts : List (List ℕ)) → AllByRecursion (HasNo c) (text ∷ texts) → slice_split (λ b. b == c) (join_with_byte c (text ∷ texts)) ≡ text ∷ texts
+split-join c text [] none = split_none c text none.0
+split-join c text (next ∷ texts) none = split-append c text (join_with_byte c (next ∷ texts)) ∙ (λ i. split_none c text none.0 i ++ split-join c next texts none.1 i)
+
+pub HasNo-append : (c : ℕ) (xs ys : List ℕ) → HasNo c xs → HasNo c ys → HasNo c (xs ++ ys)
+HasNo-append c [] ys no_x no_y = no_y
+HasNo-append c (b ∷ xs) ys no_x no_y = (no_x.0, HasNo-append c xs ys no_x.1 no_y)
+
+HasNo-join : (c d : ℕ) (texts : List (List ℕ)) → d ≢ c → AllByRecursion (HasNo c) texts → HasNo c (join_with_byte d texts)
+HasNo-join c d [] ne none = tt
+HasNo-join c d (text ∷ []) ne none = none.0
+HasNo-join c d (text ∷ next ∷ texts) ne none = HasNo-append c text (d ∷ join_with_byte d (next ∷ texts)) none.0 (ne, HasNo-join c d (next ∷ texts) ne none.1)
+
+-- what stands before the first c
+before_none : (c : ℕ) (xs : List ℕ) → HasNo c xs → before_first (λ b. b == c) xs ≡ xs
+before_none c [] none = refl
+before_none c (b ∷ xs) none =
+    let same : 1 + position_or_len (λ x. x == c) xs ≡ suc (position_or_len (λ x. x == c) xs) = omega arith in
+    ap (λ t. take (cond (not t) (1 + position_or_len (λ x. x == c) xs) 0) (b ∷ xs)) (ne_eqb b c none.0)
+    ∙ ap (λ k. take k (b ∷ xs)) same ∙ ap (λ t. b ∷ t) (before_none c xs none.1)
+
+before_cut : (c : ℕ) (xs rest : List ℕ) → HasNo c xs → before_first (λ b. b == c) (xs ++ c ∷ rest) ≡ xs
+before_cut c [] rest none = ap (λ t. take (cond (not t) (1 + position_or_len (λ x. x == c) rest) 0) (c ∷ rest)) (eq-eqb c c refl)
+before_cut c (b ∷ xs) rest none =
+    let same : 1 + position_or_len (λ x. x == c) (xs ++ c ∷ rest) ≡ suc (position_or_len (λ x. x == c) (xs ++ c ∷ rest)) = omega arith in
+    ap (λ t. take (cond (not t) (1 + position_or_len (λ x. x == c) (xs ++ c ∷ rest)) 0) (b ∷ xs ++ c ∷ rest)) (ne_eqb b c none.0)
+    ∙ ap (λ k. take k (b ∷ xs ++ c ∷ rest)) same ∙ ap (λ t. b ∷ t) (before_cut c xs rest none.1)
+
+after_cut : (c : ℕ) (xs rest : List ℕ) → HasNo c xs → after_first (λ b. b == c) (xs ++ c ∷ rest) ≡ rest
+after_cut c [] rest none = ap (λ t. drop (cond (not t) (1 + position_or_len (λ x. x == c) rest) 0 + 1) (c ∷ rest)) (eq-eqb c c refl)
+after_cut c (b ∷ xs) rest none =
+    let same : 1 + position_or_len (λ x. x == c) (xs ++ c ∷ rest) + 1 ≡ suc (position_or_len (λ x. x == c) (xs ++ c ∷ rest) + 1) = omega arith in
+    ap (λ t. drop (cond (not t) (1 + position_or_len (λ x. x == c) (xs ++ c ∷ rest)) 0 + 1) (b ∷ xs ++ c ∷ rest)) (ne_eqb b c none.0)
+    ∙ ap (λ k. drop k (b ∷ xs ++ c ∷ rest)) same ∙ after_cut c xs rest none.1
+
+has_none : (c : ℕ) (xs : List ℕ) → HasNo c xs → has_byte c xs ≡ false
+has_none c [] none = refl
+has_none c (b ∷ xs) none = ap (λ t. t || has_byte c xs) (ne_eqb b c none.0) ∙ has_none c xs none.1
+
+has_cut : (c : ℕ) (xs rest : List ℕ) → has_byte c (xs ++ c ∷ rest) ≡ true
+has_cut c [] rest = ap (λ t. t || has_byte c rest) (eq-eqb c c refl)
+has_cut c (x ∷ xs) rest = go (x == c) (has_cut c xs rest)
+  where
+    go : (t : Bool) → has_byte c (xs ++ c ∷ rest) ≡ true → (t || has_byte c (xs ++ c ∷ rest)) ≡ true
+    go true h = refl
+    go false h = h
+
+slashes : (segments : List (List ℕ)) → AllByRecursion IsClean segments → AllByRecursion (HasNo 47) segments
+slashes [] clean = tt
+slashes (s ∷ ss) clean = (clean.0.slash, slashes ss clean.1)
+
+questions : (segments : List (List ℕ)) → AllByRecursion IsClean segments → AllByRecursion (HasNo 63) segments
+questions [] clean = tt
+questions (s ∷ ss) clean = (clean.0.question, questions ss clean.1)
+
+path_clean : (segments : List (List ℕ)) → AllByRecursion IsClean segments → HasNo 63 (47 ∷ join_with_byte 47 segments)
+path_clean segments clean = ((λ h. absurd (omega arith)), HasNo-join 63 47 segments (λ h. absurd (omega arith)) (questions segments clean))
+
+-- the path of the target
+path_of_target : (segments pieces : List (List ℕ)) → AllByRecursion IsClean segments → before_first is_question_mark (target_of segments pieces) ≡ 47 ∷ join_with_byte 47 segments
+path_of_target segments [] clean = ap (before_first (λ b. b == 63)) (append-nil (47 ∷ join_with_byte 47 segments)) ∙ before_none 63 (47 ∷ join_with_byte 47 segments) (path_clean segments clean)
+path_of_target segments (p ∷ ps) clean = before_cut 63 (47 ∷ join_with_byte 47 segments) (join_with_byte 38 (p ∷ ps)) (path_clean segments clean)
+
+-- its segments are those given
+pub segments_of_target : (s : List ℕ) (ss pieces : List (List ℕ)) → AllByRecursion IsClean (s ∷ ss) → segments_of (before_first is_question_mark (target_of (s ∷ ss) pieces)) ≡ s ∷ ss
+segments_of_target s ss pieces clean = ap segments_of (path_of_target (s ∷ ss) pieces clean) ∙ split-join 47 s ss (slashes (s ∷ ss) clean)
+
+-- its pieces are those given
+pub pieces_of_target : (segments pieces : List (List ℕ)) → AllByRecursion IsClean segments → AllByRecursion (HasNo 38) pieces → query_pieces (target_of segments pieces) ≡ pieces
+pieces_of_target segments [] clean none =
+    ap query_pieces (append-nil (47 ∷ join_with_byte 47 segments))
+    ∙ ap (λ t. cond t (slice_split (λ b. b == 38) (after_first is_question_mark (47 ∷ join_with_byte 47 segments))) []) (has_none 63 (47 ∷ join_with_byte 47 segments) (path_clean segments clean))
+pieces_of_target segments (p ∷ ps) clean none =
+    ap (λ t. cond t (slice_split (λ b. b == 38) (after_first is_question_mark (target_of segments (p ∷ ps)))) []) (has_cut 63 (47 ∷ join_with_byte 47 segments) (join_with_byte 38 (p ∷ ps)))
+    ∙ ap (slice_split (λ b. b == 38)) (after_cut 63 (47 ∷ join_with_byte 47 segments) (join_with_byte 38 (p ∷ ps)) (path_clean segments clean))
+    ∙ split-join 38 p ps none
+
+-- a route matches the target exactly where its segments and its pieces fit
+pub fits_target_of : (r : Route) (segments pieces : List (List ℕ)) → segments ≢ [] → AllByRecursion IsClean segments → AllByRecursion (HasNo 38) pieces
+    → fits_target r (target_of segments pieces) ≡ (fits_path r.is_greedy r.segments segments && fits_query r.query pieces)
+fits_target_of r [] pieces some clean none = absurd (some refl)
+fits_target_of r (s ∷ ss) pieces some clean none =
+    ap (λ xs. fits_path r.is_greedy r.segments xs && fits_query r.query (query_pieces (target_of (s ∷ ss) pieces))) (segments_of_target s ss pieces clean)
+    ∙ ap (λ xs. fits_path r.is_greedy r.segments (s ∷ ss) && fits_query r.query xs) (pieces_of_target (s ∷ ss) pieces clean none)

@@ -1,0 +1,5 @@
+use Rattle.smithy_router.proofs.Best.{some_is_best as the_law}
+use Rattle.smithy_router.proofs.laws.some_is_best.Goals as goal
+
+pub returns : goal.returns
+returns c = the_law

@@ -1,0 +1,11 @@
+pub mod Adding
+pub mod Deciding
+pub mod Gives
+pub mod Laws
+pub mod QueryPieces
+pub mod Ranking
+pub mod Routes
+pub mod Seen
+pub mod Segments
+pub mod Tables
+pub mod Templates

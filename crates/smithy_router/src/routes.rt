@@ -1,0 +1,167 @@
+// Lists of routes.
+ghost use Rattle.std.specs.Prelude.{◌≡◌, OnOk, OnErr, IfErr, map, option_map};
+ghost use Rattle.smithy_router.specs.Adding.{AddsRoute, AddsTemplate, FindsBest, IsConflict, TellsConflict, with_last};
+ghost use Rattle.smithy_router.specs.Routes.{IsRoute};
+ghost use Rattle.smithy_router.specs.Tables.{AreApart, IsApartFrom};
+ghost use Rattle.smithy_router.specs.Templates.{route_of};
+ghost use Rattle.smithy_router.specs.Seen.{entry_seen, route_seen, text_seen};
+
+use crate::error::RouteError;
+use crate::route::{StoredEntry, StoredRoute};
+use crate::table;
+use crate::template_route::route_of;
+use smithy_types::{OutOfMemory, Text};
+use std::alloc::Global;
+use std::marker::Model;
+
+/// Routes that don't conflict, each with the name of its operation, seen as the list of both in the order in which they
+/// were added (Smithy, HTTP protocol bindings, http trait).
+#[derive(Drop)]
+pub struct Routes {
+    alloc: Global,
+    entries: Vec<StoredEntry>,
+}
+
+impl Model for Routes {
+    ghost use Rattle.std.specs.Prelude.{List, map};
+    ghost use Rattle.smithy_router.specs.Tables.{Entry, AreApart};
+    ghost use Rattle.smithy_router.specs.Seen.{entry_seen};
+
+    ghost Value = { List Entry };
+
+    ghost view = { λ a. map entry_seen a.entries.items };
+
+    ghost invariant = { λ a. AreApart (map entry_seen a.entries.items) };
+}
+
+impl Routes {
+    ghost use Rattle.std.specs.Prelude.{◌≡◌, [], length};
+    ghost use Rattle.smithy_router.specs.Seen.{text_seen};
+    ghost use Rattle.smithy_router.specs.Tables.{AreApart};
+    ghost use Rattle.smithy_router.specs.Templates.{route_of};
+
+    /// A list without routes. Takes no memory.
+    pub fn new(alloc: Global) -> Routes
+        ensures { result ≡ [] }
+    {
+        Routes {
+            alloc,
+            entries: Vec::new(alloc),
+        }
+    }
+
+    /// How many routes the list has. Takes no memory.
+    pub fn len(&self) -> usize
+        ensures { result ≡ length self.now }
+    {
+        self.entries.len()
+    }
+
+    /// Adds the route of a template, with the name of its operation. Refused with `Template` where the template isn't
+    /// routable: each hole is a whole segment of the path, no two have one name, a greedy one stands last, and with `a` in
+    /// each hole it is a legal target (RFC 7230, section 5.3); then with `Conflict` where some request is matched by this
+    /// route and by one that is there, and neither beats the other: the first such operation is told. After a refusal the
+    /// list is as it was. Takes memory for the texts of the route, and for a target.
+    pub fn add(&mut self, method: &str, template: &str, operation: &str) -> Result<(), RouteError>
+        ensures outcome { AddsTemplate self.old (route_of method.now template.now)
+            operation.now self.new result }
+        ensures apart { AreApart self.new }
+    {
+        add_template(self.alloc, &mut self.entries, method, template, operation)
+    }
+
+    /// The operation of the route that matches the request and beats each other one that does, None exactly where none
+    /// matches. Takes no memory.
+    pub fn find(&self, method: &str, target: &str) -> Option<&str>
+        ensures best { FindsBest method.now target.now self.now (text_seen result) }
+        ensures apart { AreApart self.now }
+    {
+        best_operation(method, target, &self.entries)
+    }
+}
+
+// The operation of the best route that matches.
+fn best_operation<'e>(method: &str, target: &str, entries: &'e [StoredEntry]) -> Option<&'e str>
+    requires { AreApart (map entry_seen entries.now) }
+    ensures { FindsBest method.now target.now (map entry_seen entries.now) (text_seen result) }
+{
+    match table::best(method, target, entries) {
+        Some(entry) => Some(entry.operation.as_str()),
+        None => None,
+    }
+}
+
+// Tells the first route that a new one conflicts with, if there is one.
+fn test_apart(alloc: Global, route: &StoredRoute, entries: &[StoredEntry]) -> Result<(), RouteError>
+    requires apart { AreApart (map entry_seen entries.now) }
+    requires route { IsRoute (route_seen route.now) }
+    ensures ok { OnOk result (IsApartFrom (route_seen route.now) (map entry_seen entries.now)) }
+    ensures err { IfErr result (TellsConflict (map entry_seen entries.now) (route_seen route.now)) }
+{
+    match table::first_conflict(route, entries) {
+        Some(entry) => Err(conflict(alloc, entry.operation.as_str())),
+        None => Ok(()),
+    }
+}
+
+// Adds an entry at the end.
+fn push_entry(
+    alloc: Global,
+    entries: &mut Vec<StoredEntry>,
+    route: StoredRoute,
+    operation: &str,
+) -> Result<(), OutOfMemory>
+    ensures ok { OnOk result (map entry_seen entries.new.items
+        ≡ with_last (map entry_seen entries.old.items) (route_seen route) operation.now) }
+    ensures err { OnErr result (entries.new.items ≡ entries.old.items) }
+{
+    let operation = String::from_str(alloc, operation)?;
+    entries.push(StoredEntry { route, operation })?;
+    Ok(())
+}
+
+// Adds a route, unless it conflicts with one that is there.
+#[tactic(auto, using(crate::proofs::Adding::adding))]
+fn add_route(
+    alloc: Global,
+    entries: &mut Vec<StoredEntry>,
+    route: StoredRoute,
+    operation: &str,
+) -> Result<(), RouteError>
+    requires apart { AreApart (map entry_seen entries.old.items) }
+    requires route { IsRoute (route_seen route) }
+    ensures outcome { AddsRoute (map entry_seen entries.old.items) (route_seen route) operation.now
+        (map entry_seen entries.new.items) result }
+    ensures apart { AreApart (map entry_seen entries.new.items) }
+{
+    test_apart(alloc, &route, entries.as_slice())?;
+    push_entry(alloc, entries, route, operation)?;
+    Ok(())
+}
+
+// Adds the route of a template, unless it has none or conflicts with one that is there.
+fn add_template(
+    alloc: Global,
+    entries: &mut Vec<StoredEntry>,
+    method: &str,
+    template: &str,
+    operation: &str,
+) -> Result<(), RouteError>
+    requires { AreApart (map entry_seen entries.old.items) }
+    ensures outcome { AddsTemplate (map entry_seen entries.old.items) (route_of method.now template.now)
+        operation.now (map entry_seen entries.new.items) result }
+    ensures apart { AreApart (map entry_seen entries.new.items) }
+{
+    let route = route_of(alloc, method, template)?;
+    add_route(alloc, entries, route, operation)
+}
+
+// The refusal of a route that conflicts with that of this operation.
+fn conflict(alloc: Global, operation: &str) -> RouteError
+    ensures { IsConflict result operation.now }
+{
+    match Text::from_str(alloc, operation) {
+        Ok(other) => RouteError::Conflict { other },
+        Err(_) => RouteError::OutOfMemory,
+    }
+}
