@@ -10,7 +10,7 @@ trap 'rm -rf "$work"' EXIT
 (cd "$here/crates/smithy_bind_c" && rt lib) >&2 </dev/null || exit 70
 SMITHY_BIND_LIBC=$(dirname "$(rt doc)")/c CARGO_TARGET_DIR=$work cargo build -q --offline --release --example times \
     --manifest-path "$here/bindings/rust/Cargo.toml" || exit 70
-(cd "$here/crates/placing_bench" && rt run -- get 1) >&2 </dev/null || exit 70
+(cd "$here/crates/bench" && rt run -- get 1) >&2 </dev/null || exit 70
 
 # count NAME WORD..: runs the words with N and with 2N behind them
 count() {
@@ -27,4 +27,4 @@ count() {
 }
 
 count rust "$work/release/examples/times"
-count rattle "$here/crates/placing_bench/out/placing_bench" job
+count rattle "$here/crates/bench/out/bench" job

@@ -9,9 +9,9 @@ trap 'rm -rf "$work"' EXIT
 "$here/smithy_bind" --build || exit 70
 python3 "$here/bench/large_maps.py" "$here/crates/smithy_bind_program/out/smithy_bind_program" "$work" || exit 70
 
-(cd "$here/crates/placing_bench" && rt run -- get 1) >&2 </dev/null || exit 70
+(cd "$here/crates/bench" && rt run -- get 1) >&2 </dev/null || exit 70
 for count in "$times" $((2 * times)); do
-    valgrind --tool=callgrind --callgrind-out-file="$work/job.$count" "$here/crates/placing_bench/out/placing_bench" job "$count" \
+    valgrind --tool=callgrind --callgrind-out-file="$work/job.$count" "$here/crates/bench/out/bench" job "$count" \
         <"$here/bench/second_sample.json" 2>"$work/log" || {
         cat "$work/log" >&2
         exit 70

@@ -3,14 +3,14 @@
 # two runs, divided by N, is what one request takes, so that start-up drops out. It is placed once from an input that keeps its
 # writes, and once from one that tells them. `sh bench/placing.sh [N]`, N is 1000 if left out.
 here=$(cd "$(dirname "$0")/.." && pwd)
-program=$here/crates/placing_bench
+program=$here/crates/bench
 times=${1:-1000}
 work=$(mktemp -d)
 trap 'rm -rf "$work"' EXIT
 (cd "$program" && rt run -- get 1) >&2 </dev/null || exit 70
 
 count() {
-    valgrind --tool=callgrind --callgrind-out-file="$work/$1$3.$2" "$program/out/placing_bench" "$1" "$2" $3 2>"$work/log" || {
+    valgrind --tool=callgrind --callgrind-out-file="$work/$1$3.$2" "$program/out/bench" "$1" "$2" $3 2>"$work/log" || {
         cat "$work/log" >&2
         exit 70
     }

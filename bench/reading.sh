@@ -4,7 +4,7 @@
 # divided by what was read between them, is what one takes, so that start-up and the making of the schema drop out.
 # `sh bench/reading.sh [N]`, N is 100 if left out; the larger objects are read fewer times.
 here=$(cd "$(dirname "$0")/.." && pwd)
-program=$here/crates/reading_bench
+program=$here/crates/bench
 times=${1:-100}
 work=$(mktemp -d)
 trap 'rm -rf "$work"' EXIT
@@ -14,7 +14,7 @@ trap 'rm -rf "$work"' EXIT
 count() {
     name=$1
     shift
-    valgrind --tool=callgrind --callgrind-out-file="$work/$name" "$program/out/reading_bench" "$@" 2>"$work/log" || {
+    valgrind --tool=callgrind --callgrind-out-file="$work/$name" "$program/out/bench" "$@" 2>"$work/log" || {
         cat "$work/log" >&2
         exit 70
     }

@@ -17,4 +17,3 @@ pub mod SpacedTexts
 pub mod Told
 pub mod ToldApart
 pub mod TypedTests
-pub mod Untold

@@ -19,8 +19,6 @@ mod responses;
 mod shapes;
 #[cfg(test)]
 mod shown;
-#[cfg(test)]
-mod skipping;
 pub mod spaced_json;
 #[cfg(test)]
 mod texts;

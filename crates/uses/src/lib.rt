@@ -4,6 +4,7 @@
 mod documents;
 mod errors;
 mod get_object;
+mod laws;
 pub mod lenient_json;
 mod requests;
 mod responses;
@@ -13,5 +14,6 @@ mod tests;
 pub use documents::{structure_in, through_document};
 pub use errors::{error_place, error_registry};
 pub use get_object::{get_object_request, get_object_table, get_object_writes};
+pub use laws::requests_tell;
 pub use requests::{job_request, lenient_request, rest_request, rpc_request};
 pub use responses::{output_of, text_named};
