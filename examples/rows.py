@@ -1,19 +1,30 @@
 """Tells whether each example stands with its answer among the rows that the program job_rows runs: python3 examples/rows.py"""
-import glob
+import collections
 import json
-import os
+import pathlib
 import sys
 
-here = os.path.dirname(os.path.abspath(__file__))
-rows = os.path.join(here, "..", "crates", "job_rows")
-ends = []
-with open(f"{rows}/stdin", encoding="utf-8") as given, open(f"{rows}/stdout", encoding="utf-8") as wanted:
-    for row, end in zip(map(json.loads, given), wanted):
-        ends.append((row["job"], json.loads(end.split(" ", 1)[1])))
+HERE = pathlib.Path(__file__).resolve().parent
+ROWS = HERE.parent / "crates" / "job_rows"
 
-names = sorted(glob.glob(f"{here}/*.json"))
-for name in names:
-    with open(name, encoding="utf-8") as job, open(name.replace(".json", ".txt"), encoding="utf-8") as answer:
-        if (job.read(), answer.read()) not in ends:
-            sys.exit(f"{name}: no row has this job with its answer")
-print(f"{len(names)} examples stand as rows")
+# A job, and the exit status and the text that its command ends with.
+Example = collections.namedtuple("Example", "name command job status text")
+
+
+def examples():
+    """Each example with its stored answer, and the command and the status of it among the rows of job_rows."""
+    ends = {}
+    with open(ROWS / "stdin", encoding="utf-8") as given, open(ROWS / "stdout", encoding="utf-8") as wanted:
+        for row, end in zip(map(json.loads, given), wanted):
+            status, text = end.split(" ", 1)
+            ends[str(row["job"]), str(json.loads(text))] = row["words"], int(status)
+    for path in sorted(HERE.glob("*.json")):
+        job, text = path.read_bytes(), path.with_suffix(".txt").read_bytes()
+        if (job.decode(), text.decode()) not in ends:
+            sys.exit(f"{path}: no row has this job with its answer")
+        [command], status = ends[job.decode(), text.decode()]
+        yield Example(path.name, command, job, status, text)
+
+
+if __name__ == "__main__":
+    print(f"{len(list(examples()))} examples stand as rows")
