@@ -21,9 +21,10 @@ pub fn run_in_memory(
     ensures due { IfSome (input_of words.now (⟦<SureSource as Source>⟧.left source.old)) (λ bytes.
         length (text_of (outcome words.now bytes)) < ⟦<SureSink as Sink>⟧.room sink.old →
         (result ≡ due words.now bytes) ⊎ (result ≡ Status.Memory)) }
-    ensures has_written { IfSome (input_of words.now (⟦<SureSource as Source>⟧.left source.old)) (λ bytes.
+    ensures has_written { let written = ⟦<SureSink as Sink>⟧.written in
+        IfSome (input_of words.now (⟦<SureSource as Source>⟧.left source.old)) (λ bytes.
         let text = text_of (outcome words.now bytes) in
-        HasWritten result (⟦<SureSink as Sink>⟧.written sink.old) text (⟦<SureSink as Sink>⟧.written sink.new)) }
+        HasWritten result (written sink.old) text (written sink.new)) }
 {
     run(alloc, words, source, sink)
 }

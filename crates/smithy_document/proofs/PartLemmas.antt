@@ -7,9 +7,8 @@ use Rattle.std.proofs.lemmas.Bool.{and_parts}
 use Rattle.std.proofs.lemmas.List.Elements.{All-from_recursion}
 use Rattle.std.proofs.lemmas.Map.Entries.{All-lookup}
 use Rattle.smithy_types.specs.Documents as doc
-use Rattle.smithy_types.specs.Documents.{Document, nesting, items_nesting, members_nesting, list_of_items, list_of_members}
+use Rattle.smithy_types.specs.Documents.{Document, nesting, items_nesting, members_nesting, list_of_items, list_of_members, is_canonical, are_canonical_items, are_canonical_members}
 use Rattle.smithy_types.specs.Texts.{same_text}
-use Rattle.smithy_serde.specs.Lawful.{is_canonical, are_items_canonical, are_members_canonical}
 use Rattle.smithy_serde.specs.Ranges.{is_before}
 use Rattle.smithy_document.specs.InOrder.{is_in_order, are_items_in_order, are_members_in_order}
 use Rattle.smithy_document.specs.OpenDocuments.{Part, nameless, parts_of}
@@ -62,13 +61,13 @@ IsCanonical d = IsTrue (is_canonical d)
 abbrev pub IsInOrder : Document → Type 0
 IsInOrder d = IsTrue (is_in_order d)
 
-items_canonical : (ds : doc.Items) → IsTrue (are_items_canonical ds) → AllParts IsCanonical (nameless ds)
+items_canonical : (ds : doc.Items) → IsTrue (are_canonical_items ds) → AllParts IsCanonical (nameless ds)
 items_canonical doc.no_items h = tt
-items_canonical (doc.item d ds) h = let each = and_parts (is_canonical d) (are_items_canonical ds) h in (each.0, items_canonical ds each.1)
+items_canonical (doc.item d ds) h = let each = and_parts (is_canonical d) (are_canonical_items ds) h in (each.0, items_canonical ds each.1)
 
-members_canonical : (ms : doc.Members) → IsTrue (are_members_canonical ms) → AllParts IsCanonical (list_of_members ms)
+members_canonical : (ms : doc.Members) → IsTrue (are_canonical_members ms) → AllParts IsCanonical (list_of_members ms)
 members_canonical doc.no_members h = tt
-members_canonical (doc.member k d ms) h = let each = and_parts (is_canonical d) (are_members_canonical ms) h in (each.0, members_canonical ms each.1)
+members_canonical (doc.member k d ms) h = let each = and_parts (is_canonical d) (are_canonical_members ms) h in (each.0, members_canonical ms each.1)
 
 pub parts_canonical : (d : Document) → IsCanonical d → AllParts IsCanonical (parts_of d)
 parts_canonical (doc.array ds) h = items_canonical ds h

@@ -9,8 +9,7 @@ use Rattle.std.proofs.lemmas.Cmp.{nat_list_cmp_total}
 use Rattle.serde_json.specs.Data as parsed
 use Rattle.serde_json.specs.Data.{Num, Data}
 use Rattle.smithy_types.specs.Documents as doc
-use Rattle.smithy_types.specs.Documents.{Document, Items, Members, put, put_all}
-use Rattle.smithy_serde.specs.Lawful.{is_canonical, are_items_canonical, are_members_canonical}
+use Rattle.smithy_types.specs.Documents.{Document, Items, Members, put, put_all, is_canonical, are_canonical_items, are_canonical_members}
 use Rattle.smithy_serde.specs.Ranges.{is_before}
 use Rattle.smithy_json.specs.FromData.{number_of_data, of_data, items_of_data, pairs_of_data}
 use Rattle.smithy_json.specs.FromText.{json_of, document_of_text}
@@ -23,10 +22,10 @@ abbrev IsRead : Document → Type 0
 IsRead d = IsCanonical d × IsInOrder d
 
 abbrev AreItemsRead : Items → Type 0
-AreItemsRead ds = IsTrue (are_items_canonical ds) × IsTrue (are_items_in_order ds)
+AreItemsRead ds = IsTrue (are_canonical_items ds) × IsTrue (are_items_in_order ds)
 
 abbrev AreMembersRead : Members → Type 0
-AreMembersRead ms = IsTrue (are_members_canonical ms) × IsTrue (are_members_in_order ms)
+AreMembersRead ms = IsTrue (are_canonical_members ms) × IsTrue (are_members_in_order ms)
 
 abbrev ArePairsRead : List (List ℕ × Document) → Type 0
 ArePairsRead ps = AllByRecursion (λ p. IsRead p.1) ps
@@ -57,7 +56,7 @@ put_at Greater k l d e ms is h b i j more =
 put_read : (k : List ℕ) (d : Document) (ms : Members) → IsRead d → AreMembersRead ms → AreMembersRead (put k d ms)
 put_read k d doc.no_members h j = member_read k d doc.no_members refl h (refl, refl)
 put_read k d (doc.member l e ms) h j =
-    let canonical = and_parts (is_canonical e) (are_members_canonical ms) j.0 in
+    let canonical = and_parts (is_canonical e) (are_canonical_members ms) j.0 in
     let ordered = member_ordered l e ms j.1 in
     put_at (slice_cmp nat_cmp k l) k l d e ms refl h ordered.0 (canonical.0, ordered.1) (canonical.1, ordered.2) (put_read k d ms h (canonical.1, ordered.2))
 

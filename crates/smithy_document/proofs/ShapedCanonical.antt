@@ -8,13 +8,12 @@ use Rattle.std.proofs.lemmas.Bool.{and_parts, and_from}
 use Rattle.smithy_types.specs.Texts.{are_distinct}
 use Rattle.smithy_types.specs.Results.{then_give}
 use Rattle.smithy_types.specs.Documents as doc
-use Rattle.smithy_types.specs.Documents.{Document, Members, items_of, put, put_all, members_of, number_of}
+use Rattle.smithy_types.specs.Documents.{Document, Members, items_of, put, put_all, members_of, number_of, is_canonical_number, is_canonical, are_canonical_items, are_canonical_members}
 use Rattle.smithy_ids.specs.declared.shape_type.ShapeType.TheVariants as kind
 use Rattle.smithy_schema.specs.Nodes.{Schema, element_of, key_of, value_of}
 use Rattle.smithy_serde.specs.Values as value
 use Rattle.smithy_serde.specs.Values.{Scalar, Value, Writes, scalar, list, structure, no_writes, write, keys_of}
 use Rattle.smithy_serde.specs.DocumentOf.{DocumentFault, document_of, elements_of, entries_of, fields_of, scalar_document}
-use Rattle.smithy_serde.specs.Lawful.{is_number_canonical, is_canonical, are_items_canonical, are_members_canonical}
 use Rattle.smithy_serde.specs.Shaped.{is_shaped, are_shaped, are_fields_shaped, are_entries_shaped, fits_at, has_distinct_fields, is_kind, named_member}
 use Rattle.smithy_document.proofs.FieldOrder.{Named}
 use Rattle.smithy_document.proofs.NamedPairs.{try_gave, give_gave, EntriesHave, BehindHave, entries_paired, FieldsHave, fields_paired}
@@ -23,7 +22,7 @@ use Rattle.smithy_document.proofs.OrderedPairs.{Pairs, Beside, Aligned}
 abbrev Canonical : Option Schema → Value → Type 0
 Canonical here v = (d : Document) → is_shaped here v ≡ true → document_of v ≡ Ok d → is_canonical d ≡ true
 
-number_canonical : (z : ℤ) → is_number_canonical (number_of z) ≡ true
+number_canonical : (z : ℤ) → is_canonical_number (number_of z) ≡ true
 number_canonical (pos n) = refl
 number_canonical (negsuc n) = refl
 
@@ -39,35 +38,35 @@ abbrev EachCanonical : Option Schema → Writes → Type 0
 EachCanonical element no_writes = Unit {0}
 EachCanonical element (write l v ws) = Canonical element v × EachCanonical element ws
 
-elements_canonical : (element : Option Schema) (ws : Writes) (ds : List Document) → EachCanonical element ws → are_shaped element ws ≡ true → elements_of ws ≡ Ok ds → are_items_canonical (items_of ds) ≡ true
-elements_canonical element no_writes ds each shaped e = let same : [] ≡ ds = cc e in ap (λ xs. are_items_canonical (items_of xs)) (sym same)
+elements_canonical : (element : Option Schema) (ws : Writes) (ds : List Document) → EachCanonical element ws → are_shaped element ws ≡ true → elements_of ws ≡ Ok ds → are_canonical_items (items_of ds) ≡ true
+elements_canonical element no_writes ds each shaped e = let same : [] ≡ ds = cc e in ap (λ xs. are_canonical_items (items_of xs)) (sym same)
 elements_canonical element (write l v ws) ds each shaped e =
     let g = try_gave (document_of v) (λ d. then_give (elements_of ws) λ es. d ∷ es) ds e in
     let h = give_gave (elements_of ws) (λ es. g.x ∷ es) ds g.rest in
     let r : Ok (g.x ∷ h.x) ≡ Ok ds = h.rest in
     let same : g.x ∷ h.x ≡ ds = cc r in
     let s = and_parts (is_shaped element v) (are_shaped element ws) shaped in
-    ap (λ xs. are_items_canonical (items_of xs)) (sym same)
-    ∙ and_from (is_canonical g.x) (are_items_canonical (items_of h.x)) (each.0 g.x s.0 g.first) (elements_canonical element ws h.x each.1 s.1 h.first)
+    ap (λ xs. are_canonical_items (items_of xs)) (sym same)
+    ∙ and_from (is_canonical g.x) (are_canonical_items (items_of h.x)) (each.0 g.x s.0 g.first) (elements_canonical element ws h.x each.1 s.1 h.first)
 
 -- ---- maps and structures
 
 abbrev HasCanonical : Beside Value Document
 HasCanonical name s d = is_canonical d ≡ true
 
-put_canonical : (k : List ℕ) (d : Document) (ms : Members) → is_canonical d ≡ true → are_members_canonical ms ≡ true → are_members_canonical (put k d ms) ≡ true
+put_canonical : (k : List ℕ) (d : Document) (ms : Members) → is_canonical d ≡ true → are_canonical_members ms ≡ true → are_canonical_members (put k d ms) ≡ true
 put_canonical k d doc.no_members one all = and_from (is_canonical d) true one refl
 put_canonical k d (doc.member l x ms) one all = go (slice_cmp nat_cmp k l) (put_canonical k d ms one parts.1)
   where
-    parts : (is_canonical x ≡ true) × (are_members_canonical ms ≡ true)
-    parts = and_parts (is_canonical x) (are_members_canonical ms) all
+    parts : (is_canonical x ≡ true) × (are_canonical_members ms ≡ true)
+    parts = and_parts (is_canonical x) (are_canonical_members ms) all
 
-    go : (o : Ordering) → are_members_canonical (put k d ms) ≡ true → are_members_canonical (match_ordering o (doc.member k d (doc.member l x ms)) (doc.member l d ms) (doc.member l x (put k d ms))) ≡ true
-    go Less rest = and_from (is_canonical d) (is_canonical x && are_members_canonical ms) one all
-    go Equal rest = and_from (is_canonical d) (are_members_canonical ms) one parts.1
-    go Greater rest = and_from (is_canonical x) (are_members_canonical (put k d ms)) parts.0 rest
+    go : (o : Ordering) → are_canonical_members (put k d ms) ≡ true → are_canonical_members (match_ordering o (doc.member k d (doc.member l x ms)) (doc.member l d ms) (doc.member l x (put k d ms))) ≡ true
+    go Less rest = and_from (is_canonical d) (is_canonical x && are_canonical_members ms) one all
+    go Equal rest = and_from (is_canonical d) (are_canonical_members ms) one parts.1
+    go Greater rest = and_from (is_canonical x) (are_canonical_members (put k d ms)) parts.0 rest
 
-all_canonical : (fs : List Named) (ps : Pairs Document) (ms : Members) → Aligned HasCanonical fs ps → are_members_canonical ms ≡ true → are_members_canonical (put_all ps ms) ≡ true
+all_canonical : (fs : List Named) (ps : Pairs Document) (ms : Members) → Aligned HasCanonical fs ps → are_canonical_members ms ≡ true → are_canonical_members (put_all ps ms) ≡ true
 all_canonical [] [] ms aligned all = all
 all_canonical [] (p ∷ ps) ms aligned all = absurd aligned
 all_canonical (f ∷ fs) [] ms aligned all = absurd aligned

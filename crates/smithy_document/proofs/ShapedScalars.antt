@@ -6,7 +6,7 @@ use Rattle.base64.specs.GeneralPurpose.{decoded_of, IsBytes}
 use Rattle.base64.specs.Engines.{standard}
 use Rattle.base64.proofs.EngineFacts.{decode_of-encode_of}
 use Rattle.smithy_types.specs.Documents as doc
-use Rattle.smithy_types.specs.Documents.{Document, number_of}
+use Rattle.smithy_types.specs.Documents.{Document, number_of, is_canonical}
 use Rattle.smithy_types.specs.Results.{then_give}
 use Rattle.smithy_types.specs.Settings.{plain_blob, plain_number_timestamp}
 use Rattle.smithy_ids.specs.Kinds.{same_kind}
@@ -25,7 +25,6 @@ use Rattle.smithy_serde.specs.Held.{Held, is_null_held}
 use Rattle.smithy_serde.specs.HeldReads.{read_scalar}
 use Rattle.smithy_serde.specs.NormalBody.{settled}
 use Rattle.smithy_serde.specs.Shaped.{is_shaped}
-use Rattle.smithy_serde.specs.Lawful.{is_canonical}
 use Rattle.smithy_serde.specs.ValueRead.{value_read, value_by_kind}
 use Rattle.smithy_serde.proofs.ReadLevels.{value_once}
 use Rattle.smithy_document.specs.ReadsBack.{ReadsWhatFits, RefusesTheRest}

@@ -7,11 +7,10 @@ use Rattle.std.proofs.lemmas.List.{length-drop}
 use Rattle.std.proofs.lemmas.List.Sums.{fold_push}
 use Rattle.std.proofs.lemmas.Option.{slice_get_cases}
 use Rattle.std.proofs.Math.ListN.{drop_of_length-le}
-use Rattle.smithy_types.specs.Documents.{Document, nesting}
+use Rattle.smithy_types.specs.Documents.{Document, nesting, is_canonical}
 use Rattle.smithy_schema.specs.Nodes.{Schema, member_named}
 use Rattle.smithy_serde.specs.Held as held
 use Rattle.smithy_serde.specs.HeldReads.{known}
-use Rattle.smithy_serde.specs.Lawful.{is_canonical}
 use Rattle.smithy_document.specs.declared.json_tree_cursor.TreePlace.{TreePlace}
 use Rattle.smithy_document.specs.CursorView.{ClosesAt, StepsTo, ClosesBehind, StepsToMember}
 use Rattle.smithy_document.specs.InOrder.{is_in_order, is_read}

@@ -1,8 +1,7 @@
 -- Documents whose objects have their names in byte order.
 use Rattle.std.specs.Prelude.{Bool, true, ◌&&◌, Option, Some, None}
 use Rattle.smithy_types.specs.Documents as doc
-use Rattle.smithy_types.specs.Documents.{Document, Items, Members}
-use Rattle.smithy_serde.specs.Lawful.{is_canonical}
+use Rattle.smithy_types.specs.Documents.{Document, Items, Members, is_canonical}
 use Rattle.smithy_serde.specs.Ranges.{is_before}
 use Rattle.smithy_document.specs.declared.json_tree.JsonTree.{JsonTree}
 use Rattle.smithy_document.specs.JsonTree.{tree_view}

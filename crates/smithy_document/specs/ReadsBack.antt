@@ -1,7 +1,7 @@
 -- What reading a document by the node of the value that it was made of gives (Smithy, data model).
 use Rattle.std.specs.Prelude.{◌≡◌, ◌↔◌, true, false, Ok, Err, Some, None}
 use Rattle.smithy_types.specs.Documents as doc
-use Rattle.smithy_types.specs.Documents.{Document, Number}
+use Rattle.smithy_types.specs.Documents.{Document, Number, is_canonical}
 use Rattle.smithy_schema.specs.Nodes.{Schema, shape}
 use Rattle.smithy_schema.specs.Defining.{IsSound, HasMembersInPlace}
 use Rattle.smithy_serde.specs.Values.{Width, Value, Writes, whole, structure}
@@ -10,7 +10,6 @@ use Rattle.smithy_serde.specs.DocumentReads.{integer_of_number, number_text}
 use Rattle.smithy_serde.specs.Fits.{width_kind}
 use Rattle.smithy_serde.specs.Held as held
 use Rattle.smithy_serde.specs.HeldReads.{read_scalar}
-use Rattle.smithy_serde.specs.Lawful.{is_canonical}
 use Rattle.smithy_serde.specs.NormalBody.{settled}
 use Rattle.smithy_serde.specs.Ranges.{is_in_width}
 use Rattle.smithy_serde.specs.Requests.{document_word}

@@ -2,7 +2,7 @@
 ghost use Rattle.std.specs.Prelude.{◌≡◌, Some, None, IsTrue};
 ghost use Rattle.smithy_types.specs.DocumentView.{view};
 ghost use Rattle.smithy_serde.specs.Held as held;
-ghost use Rattle.smithy_serde.specs.Lawful.{is_canonical};
+ghost use Rattle.smithy_types.specs.Documents.{is_canonical};
 ghost use Rattle.smithy_serde.specs.ReadCalls.{Begins};
 
 use crate::cursor::Cursor;
@@ -107,7 +107,8 @@ impl<S: DocumentSettings> ShapeDeserializer for DocumentShapeDeserializer<'_, S>
     ) -> Result<(), SerdeError>
         ensures opens { OpensAt group (node _schema.entry)
             (document_hand self.old) (document_hand self.new) result }
-        ensures plainly { OpensAt group (node _schema.entry) (plain_hand self.old) (plain_hand self.new) result }
+        ensures plainly { let here = node _schema.entry in
+            OpensAt group here (plain_hand self.old) (plain_hand self.new) result }
         ensures left { OnErr result (plain_hand self.new ≡ plain_hand self.old) }
         ensures settings { settings_of self.new ≡ settings_of self.old }
     {
@@ -120,8 +121,10 @@ impl<S: DocumentSettings> ShapeDeserializer for DocumentShapeDeserializer<'_, S>
         schema: SchemaRef<'s>,
     ) -> Result<Option<SchemaRef<'s>>, SerdeError>
         requires { IsIn group.Structure (document_hand self.old) }
-        ensures next { NextMember (node schema.entry) (document_hand self.old) (document_hand self.new) result }
-        ensures plainly { NextMember (node schema.entry) (plain_hand self.old) (plain_hand self.new) result }
+        ensures next { let here = node schema.entry in
+            NextMember here (document_hand self.old) (document_hand self.new) result }
+        ensures plainly { let here = node schema.entry in
+            NextMember here (plain_hand self.old) (plain_hand self.new) result }
         ensures settings { settings_of self.new ≡ settings_of self.old }
     {
         Ok(self.cursor.next_member(self.root, schema))

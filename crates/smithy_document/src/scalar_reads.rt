@@ -3,7 +3,7 @@ ghost use Rattle.std.specs.Prelude.{◌≡◌, Some, IfOk, IsTrue};
 ghost use Rattle.std.specs.Option.{option_copied};
 ghost use Rattle.smithy_types.specs.DocumentView.{view};
 ghost use Rattle.smithy_serde.specs.DocumentReads.{scalar_of_document};
-ghost use Rattle.smithy_serde.specs.Lawful.{is_canonical};
+ghost use Rattle.smithy_types.specs.Documents.{is_canonical};
 ghost use Rattle.smithy_serde.specs.ReadCalls.{Gives, is_of_kind, scalar_of_read};
 ghost use Rattle.smithy_serde.specs.Values as value;
 ghost use Rattle.smithy_document.specs.SettingsReads.{coercions, ReadsBy, ReadsWith};

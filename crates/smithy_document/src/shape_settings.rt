@@ -2,7 +2,7 @@
 ghost use Rattle.std.specs.Prelude.{Bool, true, IsTrue};
 ghost use Rattle.smithy_types.specs.DocumentView.{view};
 ghost use Rattle.smithy_serde.specs.Held as held;
-ghost use Rattle.smithy_serde.specs.Lawful.{is_canonical};
+ghost use Rattle.smithy_types.specs.Documents.{is_canonical};
 ghost use Rattle.smithy_serde.specs.ReadCalls.{Begins};
 ghost use Rattle.smithy_serde.specs.Writes.{only_if};
 ghost use Rattle.smithy_document.specs.DocumentHand.{document_hand};

@@ -1,7 +1,7 @@
 -- A stream, one piece after another.
 use Rattle.std.proofs.Common.{◌≡◌, ℕ, ◌+◌, ◌-◌, ◌<◌, ◌≤◌, min, List, [], ◌++◌, length, take, drop, Option, Some, None, refl, sym, ap, ◌∙◌, append_assoc, arith}
-use Rattle.std.proofs.lemmas.List.{append-nil, take-append-drop, drop-drop, take_at, length-take-le, length-drop, nil_from_length}
-use Rattle.smithy_io.specs.Streams.{Gave, Gained, EndsAt, Keeps, IsWhole}
+use Rattle.std.proofs.lemmas.List.{append-nil, length-append, take-append-drop, drop-drop, take_at, length-take-le, length-drop, nil_from_length}
+use Rattle.smithy_io.specs.Streams.{Gave, Gained, EndsAt, Keeps, IsWhole, HasReadPart}
 
 pub gave_nothing : (before : Option (List ℕ)) → Gave before [] before
 gave_nothing None = tt
@@ -12,6 +12,9 @@ gave_more None mid after given piece h k = tt
 gave_more (Some all) mid after given piece h k =
     let k2 : Gave (Some h.0) piece after = rw h.1 at k in
     (k2.0, k2.1, h.2 ∙ ap (λ r. given ++ r) k2.2 ∙ sym (append_assoc given piece k2.0))
+
+pub part_more : (most : ℕ) (before mid after : Option (List ℕ)) (given piece : List ℕ) → Gave before given mid → Gave mid piece after → length given + length piece ≤ most + 1 → HasReadPart most before after
+part_more most before mid after given piece h k short = (given ++ piece, rw length-append short, gave_more before mid after given piece h k)
 
 pub gave_all : (before mid after : Option (List ℕ)) (given : List ℕ) → Gave before given mid → EndsAt 0 mid → Gave mid [] after → IsWhole before given after
 gave_all None mid after given h e k = tt

@@ -1,5 +1,5 @@
 -- Sources and sinks in memory: what they hold, and what each call does.
-use Rattle.std.specs.Prelude.{ℕ, ◌+◌, ◌-◌, min, nat_le, Bool, not, ◌&&◌, ◌||◌, ◌==◌, List, ◌++◌, length, drop, ℤ, pos}
+use Rattle.std.specs.Prelude.{ℕ, ◌+◌, ◌-◌, min, nat_le, nat_lt, Bool, not, ◌&&◌, ◌||◌, ◌==◌, List, ◌++◌, length, drop, ℤ, pos}
 use Rattle.std.specs.List.{list_any}
 use Rattle.std.specs.Ordering.{int_eq}
 use Rattle.smithy_io.specs.Causes.{next_count}
@@ -26,6 +26,10 @@ pub record SourceState : Type 0 where
 -- the next call fails
 abbrev pub fails_to_give : SourceState → Bool
 fails_to_give s = is_listed s.failing (next_call s.calls)
+
+-- there was a call, and the last one failed
+abbrev pub has_failed_to_give : SourceState → Bool
+has_failed_to_give s = nat_lt 0 s.calls && is_listed s.failing s.calls
 
 -- how many bytes the next call gives for a buffer of this size
 abbrev pub given_count : SourceState → ℕ → ℕ

@@ -1,7 +1,7 @@
 // Sources and sinks in memory.
-ghost use Rattle.std.specs.Prelude.{◌≡◌, ◌+◌, ◌-◌, ◌<◌, ◌≤◌, ◌↔◌, ◌++◌, [], min, length, take, drop, Some, IsTrue, IsOk, IsErr, IfOk, OnErr, vec_len, vec_capacity};
+ghost use Rattle.std.specs.Prelude.{◌≡◌, ◌+◌, ◌-◌, ◌<◌, ◌≤◌, ◌↔◌, ◌++◌, [], min, length, take, drop, Some, false, IsTrue, IsOk, IsErr, IfOk, OnErr, vec_len, vec_capacity};
 ghost use Rattle.smithy_io.specs.Causes.{Rose, next_count};
-ghost use Rattle.smithy_io.specs.Memory.{next_call, is_listed, SourceState, SinkState, SureSinkState, fails_to_give, given_count, gave, failed_to_give, fails_to_take, taken_count, took, failed_to_take, is_over_full};
+ghost use Rattle.smithy_io.specs.Memory.{next_call, is_listed, SourceState, SinkState, SureSinkState, fails_to_give, given_count, gave, failed_to_give, has_failed_to_give, fails_to_take, taken_count, took, failed_to_take, is_over_full};
 ghost use Rattle.smithy_io.specs.Streams.{Gave, EndsAt, Keeps, Gained, IsFull};
 
 use crate::sink::Sink;
@@ -40,6 +40,8 @@ impl Source for SureSource {
     ghost left = { λ s. Some s };
 
     ghost faults = { λ _. 0 };
+
+    ghost has_failed = { λ _. false };
 
     /// Gives as many bytes as fit into the buffer. Never fails.
     fn read(&mut self, buf: &mut [u8]) -> Result<usize, Failed>
@@ -105,6 +107,8 @@ impl Source for MemorySource {
     ghost left = { λ s. Some s.left };
 
     ghost faults = { λ s. s.faults };
+
+    ghost has_failed = { has_failed_to_give };
 
     /// Gives as many bytes as the piece, the buffer and what is left allow. `Failed` comes exactly at the calls that are listed.
     fn read(&mut self, buf: &mut [u8]) -> Result<usize, Failed>

@@ -6,11 +6,13 @@ use crate::sink::Sink;
 use crate::source::{Failed, Source};
 use std::io::{Read, Write};
 
-/// A source over a reader, as standard input. It tells no bytes, and counts how often the reader failed.
+/// A source over a reader, as standard input. It tells no bytes, counts how often the reader failed, and notes whether it did
+/// so at the last read.
 #[derive(Drop)]
 pub struct StdSource<R: Read> {
     reader: R,
     failed: u64,
+    has_failed: bool,
 }
 
 impl<R: Read> StdSource<R> {
@@ -18,7 +20,18 @@ impl<R: Read> StdSource<R> {
     pub fn new(reader: R) -> StdSource<R>
         ensures { ⟦<StdSource<R> as Source>⟧.faults result ≡ 0 }
     {
-        StdSource { reader, failed: 0 }
+        StdSource {
+            reader,
+            failed: 0,
+            has_failed: false,
+        }
+    }
+
+    /// Whether its last read failed. Takes no memory.
+    pub fn has_failed(&self) -> bool
+        ensures { result ≡ ⟦<StdSource<R> as Source>⟧.has_failed self.now }
+    {
+        self.has_failed
     }
 }
 
@@ -27,10 +40,16 @@ impl<R: Read> Source for StdSource<R> {
 
     ghost faults = { λ s. s.failed };
 
+    ghost has_failed = { λ s. s.has_failed };
+
     fn read(&mut self, buf: &mut [u8]) -> Result<usize, Failed> {
         match self.reader.read(buf) {
-            Ok(n) => Ok(n),
+            Ok(n) => {
+                self.has_failed = false;
+                Ok(n)
+            }
             Err(_) => {
+                self.has_failed = true;
                 self.failed = self.failed.saturating_add(1);
                 Err(Failed)
             }

@@ -1,7 +1,7 @@
 // Reading a source to its end, and writing all of a text.
 ghost use Rattle.std.specs.Prelude.{◌≡◌, ◌≤◌, length, IfOk, OnOk, OnErr, Err};
-ghost use Rattle.smithy_io.specs.Causes.{Rose};
-ghost use Rattle.smithy_io.specs.Streams.{IsWhole, IsTooLong, max_job_len, Gained, GainedPart, IsFull};
+ghost use Rattle.smithy_io.specs.Causes.{Rose, Stops};
+ghost use Rattle.smithy_io.specs.Streams.{IsWhole, IsTooLong, HasReadPart, max_job_len, Gained, GainedPart, IsFull};
 
 use crate::sink::Sink;
 use crate::source::{Failed, Source};
@@ -36,13 +36,15 @@ impl From<OutOfMemory> for ReadError {
 }
 
 /// All bytes that the source has, at most `MAX_JOB_LEN`. `TooLong` comes where it has more: `MAX_JOB_LEN` and one byte were then read.
-/// `Failed` comes where the source failed. Each read asks for no byte past the first that is too many. Takes memory.
+/// `Failed` comes where the source failed, and then nothing is read on. Each read asks for no byte past the first that is too many.
+/// Takes memory.
 pub fn read_all<S: Source>(alloc: Global, source: &mut S) -> Result<Vec<u8>, ReadError>
     ensures whole { IfOk result (λ bytes. IsWhole (S.left source.old) bytes.items (S.left source.new)) }
     ensures short { IfOk result (λ bytes. length bytes.items ≤ max_job_len) }
     ensures too_long { result ≡ Err ReadError.TooLong →
         IsTooLong max_job_len (S.left source.old) (S.left source.new) }
-    ensures failed { result ≡ Err ReadError.Failed → Rose (S.faults source.old) (S.faults source.new) }
+    ensures part { OnErr result (HasReadPart max_job_len (S.left source.old) (S.left source.new)) }
+    ensures stops { Stops result (S.faults source.old) (S.faults source.new) (S.has_failed source.new) }
     ensures count { S.faults source.old ≤ S.faults source.new }
 {
     let mut bytes = Vec::new(alloc);

@@ -1,6 +1,6 @@
 // Documents, read by what is registered for their discriminators.
 ghost use Rattle.std.specs.Prelude.{IsTrue};
-ghost use Rattle.smithy_serde.specs.Lawful.{is_canonical};
+ghost use Rattle.smithy_types.specs.Documents.{is_canonical};
 ghost use Rattle.smithy_registry.specs.Discriminators.{Deserializes};
 
 use crate::type_registry::TypeRegistry;

@@ -96,15 +96,11 @@ abbrev pub reader_size_by_body : {D : Type 0} {is_read : Ghosts D} → (D → Op
 reader_size_by_body tells (BodyOnly now) size = tells now size
 reader_size_by_body tells (Composite now) size = size_by_body tells now size
 
--- A bound member is passed over by doing nothing. Otherwise the body's reader passes over its value.
-abbrev pub SkipsUnless : {R : Type 0} → (bound : Bool) → R → R → AtHand → AtHand → Answer → Type 0
-SkipsUnless true old new body left result = DoesNothing old new result
-SkipsUnless false old new body left result = Skips body left result
+-- what is open in a reader stays so
+abbrev pub SkipsAt : {D : Type 0} → (D → AtHand) → D → D → Answer → Type 0
+SkipsAt at old new answer = Skips (at old) (at new) answer
 
-abbrev pub SkipsBody : {R : Type 0} → (R → Standing) → R → R → Answer → Type 0
-SkipsBody at old new result = SkipsUnless (is_bound (at old).stage) old new (at old).body (at new).body result
-
--- and as that reader does
+-- A bound member is passed over by doing nothing. Otherwise the body's reader passes over its value, and as that does it.
 abbrev pub NothingIf : {R : Type 0} → (bound : Bool) → R → R → Answer → Type 0 → Type 0
 NothingIf true old new answer done = DoesNothing old new answer
 NothingIf false old new answer done = done

@@ -44,7 +44,7 @@ impl<D: ShapeDeserializer> ShapeDeserializer for CompositeReader<D> {
     ghost use Rattle.smithy_schema.specs.References.{schema_of as node};
     ghost use Rattle.smithy_serde.specs.declared.scalar.Group.TheVariants as group;
     ghost use Rattle.smithy_serde.specs.ReadCalls.{IsIn, scalar_of_read, Reads, Skips, OpensAt, NextMember, NextElement, NextEntry, Settles, TellsNull};
-    ghost use Rattle.smithy_response.specs.BodyCalls.{seen, stands, ReadsBody, ReadsNothing, OpensFirst, NextMemberFirst, NextElementFirst, NextEntryFirst, SettlesFirst, TellsBodyNull, SkipsBody, Stays, by_body, size_by_body};
+    ghost use Rattle.smithy_response.specs.BodyCalls.{seen, stands, ReadsBody, ReadsNothing, OpensFirst, NextMemberFirst, NextElementFirst, NextEntryFirst, SettlesFirst, TellsBodyNull, SkipsAt, Stays, by_body, size_by_body};
 
     ghost at_hand = { seen D.at_hand };
 
@@ -214,7 +214,7 @@ impl<D: ShapeDeserializer> ShapeDeserializer for CompositeReader<D> {
 
     fn read_null(&mut self) -> Result<(), SerdeError>
         ensures told { Skips (seen D.at_hand self.old) (seen D.at_hand self.new) result }
-        ensures body { SkipsBody (stands D.at_hand) self.old self.new result }
+        ensures body { by_body (SkipsAt D.at_hand) self.old self.new result }
         ensures null { by_body D.reads_null self.old self.new result }
         ensures stage { Stays (stands D.at_hand) self.old self.new }
     {
@@ -228,7 +228,7 @@ impl<D: ShapeDeserializer> ShapeDeserializer for CompositeReader<D> {
 
     fn skip_value(&mut self, alloc: Global) -> Result<(), SerdeError>
         ensures told { Skips (seen D.at_hand self.old) (seen D.at_hand self.new) result }
-        ensures body { SkipsBody (stands D.at_hand) self.old self.new result }
+        ensures body { by_body (SkipsAt D.at_hand) self.old self.new result }
         ensures passed { by_body D.passes_over self.old self.new result }
         ensures stage { Stays (stands D.at_hand) self.old self.new }
     {

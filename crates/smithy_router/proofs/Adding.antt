@@ -1,5 +1,5 @@
 -- A route that is added keeps the list without conflicts.
-use Rattle.std.proofs.Common.{◌≡◌, refl, sym, ◌∙◌, ap, subst, ℕ, Bool, true, false, cond, List, [], ◌∷◌, ◌++◌, Option, Some, None, Result, Ok, Err, find}
+use Rattle.std.proofs.Common.{◌≡◌, refl, sym, ◌∙◌, ap, subst, ℕ, Bool, true, false, cond, List, [], ◌∷◌, ◌++◌, Option, Some, None, Result, Err, find}
 use Rattle.std.specs.List.{AllByRecursion}
 use Rattle.smithy_router.specs.Routes.{Route, IsRoute}
 use Rattle.smithy_router.specs.Ranking.{Conflicts}

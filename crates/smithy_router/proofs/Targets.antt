@@ -1,7 +1,9 @@
 -- The target that has given segments and given pieces.
-use Rattle.std.proofs.Common.{◌≡◌, ◌≢◌, refl, ◌∙◌, ap, ℕ, suc, ◌+◌, arith, Bool, true, false, not, cond, ◌==◌, ◌&&◌, ◌||◌, List, [], ◌∷◌, ◌++◌, take, drop, eq-eqb, ne_eqb}
+use Rattle.std.proofs.Common.{◌≡◌, ◌≢◌, refl, ◌∙◌, ap, ℕ, suc, ◌+◌, arith, Bool, true, false, not, cond, ◌==◌, ◌&&◌, ◌||◌, List, [], ◌∷◌, ◌++◌, take, drop, eq-eqb, ne_eqb, All}
 use Rattle.std.specs.List.{AllByRecursion, slice_split, onto_first, join_with_byte, before_first, after_first, position_or_len}
 use Rattle.std.proofs.lemmas.List.{append-nil}
+use Rattle.std.proofs.lemmas.List.Elements.{All-from_recursion}
+use Rattle.std.proofs.lemmas.List.Splits.{slice_split_none, slice_split_at}
 use Rattle.smithy_types.specs.Texts.{has_byte}
 use Rattle.smithy_http.specs.Facts.{is_question_mark, query_pieces}
 use Rattle.smithy_router.specs.Segments.{segments_of, fits_path}
@@ -22,10 +24,6 @@ query_text (p ∷ ps) = 63 ∷ join_with_byte 38 (p ∷ ps)
 abbrev pub target_of : List (List ℕ) → List (List ℕ) → List ℕ
 target_of segments pieces = (47 ∷ join_with_byte 47 segments) ++ query_text pieces
 
-onto-append : (x : ℕ) (parts tail : List (List ℕ)) → parts ≢ [] → onto_first x (parts ++ tail) ≡ onto_first x parts ++ tail
-onto-append x [] tail some = absurd (some refl)
-onto-append x (part ∷ parts) tail some = refl
-
 onto_some : (x : ℕ) (parts : List (List ℕ)) → onto_first x parts ≢ []
 onto_some x [] e = cc e
 onto_some x (part ∷ parts) e = cc e
@@ -38,31 +36,19 @@ split_some c (b ∷ text) e = go (b == c) e
     go true e = cc e
     go false e = onto_some b _ e
 
--- the parts of two texts with the byte between them
-split-append : (c : ℕ) (xs ys : List ℕ) → slice_split (λ b. b == c) (xs ++ c ∷ ys) ≡ slice_split (λ b. b == c) xs ++ slice_split (λ b. b == c) ys
-split-append c [] ys = ap (λ t. cond t ([] ∷ slice_split (λ b. b == c) ys) (onto_first c (slice_split (λ b. b == c) ys))) (eq-eqb c c refl)
-split-append c (x ∷ xs) ys = go (x == c) (split-append c xs ys)
+passes_none : (c : ℕ) (xs : List ℕ) → HasNo c xs → All (λ b. (b == c) ≡ false) xs
+passes_none c xs none = All-from_recursion (λ b. (b == c) ≡ false) xs (go xs none)
   where
-    tail : List (List ℕ)
-    tail = slice_split (λ b. b == c) ys
-
-    parts : List (List ℕ)
-    parts = slice_split (λ b. b == c) xs
-
-    go : (t : Bool) → slice_split (λ b. b == c) (xs ++ c ∷ ys) ≡ parts ++ tail
-        → cond t ([] ∷ slice_split (λ b. b == c) (xs ++ c ∷ ys)) (onto_first x (slice_split (λ b. b == c) (xs ++ c ∷ ys))) ≡ cond t ([] ∷ parts) (onto_first x parts) ++ tail
-    go true rest = ap (λ r. [] ∷ r) rest
-    go false rest = ap (onto_first x) rest ∙ onto-append x parts tail (split_some c xs)
-
-split_none : (c : ℕ) (xs : List ℕ) → HasNo c xs → slice_split (λ b. b == c) xs ≡ xs ∷ []
-split_none c [] none = refl
-split_none c (x ∷ xs) none =
-    ap (λ t. cond t ([] ∷ slice_split (λ b. b == c) xs) (onto_first x (slice_split (λ b. b == c) xs))) (ne_eqb x c none.0) ∙ ap (onto_first x) (split_none c xs none.1)
+    go : (ys : List ℕ) → HasNo c ys → AllByRecursion (λ b. (b == c) ≡ false) ys
+    go [] lacks = tt
+    go (y ∷ ys) lacks = (ne_eqb y c lacks.0, go ys lacks.1)
 
 -- texts without the byte, joined by it, are the parts
 split-join : (c : ℕ) (text : List ℕ) (texts : List (List ℕ)) → AllByRecursion (HasNo c) (text ∷ texts) → slice_split (λ b. b == c) (join_with_byte c (text ∷ texts)) ≡ text ∷ texts
-split-join c text [] none = split_none c text none.0
-split-join c text (next ∷ texts) none = split-append c text (join_with_byte c (next ∷ texts)) ∙ (λ i. split_none c text none.0 i ++ split-join c next texts none.1 i)
+split-join c text [] none = slice_split_none (λ b. b == c) text (passes_none c text none.0)
+split-join c text (next ∷ texts) none =
+    slice_split_at (λ b. b == c) text c (join_with_byte c (next ∷ texts)) (passes_none c text none.0) (eq-eqb c c refl)
+    ∙ ap (λ parts. text ∷ parts) (split-join c next texts none.1)
 
 pub HasNo-append : (c : ℕ) (xs ys : List ℕ) → HasNo c xs → HasNo c ys → HasNo c (xs ++ ys)
 HasNo-append c [] ys no_x no_y = no_y

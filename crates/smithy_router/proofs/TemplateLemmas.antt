@@ -1,5 +1,5 @@
 -- Parts of templates, cut one by one.
-use Rattle.std.proofs.Common.{◌≡◌, ◌≢◌, refl, sym, ◌∙◌, ap, subst, Result, ℕ, ◌-◌, ◌+◌, arith, Bool, true, false, ◌==◌, ◌&&◌, List, [], ◌∷◌, ◌++◌, length, eq-eqb, take, drop, Option, Some, None, MatchOption, option_map, option_and_then, if◌then◌else◌, nat_eq, codes}
+use Rattle.std.proofs.Common.{◌≡◌, ◌≢◌, refl, sym, ◌∙◌, ap, subst, Result, ℕ, ◌-◌, ◌+◌, arith, Bool, true, false, ◌==◌, List, [], ◌∷◌, ◌++◌, length, eq-eqb, take, drop, Option, Some, None, MatchOption, option_map, option_and_then, if◌then◌else◌, nat_eq, codes}
 use Rattle.std.specs.Borrow.{Bor}
 use Rattle.std.specs.List.{ends_with, starts_with, before_first, slice_split}
 use Rattle.std.specs.Cmp.Lexicographic.{same_text as same_from_test}

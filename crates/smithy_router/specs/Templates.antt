@@ -1,6 +1,6 @@
 -- The route of a template (Smithy, HTTP protocol bindings, http trait, uri).
 use Rattle.std.specs.Prelude.{ℕ, ◌-◌, nat_eq, Bool, true, false, not, ◌&&◌, ◌||◌, ◌==◌, codes, List, [], ◌∷◌, ◌++◌, length, take, Option, Some, None, option_and_then, option_map, if◌then◌else◌}
-use Rattle.std.specs.List.{starts_with, ends_with, before_first, after_first, list_any}
+use Rattle.std.specs.List.{slice_split, starts_with, ends_with, before_first, after_first, list_any}
 use Rattle.smithy_types.specs.Texts.{has_byte, same_text}
 use Rattle.smithy_types.specs.Grammars.{is_legal_target}
 use Rattle.smithy_types.specs.Results.{each}
@@ -82,6 +82,10 @@ is_sound ps query = not (has_byte 123 query) && are_sound ps && is_legal_target 
 -- the parts before this query, where they are sound
 abbrev pub sound_parts : List ℕ → List Part → Option (List Part)
 sound_parts query ps = if is_sound ps query then Some ps else None
+
+-- the parts of a path behind its first `/`, where each segment is one
+abbrev pub parts_of : List ℕ → Option (List Part)
+parts_of path = each part_of (slice_split (λ b. b == 47) path)
 
 -- the parts of the path, where each segment is one
 abbrev pub path_parts : List ℕ → Option (List Part)

@@ -2,10 +2,10 @@
 ghost use Rattle.std.specs.Prelude.{◌≡◌, ◌==◌, ◌∷◌, [], MatchOption, map};
 ghost use Rattle.std.specs.List.{slice_split};
 ghost use Rattle.smithy_router.specs.Segments.{fits_path, fits_end, fits_greedy};
-ghost use Rattle.smithy_router.specs.Deciding.{path_covers, paths_meet, end_meets, meets_greedy};
+ghost use Rattle.smithy_router.specs.Deciding.{paths_stand, rest_stands, end_meets, meets_greedy};
 ghost use Rattle.smithy_router.specs.Seen.{segment_seen, parts_left};
 
-use crate::segment::PathSegment;
+use crate::segment::{PathSegment, Relation};
 
 // The text before the first `/` and the text behind it.
 fn split_at_slash<'t>(text: &'t str) -> Option<(&'t str, &'t str)>
@@ -104,47 +104,38 @@ fn end_meets(is_greedy: bool, other_is_greedy: bool, segments: &[PathSegment]) -
     }
 }
 
-/// Whether whatever fits the second path fits the first one. Takes no memory.
-pub fn covers(
+// Whether the rest of a path stands so to the end of another one.
+fn rest_stands(
+    relation: Relation,
     is_greedy: bool,
-    segments: &[PathSegment],
     other_is_greedy: bool,
-    others: &[PathSegment],
+    segments: &[PathSegment],
 ) -> bool
-    ensures { result
-        ≡ path_covers is_greedy (map segment_seen segments.now)
-        other_is_greedy (map segment_seen others.now) }
+    ensures { result ≡ rest_stands relation is_greedy other_is_greedy (map segment_seen segments.now) }
 {
-    let mut rest = others;
-    for p in segments {
-        let Some((q, behind)) = rest.split_first() else {
-            return false;
-        };
-        if !p.covers(q) {
-            return false;
-        }
-        rest = behind;
+    match relation {
+        Relation::Covers => false,
+        Relation::Meets => end_meets(other_is_greedy, is_greedy, segments),
     }
-    end_meets(is_greedy, other_is_greedy, rest)
 }
 
-/// Whether some path fits both. Takes no memory.
-pub fn meet(
+/// Whether whatever fits the second path fits the first one, or whether some path fits both. Takes no memory.
+pub fn stand(
+    relation: Relation,
     is_greedy: bool,
     segments: &[PathSegment],
     other_is_greedy: bool,
     others: &[PathSegment],
 ) -> bool
-    ensures { result
-        ≡ paths_meet is_greedy (map segment_seen segments.now)
-        other_is_greedy (map segment_seen others.now) }
+    ensures { let qs = map segment_seen others.now in
+        result ≡ paths_stand relation is_greedy (map segment_seen segments.now) other_is_greedy qs }
 {
     let mut rest = others;
     for (i, p) in segments.iter().enumerate() {
         let Some((q, behind)) = rest.split_first() else {
-            return end_meets(other_is_greedy, is_greedy, &segments[i..]);
+            return rest_stands(relation, is_greedy, other_is_greedy, &segments[i..]);
         };
-        if !p.meets(q) {
+        if !p.stands(relation, q) {
             return false;
         }
         rest = behind;

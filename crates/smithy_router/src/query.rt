@@ -1,6 +1,6 @@
 // Pieces of queries against the pieces of routes.
-ghost use Rattle.std.specs.Prelude.{◌≡◌, ◌==◌, ◌∷◌, ◌++◌, ◌<◌, [], Some, None, MatchOption, map, option_map, string_bytes, length};
-ghost use Rattle.std.specs.List.{slice_split, before_first, list_all};
+ghost use Rattle.std.specs.Prelude.{◌≡◌, ◌==◌, ◌∷◌, ◌++◌, ◌<◌, [], Some, None, MatchOption, map, string_bytes};
+ghost use Rattle.std.specs.List.{slice_split};
 ghost use Rattle.smithy_router.specs.QueryPieces.{name_of, first_named, is_same_piece, keeps_first, fits_query};
 ghost use Rattle.smithy_router.specs.Seen.{parts_left, text_seen, in_a_row};
 

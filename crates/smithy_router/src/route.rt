@@ -1,6 +1,6 @@
 // Stored routes and how they stand to each other.
 ghost use Rattle.std.specs.Prelude.{◌≡◌, ◌==◌, true, false, MatchOption};
-ghost use Rattle.std.specs.List.{slice_split, before_first, after_first};
+ghost use Rattle.std.specs.List.{before_first, after_first};
 ghost use Rattle.smithy_types.specs.Texts.{has_byte};
 ghost use Rattle.smithy_http.specs.Facts.{query_pieces};
 ghost use Rattle.smithy_router.specs.Routes.{matches, fits_target};
@@ -8,7 +8,7 @@ ghost use Rattle.smithy_router.specs.Deciding.{covers, overlaps, beats, conflict
 ghost use Rattle.smithy_router.specs.Seen.{route_seen, parts_left, query_seen};
 ghost use Rattle.smithy_router.specs.Templates.{query_of};
 
-use crate::segment::PathSegment;
+use crate::segment::{PathSegment, Relation};
 use crate::{path, query};
 
 /// A route of a template.
@@ -33,7 +33,8 @@ impl StoredRoute {
         ensures { result ≡ covers (route_seen self.now) (route_seen other.now) }
     {
         self.method.as_str() == other.method.as_str()
-            && path::covers(
+            && path::stand(
+                Relation::Covers,
                 self.is_greedy,
                 &self.segments,
                 other.is_greedy,
@@ -47,7 +48,8 @@ impl StoredRoute {
         ensures { result ≡ overlaps (route_seen self.now) (route_seen other.now) }
     {
         self.method.as_str() == other.method.as_str()
-            && path::meet(
+            && path::stand(
+                Relation::Meets,
                 self.is_greedy,
                 &self.segments,
                 other.is_greedy,

@@ -1,5 +1,5 @@
 // Lists of routes.
-ghost use Rattle.std.specs.Prelude.{◌≡◌, OnOk, OnErr, IfErr, map, option_map};
+ghost use Rattle.std.specs.Prelude.{◌≡◌, OnOk, OnErr, IfErr, map};
 ghost use Rattle.smithy_router.specs.Adding.{AddsRoute, AddsTemplate, FindsBest, IsConflict, TellsConflict, with_last};
 ghost use Rattle.smithy_router.specs.Routes.{IsRoute};
 ghost use Rattle.smithy_router.specs.Tables.{AreApart, IsApartFrom};

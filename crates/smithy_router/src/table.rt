@@ -45,7 +45,8 @@ fn better<'e>(
     best: Option<&'e StoredEntry>,
     entry: &'e StoredEntry,
 ) -> Option<&'e StoredEntry>
-    ensures { best_seen result ≡ better method.now target.now (best_seen best.entry) (entry_seen entry.now) }
+    ensures { let before = best_seen best.entry in
+        best_seen result ≡ better method.now target.now before (entry_seen entry.now) }
 {
     if entry.route.matches(method, target) {
         Some(preferred(best, entry))

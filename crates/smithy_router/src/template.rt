@@ -1,12 +1,10 @@
 // Templates cut into the parts of their path (Smithy, HTTP protocol bindings, http trait, uri).
 ghost use Rattle.std.specs.Prelude.{◌≡◌, ◌==◌, true, false, None, MatchOption, map, option_map};
-ghost use Rattle.std.specs.List.{slice_split};
-ghost use Rattle.smithy_types.specs.Results.{each};
 ghost use Rattle.smithy_types.specs.Texts.{has_byte};
 ghost use Rattle.smithy_schema.specs.Templates.{hole_of};
 ghost use Rattle.smithy_router.specs.Gives.{Gives};
 ghost use Rattle.smithy_router.specs.Seen.{part_seen, text_seen};
-ghost use Rattle.smithy_router.specs.Templates.{Bound, before_close, inside_braces, part_of};
+ghost use Rattle.smithy_router.specs.Templates.{Bound, before_close, inside_braces, part_of, parts_of};
 
 use crate::error::RouteError;
 use crate::path::next_segment;
@@ -104,7 +102,7 @@ fn part_of<'t>(segment: &'t str) -> Option<TemplatePart<'t>>
 /// The parts of a path, refused where a segment is none. Takes memory for the list.
 #[tactic(auto, using(crate::proofs::TemplateLemmas::parsing))]
 pub fn parts_of<'t>(alloc: Global, path: &'t str) -> Result<Vec<TemplatePart<'t>>, RouteError>
-    ensures { Gives (λ v. map part_seen v.items) (each part_of (slice_split (λ b. b == 47) path.now)) result }
+    ensures { Gives (λ v. map part_seen v.items) (parts_of path.now) result }
 {
     let mut parts = Vec::new(alloc);
     let mut rest = Some(path);

@@ -7,7 +7,7 @@ use Rattle.smithy_types.specs.declared.document.Document.{Document}
 use Rattle.smithy_schema.specs.Nodes.{Schema, member_at}
 use Rattle.smithy_schema.specs.References.{schema_of}
 use Rattle.smithy_schema.specs.declared.schema_ref.SchemaRef.{SchemaRef}
-use Rattle.smithy_serde.specs.Lawful.{is_canonical}
+use Rattle.smithy_types.specs.Documents.{is_canonical}
 use Rattle.smithy_serde.specs.Values as value
 use Rattle.smithy_serde.specs.Values.{Scalar, byte, short, integer, long}
 use Rattle.smithy_serde.specs.declared.error.SerdeError.{SerdeError}

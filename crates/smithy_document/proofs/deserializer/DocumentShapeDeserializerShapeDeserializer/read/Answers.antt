@@ -4,7 +4,7 @@ use Rattle.std.specs.Option.{option_copied}
 use Rattle.smithy_types.specs.DocumentView.{view}
 use Rattle.smithy_schema.specs.References.{schema_of}
 use Rattle.smithy_serde.specs.Held as held
-use Rattle.smithy_serde.specs.Lawful.{is_canonical}
+use Rattle.smithy_types.specs.Documents.{is_canonical}
 use Rattle.smithy_serde.specs.ReadCalls.{Gives, scalar_of_read, read_at}
 use Rattle.smithy_serde.specs.Writes.{only_if}
 use Rattle.smithy_document.specs.CursorView.{place_list}
