@@ -177,7 +177,7 @@ pub query_map_gives : (others : List (List ℕ)) (name : List ℕ) (v : Value) �
 query_map_gives others name v = entries_at name others (map_entries v) ∙ ap (λ ps. cond (is_one_of name others) [] (values_at name ps)) (entry_pairs-texts (map_entries v))
 
 -- where each key stands once, its texts are those of its last entry
-values_of_texts : (name : List ℕ) (es : Pairs (List (List ℕ))) → are_distinct (names es) ≡ true → values_at name (flat_map text_pairs es) ≡ unwrap_or (last_of name es) []
+pub values_of_texts : (name : List ℕ) (es : Pairs (List (List ℕ))) → are_distinct (names es) ≡ true → values_at name (flat_map text_pairs es) ≡ unwrap_or (last_of name es) []
 values_of_texts name [] e = refl
 values_of_texts name (p ∷ es) e =
     let parts = and_parts (not (is_one_of p.0 (names es))) (are_distinct (names es)) e in
@@ -223,11 +223,11 @@ query_entries here others es =
 pub query_texts_ascend : (others : List (List ℕ)) (es : Pairs (List (List ℕ))) → Ascends (query_texts others es)
 query_texts_ascend others es = filter_ascends (has_texts others) (all_put es []) (ordered_ascends es)
 
-abbrev some_texts : List (List ℕ) → Option (List (List ℕ))
+abbrev pub some_texts : List (List ℕ) → Option (List (List ℕ))
 some_texts [] = None
 some_texts (t ∷ ts) = Some (t ∷ ts)
 
-query_texts_at : (others : List (List ℕ)) (name : List ℕ) (es : Pairs (List (List ℕ))) → are_distinct (names es) ≡ true
+pub query_texts_at : (others : List (List ℕ)) (name : List ℕ) (es : Pairs (List (List ℕ))) → are_distinct (names es) ≡ true
     → looked name (query_texts others es) ≡ cond (is_one_of name others) None (some_texts (values_at name (flat_map text_pairs es)))
 query_texts_at others name es distinct =
     looked_filter (has_texts others) name (all_put es []) (ordered_ascends es) ∙ ap (passing (has_texts others) name) (look_ordered name es)

@@ -94,7 +94,7 @@ header_kinds m name is kinds =
     ap (λ (o : Option (List ℕ)). is_none o || is_header_kind m.node.kind || has_element is_header_kind m) (sym is) ∙ h
 
 -- a header member's value gives one text
-one_header_value : (m : Schema) (v : Value) → (is_flat m.node.kind || has_element is_header_kind m) ≡ true → IsPlacedValue m v → (t : List ℕ) × (header_values m v ≡ t ∷ [])
+pub one_header_value : (m : Schema) (v : Value) → (is_flat m.node.kind || has_element is_header_kind m) ≡ true → IsPlacedValue m v → (t : List ℕ) × (header_values m v ≡ t ∷ [])
 one_header_value m v kinds is = go (is_flat m.node.kind) refl kinds
   where
     there : header_values m v ≡ header_texts m v is.ts
@@ -130,7 +130,7 @@ header_part m names name (Some v) (Some w) kinds here is_o is_p e =
     ap Some (header_told m v w x.0 kinds here (is_o v refl).value (is_p w refl).value x.1 (y.1 ∙ ap (λ t. t ∷ []) (sym same)))
 
 -- no default is added at a header member's name
-header_leaves : (protocol : Protocol) (schema : Schema) (endpoint : List ℕ) (omit : Omit) (ws : List Write) (i : ℕ) (m : Schema) (name : List ℕ) → IsCheckedInput schema → IsTyped protocol schema endpoint omit ws
+pub header_leaves : (protocol : Protocol) (schema : Schema) (endpoint : List ℕ) (omit : Omit) (ws : List Write) (i : ℕ) (m : Schema) (name : List ℕ) → IsCheckedInput schema → IsTyped protocol schema endpoint omit ws
     → member_at schema i ≡ Some m → binding_of m ≡ to_header name
     → values_at (str_to_ascii_lowercase name) (all_headers protocol (body protocol.text_of schema ws) omit (headers schema ws)) ≡ values_at (str_to_ascii_lowercase name) (headers schema ws)
 header_leaves protocol schema endpoint omit ws i m name checked typed at header =

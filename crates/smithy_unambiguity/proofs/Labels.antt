@@ -28,7 +28,7 @@ hole_found Q n (p ∷ ps) all e = go (same_text p.hole.name n) refl e (hole_foun
     go true is h rest = subst Q (same_from_test p.hole.name n (sym is)) all.0
     go false is h rest = rest h
 
-all_named : (Q : List ℕ → Type 0) (ps : List Piece) (ms : List Schema) → AllByRecursion (λ p. Q p.hole.name) ps → AllByRecursion (λ m. is_some m.node.member_name ≡ true) ms
+pub all_named : (Q : List ℕ → Type 0) (ps : List Piece) (ms : List Schema) → AllByRecursion (λ p. Q p.hole.name) ps → AllByRecursion (λ m. is_some m.node.member_name ≡ true) ms
     → list_all (λ name. length (filter (λ h. same_text h.name name) (map (λ p. p.hole) ps)) == 1) (filter_map (λ m. m.node.member_name) ms) ≡ true → AllByRecursion (λ m. Q (name_of m)) ms
 all_named Q ps [] all named e = tt
 all_named Q ps (m ∷ ms) all named e = go m.node.member_name refl named.0 e (all_named Q ps ms all named.1)

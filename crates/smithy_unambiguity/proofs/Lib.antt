@@ -1,51 +1,47 @@
-mod AsciiTexts
-mod BodyObject
-mod ByMember
-mod ByName
-mod Bytes
-mod Conforming
+pub mod BodyObject
+pub mod ByMember
+pub mod ByName
+pub mod Conforming
 mod Conformity
-mod Cuts
-mod Defaults
-mod EntriesTold
-mod Firsts
-mod Fits
-mod HeaderNames
-mod HeaderTexts
-mod Headers
-mod HeadersTold
-mod Holes
+pub mod Cuts
+pub mod Defaults
+pub mod EntriesTold
+pub mod Firsts
+pub mod Fits
+pub mod HeaderNames
+pub mod HeaderTexts
+pub mod Headers
+pub mod HeadersTold
+pub mod Holes
 mod Join
-mod LabelFirst
-mod Labels
-mod LastTexts
-mod ListedTold
-mod Lists
-mod MapsTold
-mod MemberTexts
-mod Members
-mod PairLemmas
-mod Paths
-mod PayloadTold
-mod Placed
-mod Positions
-mod Queries
-mod QueryNames
-mod Requests
-mod Reserved
+pub mod LabelFirst
+pub mod Labels
+pub mod LastTexts
+pub mod Lists
+pub mod MapsTold
+pub mod MemberTexts
+pub mod Members
+pub mod PairLemmas
+pub mod Paths
+pub mod PayloadTold
+pub mod Placed
+pub mod Positions
+pub mod Queries
+pub mod QueryNames
+pub mod Requests
+pub mod Reserved
 mod Setting
 mod Settled
 mod Singles
 mod Sound
 mod SoundMaps
-mod TargetTold
-mod TemplateQuery
-mod TextsBytes
-mod TimeTexts
+pub mod TargetTold
+pub mod TemplateQuery
+pub mod TextsBytes
 mod Totals
-mod Traits
-mod UnboundTold
-mod Values
+pub mod Traits
+pub mod UnboundTold
+pub mod Values
 mod ViewBody
 mod ViewDocument
 mod ViewHeaders
@@ -60,6 +56,3 @@ mod Viewed
 mod ViewedMaps
 mod ViewedMembers
 mod WellMadeNodes
-mod Widths
-mod WireTexts
-mod Wires

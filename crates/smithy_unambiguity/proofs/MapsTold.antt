@@ -66,7 +66,7 @@ query_map_view m names v query_map is =
     ap (λ es. unless_empty (map_value (Some m) (filter (has_pairs names) (in_key_order es)))) (own_query_entries m v node is.value.items)
     ∙ ap (λ es. unless_empty (map_value (Some m) es)) (query_entries (value_of m) names (key_texts v))
 
-query_map_part : (m : Schema) (names : List (List ℕ)) (o : Option Value) → is_query_map m ≡ true → ((v : Value) → o ≡ Some v → IsPlacedValue m v)
+pub query_map_part : (m : Schema) (names : List (List ℕ)) (o : Option Value) → is_query_map m ≡ true → ((v : Value) → o ≡ Some v → IsPlacedValue m v)
     → option_and_then (bound_view_at to_query_map names m) o ≡ unless_empty (map_value (Some m) (valued (own_value (value_of m)) (query_texts names (written_texts o))))
 query_map_part m names None query_map is = refl
 query_map_part m names (Some v) query_map is = query_map_view m names v query_map (is v refl)
@@ -143,7 +143,7 @@ prefix_map_view m names prefix v text_map is =
     ap (λ es. unless_empty (map_value (Some m) (in_key_order (in_lower_case es)))) (own_text_entries m v plain is.value.items)
     ∙ ap (λ es. unless_empty (map_value (Some m) es)) (ap in_key_order (lower_entries (map_pairs v)) ∙ in_order as_text (lowered (map_pairs v)))
 
-prefix_part : (m : Schema) (names : List (List ℕ)) (prefix : List ℕ) (o : Option Value) → is_text_map m ≡ true → ((v : Value) → o ≡ Some v → IsPlacedValue m v)
+pub prefix_part : (m : Schema) (names : List (List ℕ)) (prefix : List ℕ) (o : Option Value) → is_text_map m ≡ true → ((v : Value) → o ≡ Some v → IsPlacedValue m v)
     → option_and_then (bound_view_at (to_prefix prefix) names m) o ≡ unless_empty (map_value (Some m) (valued as_text (all_put (lowered (written_pairs o)) [])))
 prefix_part m names prefix None text_map is = refl
 prefix_part m names prefix (Some v) text_map is = prefix_map_view m names prefix v text_map (is v refl)
@@ -154,12 +154,12 @@ list-injective (Some x) (Some y) e = let same : x ≡ y = cc e in ap Some same
 list-injective None (Some y) e = absurd (cc e)
 list-injective (Some x) None e = absurd (cc e)
 
-last_of_entries : (key : List ℕ) (o : Option Value) → option_map_or (λ v. last_at key (lowered (map_pairs v))) o [] ≡ last_at key (lowered (written_pairs o))
+pub last_of_entries : (key : List ℕ) (o : Option Value) → option_map_or (λ v. last_at key (lowered (map_pairs v))) o [] ≡ last_at key (lowered (written_pairs o))
 last_of_entries key None = refl
 last_of_entries key (Some v) = refl
 
 -- only names in lower case stand among these
-not_lower : (name : List ℕ) (ps : List (List ℕ × List ℕ)) → same_text (str_to_ascii_lowercase name) name ≡ false → values_at name (lowered ps) ≡ []
+pub not_lower : (name : List ℕ) (ps : List (List ℕ × List ℕ)) → same_text (str_to_ascii_lowercase name) name ≡ false → values_at name (lowered ps) ≡ []
 not_lower name ps e = nothing_at name (lowered ps) (all ps)
   where
     other : (key : List ℕ) → str_to_ascii_lowercase key ≢ name
@@ -173,7 +173,7 @@ not_lower name ps e = nothing_at name (lowered ps) (all ps)
     all (p ∷ ps) = (other p.0, all ps)
 
 -- under a default's name no entry stands
-no_default_at : (name : List ℕ) (ps : List (List ℕ × List ℕ)) → list_all (λ (p : List ℕ × List ℕ). not (is_one_of p.0 default_names)) ps ≡ true → is_one_of name default_names ≡ true → values_at name ps ≡ []
+pub no_default_at : (name : List ℕ) (ps : List (List ℕ × List ℕ)) → list_all (λ (p : List ℕ × List ℕ). not (is_one_of p.0 default_names)) ps ≡ true → is_one_of name default_names ≡ true → values_at name ps ≡ []
 no_default_at name ps tests is =
     nothing_at name ps
     (all_apply (λ p. not (is_one_of p.0 default_names) ≡ true) (λ p. p.0 ≢ name) ps (λ p test e. let q : false ≡ true = sym (ap not (ap (λ n. is_one_of n default_names) e ∙ is)) ∙ test in cc q)

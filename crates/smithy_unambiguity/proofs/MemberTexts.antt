@@ -22,10 +22,9 @@ use Rattle.smithy_binding.specs.Faults.{item_fault, element_fault}
 use Rattle.smithy_binding.specs.Typed.{has_own_formats}
 use Rattle.smithy_binding.specs.NormalForm.{with_own_elements}
 use Rattle.smithy_unambiguity.proofs.Fits.{is_flat}
-use Rattle.smithy_unambiguity.proofs.Wires.{wire-injective}
 use Rattle.smithy_unambiguity.proofs.Headers.{header_values}
 use Rattle.smithy_unambiguity.proofs.HeaderTexts.{lists_told}
-use Rattle.smithy_unambiguity.proofs.Values.{AreItems, items_fit, HaveFormat, have_format, is_flat_value, flat_value, flat_texts, flat_header, elements_told}
+use Rattle.smithy_unambiguity.proofs.Values.{wire-injective, AreItems, items_fit, HaveFormat, have_format, is_flat_value, flat_value, flat_texts, flat_header, elements_told}
 
 -- What is asked of a bound value: in range, of the member's kind, its parts of their kinds, in the element node's format.
 pub record IsBoundValue (m : Schema) (v : Value) : Type 0 where
@@ -50,7 +49,7 @@ one_text m v t flat e = go (own_text m v) (ap (λ (o : Option (List (List ℕ)))
     go None h = absurd (cc h)
     go (Some x) h = let same : x ≡ t = cc h in ap Some same
 
-one_header : (m : Schema) (v : Value) (t : List ℕ) → is_flat_value v ≡ true → header_values m v ≡ t ∷ [] → own_text m v ≡ Some t
+pub one_header : (m : Schema) (v : Value) (t : List ℕ) → is_flat_value v ≡ true → header_values m v ≡ t ∷ [] → own_text m v ≡ Some t
 one_header m v t flat e = one_text m v t flat (go (texts m v) ∙ e)
   where
     go : (o : Option (List (List ℕ))) → option_map_or (λ (ts : List (List ℕ)). ts) o [] ≡ option_map_or (header_texts m v) o []
@@ -102,12 +101,12 @@ bound_list test m l v is_v =
     record { ws = x.0; is = x.1; items = items_fit m l.element.node.kind x.0 fault range; formats = have_format l.element.node.traits.timestamp_format x.0 own }
 
 -- the texts of a header list, and the header that they are
-record IsListed (m e : Schema) (ws : Writes) (t : List ℕ) : Type 0 where
-  ts : List (List ℕ)
-  texts : each (element_text (place_of m)) (list_of ws) ≡ Some ts
-  is : listed e.node.kind ts ≡ t
+pub record IsListed (m e : Schema) (ws : Writes) (t : List ℕ) : Type 0 where
+  pub ts : List (List ℕ)
+  pub texts : each (element_text (place_of m)) (list_of ws) ≡ Some ts
+  pub is : listed e.node.kind ts ≡ t
 
-listed_of : (m e : Schema) (ws : Writes) (t : List ℕ) → element_of m ≡ Some e → header_values m (value.list ws) ≡ t ∷ [] → IsListed m e ws t
+pub listed_of : (m e : Schema) (ws : Writes) (t : List ℕ) → element_of m ≡ Some e → header_values m (value.list ws) ≡ t ∷ [] → IsListed m e ws t
 listed_of m e ws t is h = go (each (element_text (place_of m)) (list_of ws)) refl h
   where
     go : (o : Option (List (List ℕ))) → each (element_text (place_of m)) (list_of ws) ≡ o → option_map_or (λ (ts : List (List ℕ)). listed (kind_or_none (element_of m)) ts ∷ []) o [] ≡ t ∷ [] → IsListed m e ws t

@@ -80,7 +80,7 @@ between (b ∷ later) begins ends =
     go false false es eq none h = absurd (cc h)
 
 -- a hole before another is not greedy
-plain_hole : (hole : Hole) {last : Bool} → (not hole.greedy || last) ≡ true → last ≡ false → hole.greedy ≡ false
+pub plain_hole : (hole : Hole) {last : Bool} → (not hole.greedy || last) ≡ true → last ≡ false → hole.greedy ≡ false
 plain_hole hole e f = go hole.greedy (sym (ap (λ t. not hole.greedy || t) f) ∙ e)
   where
     go : (t : Bool) → (not t || false) ≡ true → t ≡ false
@@ -88,7 +88,7 @@ plain_hole hole e f = go hole.greedy (sym (ap (λ t. not hole.greedy || t) f) �
     go false h = refl
 
 -- the path up to the `?` behind a hole that is not greedy and the literal between it and the next
-spelled : (hole : Hole) (text literal rest : List ℕ) (b : IsBetween literal) → hole.greedy ≡ false
+pub spelled : (hole : Hole) (text literal rest : List ℕ) (b : IsBetween literal) → hole.greedy ≡ false
     → before 63 (hole_text hole text ++ (literal ++ rest)) ≡ escape text ++ 47 ∷ (b.later ++ before 63 rest)
 spelled hole text literal rest b plain =
     let one = ap (λ g. before 63 (cond g (keep_slashes text) (escape text) ++ (literal ++ rest))) plain in

@@ -101,7 +101,7 @@ raw_text o p is_o is_p e = shown o is_o ∙ ap view_of e ∙ sym (shown p is_p)
     shown None is = refl
     shown (Some v) is = let x = text_form v (is v refl) in ap unless_empty x.1 ∙ ap (λ u. unless_empty (value.scalar (value.text (raw_bytes u)))) (sym x.1)
 
-blob_form : (v : Value) → fits kind.Blob v ≡ true → (b : List ℕ) × (v ≡ value.scalar (value.blob b))
+pub blob_form : (v : Value) → fits kind.Blob v ≡ true → (b : List ℕ) × (v ≡ value.scalar (value.blob b))
 blob_form (value.scalar (value.blob b)) e = (b, refl)
 blob_form (value.scalar (value.whole value.byte z)) e = absurd (cc e)
 blob_form (value.scalar (value.whole value.short z)) e = absurd (cc e)
@@ -127,7 +127,7 @@ pub codec_view : (m : Schema) (o : Option Value) → is_codec_kind m.node.kind �
 codec_view m None codec = refl
 codec_view m (Some u) codec = ap (λ t. if t then Some (settled (Some m) u) else unless_empty u) codec
 
-raw_view : (m : Schema) (o : Option Value) → is_codec_kind m.node.kind ≡ false → option_and_then (payload_view m) o ≡ option_and_then unless_empty o
+pub raw_view : (m : Schema) (o : Option Value) → is_codec_kind m.node.kind ≡ false → option_and_then (payload_view m) o ≡ option_and_then unless_empty o
 raw_view m o raw = ap (λ t. option_and_then (λ u. if t then Some (settled (Some m) u) else unless_empty u) o) raw
 
 -- a shaped value whose document a codec tells apart
@@ -138,7 +138,7 @@ pub record HasOwnText (m : Schema) (v : Value) : Type 0 where
   pub sound : is_sound doc ≡ true
   pub shallow : nesting doc ≤ max_nesting
 
-own_bytes : (text_of : Document → List ℕ) (m : Schema) (v : Value) (is : HasOwnText m v) → text_of_document text_of (Some v) ≡ text_of is.doc
+pub own_bytes : (text_of : Document → List ℕ) (m : Schema) (v : Value) (is : HasOwnText m v) → text_of_document text_of (Some v) ≡ text_of is.doc
 own_bytes text_of m v is = ap (λ (r : Result Document DocumentFault). unwrap_or (option_map text_of (result_ok r)) []) is.has
 
 pub text_tells : (text_of : Document → List ℕ) (holds : List ℕ → Option Held) → IsLawfulText text_of holds → (m : Schema) (v w : Value) → Stands m → HasOwnText m v → HasOwnText m w
@@ -168,12 +168,12 @@ pub document_value_is : (schema : Schema) (ws : List Write) (f : BodyForm) → f
 unfolding document_value
 document_value_is schema ws f e = ap (λ g. document_by g (body_parts schema ws)) e
 
-data_kind : (k : ShapeType) → is_payload_kind k ≡ true → (k ≡ kind.Blob) ⊎ ((k ≡ kind.String) ⊎ (is_codec_kind k ≡ true))
+pub data_kind : (k : ShapeType) → is_payload_kind k ≡ true → (k ≡ kind.Blob) ⊎ ((k ≡ kind.String) ⊎ (is_codec_kind k ≡ true))
 data_kind kind.Blob e = inl refl
 data_kind kind.String e = inr (inl refl)
 data_kind _ e = inr (inr e)
 
-codec_form : (k : ShapeType) (b : Bool) → is_codec_kind k ≡ true → form_at (Some k) b ≡ form.Payload
+pub codec_form : (k : ShapeType) (b : Bool) → is_codec_kind k ≡ true → form_at (Some k) b ≡ form.Payload
 codec_form kind.Structure b e = refl
 codec_form kind.Union b e = refl
 codec_form kind.List b e = refl
@@ -182,11 +182,11 @@ codec_form kind.Document b e = refl
 codec_form _ b e = absurd (cc e)
 
 -- the form of the bodies, by the kind of the payload
-payload_form : (schema : Schema) → IsCheckedInput schema → (i : ℕ) (m : Schema) → member_at schema i ≡ Some m → binding_of m ≡ to_payload → form_in schema ≡ form_at (Some m.node.kind) (has_unbound_member schema)
+pub payload_form : (schema : Schema) → IsCheckedInput schema → (i : ℕ) (m : Schema) → member_at schema i ≡ Some m → binding_of m ≡ to_payload → form_in schema ≡ form_at (Some m.node.kind) (has_unbound_member schema)
 payload_form schema checked i m at payload = ap (λ o. form_at o (has_unbound_member schema)) (payload_kind_is schema checked i m at payload)
 
 -- the kind of a payload
-payload_is_data : (schema : Schema) → IsCheckedInput schema → (i : ℕ) (m : Schema) → member_at schema i ≡ Some m → binding_of m ≡ to_payload → is_payload_kind m.node.kind ≡ true
+pub payload_is_data : (schema : Schema) → IsCheckedInput schema → (i : ℕ) (m : Schema) → member_at schema i ≡ Some m → binding_of m ≡ to_payload → is_payload_kind m.node.kind ≡ true
 payload_is_data schema checked i m at payload =
     let tests = and_parts (has_at_most_one (λ t. t.http_payload) schema) (is_sound_payload (payload_kind schema) (has_unbound_member schema)) checked.payload in
     (and_parts (is_payload_kind m.node.kind) (not (has_unbound_member schema)) (ap (λ o. is_sound_payload o (has_unbound_member schema)) (sym (payload_kind_is schema checked i m at payload)) ∙ tests.1)).0

@@ -16,7 +16,7 @@ use Rattle.smithy_binding.specs.Faults.{is_placed_at}
 use Rattle.smithy_schema.specs.WellMade.{has_utf8}
 use Rattle.smithy_binding.specs.Placing.{Protocol, Omit, template_of}
 use Rattle.smithy_binding.specs.NormalForm.{member_view, bound_view_at, with_own_elements, unless_empty}
-use Rattle.smithy_unambiguity.proofs.Bytes.{AreBytes-from_utf8}
+use Rattle.smithy_strings.proofs.Bytes.{AreBytes-from_utf8}
 use Rattle.smithy_unambiguity.proofs.ByMember.{first_value, first_texts}
 use Rattle.smithy_unambiguity.proofs.ByName.{found-front, front}
 use Rattle.smithy_unambiguity.proofs.Fits.{is_flat}
@@ -65,7 +65,7 @@ flat_part m (Some v) (Some w) flat is_o is_p e =
     let same : x.0 ≡ y.0 = cc q in
     ap Some (query_told m v w (x.0 ∷ []) flat a.value b.value (a.texts ∙ ap Some x.1) (b.texts ∙ ap Some (y.1 ∙ ap (λ t. t ∷ []) (sym same))))
 
-label_kind : (m : Schema) → m.node.traits.http_label ≡ true → has_bound_kind m ≡ true → is_flat m.node.kind ≡ true
+pub label_kind : (m : Schema) → m.node.traits.http_label ≡ true → has_bound_kind m ≡ true → is_flat m.node.kind ≡ true
 label_kind m is kinds =
     let a = and_parts (has_label_kind m && has_query_kind m) (has_header_kind m) kinds in
     let b = and_parts (has_label_kind m) (has_query_kind m) a.0 in

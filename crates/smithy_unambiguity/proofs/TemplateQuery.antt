@@ -26,18 +26,18 @@ after-behind : (xs ys : List ℕ) → HasNo 63 xs → after (xs ++ ys) ≡ after
 after-behind [] ys none = refl
 after-behind (x ∷ xs) ys none = ap (λ t. cond t (xs ++ ys) (after (xs ++ ys))) (ne_eqb x 63 none.0) ∙ after-behind xs ys none.1
 
-pieces_behind : (xs ys : List ℕ) → HasNo 63 xs → query_pieces (xs ++ ys) ≡ query_pieces ys
+pub pieces_behind : (xs ys : List ℕ) → HasNo 63 xs → query_pieces (xs ++ ys) ≡ query_pieces ys
 pieces_behind xs ys none =
     ap (λ t. cond t (slice_split (λ b. b == 38) (after_first (λ b. b == 63) (xs ++ ys))) []) (has-behind xs ys none)
     ∙ ap (λ r. cond (has_byte 63 ys) (slice_split (λ b. b == 38) r) []) (after_first-after (xs ++ ys) ∙ after-behind xs ys none ∙ sym (after_first-after ys))
 
 -- those of the last literal
-own_pieces : List Piece → List (List ℕ)
+unfoldable pub own_pieces : List Piece → List (List ℕ)
 own_pieces [] = []
 own_pieces (p ∷ []) = query_pieces p.literal
 own_pieces (p ∷ q ∷ ps) = own_pieces (q ∷ ps)
 
-rest_pieces : (start : List ℕ) (ps : List Piece) (texts : List (List ℕ × List ℕ)) (path : List ℕ) → are_whole_segments start ps ≡ true → fill_rest (λ name. found name texts) ps ≡ Ok path → query_pieces path ≡ own_pieces ps
+pub rest_pieces : (start : List ℕ) (ps : List Piece) (texts : List (List ℕ × List ℕ)) (path : List ℕ) → are_whole_segments start ps ≡ true → fill_rest (λ name. found name texts) ps ≡ Ok path → query_pieces path ≡ own_pieces ps
 unfolding own_pieces
 rest_pieces start [] texts path segments e = let same : [] ≡ path = cc e in ap query_pieces (sym same)
 rest_pieces start (p ∷ []) texts path segments e =

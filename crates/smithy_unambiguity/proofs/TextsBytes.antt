@@ -14,15 +14,15 @@ use Rattle.smithy_strings.specs.declared.wire.Place.{Place}
 use Rattle.smithy_binding.specs.Bindings.{labels, labelled, labelled_at, pairs, pairs_of, pairs_at, query_names, has_key_outside, texts, map_entries, entries_of, entry_texts, entry_pairs, member_text, element_text, place_of, pairs_with}
 use Rattle.smithy_binding.specs.Faults.{writes_fault}
 use Rattle.smithy_schema.specs.WellMade.{is_well_made, has_utf8}
-use Rattle.smithy_unambiguity.proofs.AsciiTexts.{utf8_from_low}
-use Rattle.smithy_unambiguity.proofs.Bytes.{AreBytes-from_utf8}
+use Rattle.smithy_strings.proofs.AsciiTexts.{utf8_from_low}
+use Rattle.smithy_strings.proofs.Bytes.{AreBytes-from_utf8}
 use Rattle.smithy_unambiguity.proofs.Traits.{trait_of}
 use Rattle.smithy_unambiguity.proofs.Conforming.{resolved_at, IsFittingWrite, fitting_writes}
 use Rattle.smithy_unambiguity.proofs.Firsts.{all_firsts}
 use Rattle.smithy_unambiguity.proofs.Members.{member_in_place}
-use Rattle.smithy_unambiguity.proofs.Lists.{both_hold, all_filter, all_given}
+use Rattle.smithy_unambiguity.proofs.Lists.{all_apply, both_hold, all_filter, all_given}
 use Rattle.smithy_unambiguity.proofs.Values.{each_first}
-use Rattle.smithy_unambiguity.proofs.WireTexts.{wire_utf8}
+use Rattle.smithy_strings.proofs.WireTexts.{wire_utf8}
 use Rattle.smithy_unambiguity.proofs.Paths.{HaveBytes}
 
 -- each text is UTF-8
@@ -43,7 +43,7 @@ one_utf8 m v range = go (member_text (place_of m) m v) refl
     go None e = tt
     go (Some t) e = (wire_utf8 m.node.traits.timestamp_format (is_some m.node.traits.media_type) (place_of m) v t range e, tt)
 
-texts_utf8 : (m : Schema) (v : Value) → is_in_range v ≡ true → AreUtf8 (unwrap_or (texts m v) [])
+pub texts_utf8 : (m : Schema) (v : Value) → is_in_range v ≡ true → AreUtf8 (unwrap_or (texts m v) [])
 texts_utf8 m (value.list ws) range = go (each (element_text (place_of m)) (list_of ws)) refl
   where
     go : (o : Option (List (List ℕ))) → each (element_text (place_of m)) (list_of ws) ≡ o → AreUtf8 (unwrap_or o [])
@@ -57,9 +57,13 @@ texts_utf8 m (value.structure ws) range = one_utf8 m (value.structure ws) range
 abbrev pub IsBytePair : List ℕ × List ℕ → Type 0
 IsBytePair p = AreBytes p.0 × AreBytes p.1
 
-under_bytes : (name : List ℕ) (ts : List (List ℕ)) → AreBytes name → AreUtf8 ts → AllByRecursion IsBytePair (pairs_with name ts)
-under_bytes name [] bytes all = tt
-under_bytes name (t ∷ ts) bytes all = ((bytes, AreBytes-from_utf8 t all.0), under_bytes name ts bytes all.1)
+-- of UTF-8 both
+abbrev pub IsTextPair : List ℕ × List ℕ → Type 0
+IsTextPair p = (is_utf8 p.0 ≡ true) × (is_utf8 p.1 ≡ true)
+
+under_utf8 : (name : List ℕ) (ts : List (List ℕ)) → is_utf8 name ≡ true → AreUtf8 ts → AllByRecursion IsTextPair (pairs_with name ts)
+under_utf8 name [] utf8 all = tt
+under_utf8 name (t ∷ ts) utf8 all = ((utf8, all.0), under_utf8 name ts utf8 all.1)
 
 labelled_bytes : (name : List ℕ) (ts : List (List ℕ)) → AreUtf8 ts → HaveBytes (pairs_with name ts)
 labelled_bytes name [] all = tt
@@ -99,8 +103,8 @@ map_in_range (value.scalar s) range = tt
 map_in_range (value.list ws) range = tt
 map_in_range (value.structure ws) range = tt
 
-entries_bytes : (es : List (List ℕ × Value)) → AllByRecursion IsEntryInRange es → AllByRecursion IsBytePair (flat_map entry_pairs es)
-entries_bytes es all = all_given IsBytePair IsEntryInRange entry_pairs es (λ e range. under_bytes e.0 (entry_texts e.1) (AreBytes-from_utf8 e.0 range.0) (entry_utf8 e.1 range.1)) all
+entries_utf8 : (es : List (List ℕ × Value)) → AllByRecursion IsEntryInRange es → AllByRecursion IsTextPair (flat_map entry_pairs es)
+entries_utf8 es all = all_given IsTextPair IsEntryInRange entry_pairs es (λ e range. under_utf8 e.0 (entry_texts e.1) range.0 (entry_utf8 e.1 range.1)) all
 
 labelled_at_bytes : (b : Binding) (m : Schema) (v : Value) → is_in_range v ≡ true → HaveBytes (labelled_at b m v)
 labelled_at_bytes to_label m v range = labelled_bytes (name_of m) (unwrap_or (texts m v) []) (texts_utf8 m v range)
@@ -112,18 +116,22 @@ labels_are_bytes schema ws conforming range =
     all_given (λ p. AreBytes p.1) IsFittingWrite labelled (firsts schema ws) (λ r fitting. labelled_at_bytes (binding_of r.member) r.member r.value fitting.in_range)
     (all_firsts IsFittingWrite (all_resolved schema ws) (fitting_writes schema ws conforming range))
 
-pub pairs_are_bytes : (schema : Schema) (ws : List Write) → is_well_made schema ≡ true → writes_fault schema [] ws ≡ None → are_in_range ws ≡ true → AllByRecursion IsBytePair (pairs schema ws)
+pub pairs_are_utf8 : (schema : Schema) (ws : List Write) → is_well_made schema ≡ true → writes_fault schema [] ws ≡ None → are_in_range ws ≡ true → AllByRecursion IsTextPair (pairs schema ws)
 unfolding pairs
-pairs_are_bytes schema ws well_made conforming range =
-    all_given IsBytePair Both (pairs_of schema) (firsts schema ws) (λ r both. by r both (binding_of r.member) refl)
+pairs_are_utf8 schema ws well_made conforming range =
+    all_given IsTextPair Both (pairs_of schema) (firsts schema ws) (λ r both. by r both (binding_of r.member) refl)
     (all_firsts Both (all_resolved schema ws) (both_hold IsFittingWrite (λ r. member_at schema r.position ≡ Some r.member) (all_resolved schema ws) (fitting_writes schema ws conforming range) (resolved_at schema ws)))
   where
     Both : Resolved → Type 0
     Both r = IsFittingWrite r × (member_at schema r.position ≡ Some r.member)
 
-    by : (r : Resolved) → IsFittingWrite r × (member_at schema r.position ≡ Some r.member) → (b : Binding) → binding_of r.member ≡ b → AllByRecursion IsBytePair (pairs_at b (query_names schema) r.member r.value)
+    by : (r : Resolved) → IsFittingWrite r × (member_at schema r.position ≡ Some r.member) → (b : Binding) → binding_of r.member ≡ b → AllByRecursion IsTextPair (pairs_at b (query_names schema) r.member r.value)
     by r both (to_query name) e =
         let member = member_in_place schema r.position r.member well_made both.1 in
-        under_bytes name (unwrap_or (texts r.member r.value) []) (AreBytes-from_utf8 name (ap has_utf8 (sym (trait_of r.member (to_query name) e)) ∙ member.texts.query)) (texts_utf8 r.member r.value both.0.in_range)
-    by r both to_query_map e = entries_bytes (filter (has_key_outside (query_names schema)) (map_entries r.value)) (all_filter IsEntryInRange (has_key_outside (query_names schema)) (map_entries r.value) (map_in_range r.value both.0.in_range))
+        under_utf8 name (unwrap_or (texts r.member r.value) []) (ap has_utf8 (sym (trait_of r.member (to_query name) e)) ∙ member.texts.query) (texts_utf8 r.member r.value both.0.in_range)
+    by r both to_query_map e = entries_utf8 (filter (has_key_outside (query_names schema)) (map_entries r.value)) (all_filter IsEntryInRange (has_key_outside (query_names schema)) (map_entries r.value) (map_in_range r.value both.0.in_range))
     by r both _ e = tt
+
+pub pairs_are_bytes : (schema : Schema) (ws : List Write) → is_well_made schema ≡ true → writes_fault schema [] ws ≡ None → are_in_range ws ≡ true → AllByRecursion IsBytePair (pairs schema ws)
+pairs_are_bytes schema ws well_made conforming range =
+    all_apply IsTextPair IsBytePair (pairs schema ws) (λ p utf8. (AreBytes-from_utf8 p.0 utf8.0, AreBytes-from_utf8 p.1 utf8.1)) (pairs_are_utf8 schema ws well_made conforming range)

@@ -12,16 +12,30 @@ use Rattle.smithy_schema.specs.Nodes.{Schema}
 use Rattle.smithy_serde.specs.Values as value
 use Rattle.smithy_serde.specs.Values.{Value, Label, Writes, no_writes, write, Write, list_of, label_of}
 use Rattle.smithy_serde.specs.Ranges.{is_in_range, are_writes_in_range}
-use Rattle.smithy_serde.specs.Fits.{fits, fits_in_range}
+use Rattle.smithy_serde.specs.Fits.{fits, fits_in_range, scalar_kind}
 use Rattle.smithy_serde.specs.NormalBody.{settled, settled_elements}
 use Rattle.smithy_strings.specs.declared.wire.Place.{Place}
 use Rattle.smithy_strings.specs.Wire.{wire}
+use Rattle.smithy_strings.specs.Unwired.{unwired}
+use Rattle.smithy_strings.proofs.UnwireLaws.{unwire_is_exact}
 use Rattle.smithy_binding.specs.Bindings.{member_text, element_text, texts, place_of, header_texts}
 use Rattle.smithy_binding.specs.Faults.{element_fault, wrong_item_kind}
 use Rattle.smithy_binding.specs.Checked.{same_format}
 use Rattle.smithy_binding.specs.NormalForm.{with_own_elements}
 use Rattle.smithy_unambiguity.proofs.Fits.{is_flat, taken}
-use Rattle.smithy_unambiguity.proofs.Wires.{wire-injective}
+
+-- a value of a flat kind is read back from its text
+wire_back : (format : Option TimestampFormat) (media : Bool) (place : Place) (k : ShapeType) (v : Value) (t : List ℕ) → is_flat k ≡ true → fits_in_range k v ≡ true → wire format media place v ≡ Some t
+    → option_map (λ x. value.scalar x) (unwired format media place k t) ≡ Some v
+wire_back format media place k (value.scalar x) t flat fit e =
+    let parts = and_parts (is_in_range (value.scalar x)) (fits k (value.scalar x)) fit in
+    ap (option_map (λ x. value.scalar x)) ((unwire_is_exact format media place k t).reads_back x parts.0 (taken k (scalar_kind x) flat parts.1) e)
+wire_back format media place k _ t flat fit e = absurd (cc e)
+
+-- so two values of one flat kind that have one text are one
+pub wire-injective : (format : Option TimestampFormat) (media : Bool) (place : Place) (k : ShapeType) (v w : Value) (t : List ℕ) → is_flat k ≡ true → fits_in_range k v ≡ true → fits_in_range k w ≡ true
+    → wire format media place v ≡ Some t → wire format media place w ≡ Some t → v ≡ w
+wire-injective format media place k v w t flat fit_v fit_w p q = let both = sym (wire_back format media place k v t flat fit_v p) ∙ wire_back format media place k w t flat fit_w q in cc both
 
 -- each element of a list fits the element node, and is in range
 abbrev pub AreItems : ShapeType → Writes → Type 0

@@ -29,7 +29,7 @@ use Rattle.smithy_binding.specs.Faults.{element_fault, nested_fault, part_fault,
 use Rattle.smithy_binding.specs.Typed.{has_no_default_name, default_names}
 use Rattle.smithy_document.proofs.OrderedPairs.{Pairs, all_put}
 use Rattle.smithy_unambiguity.proofs.LastTexts.{lowered}
-use Rattle.smithy_unambiguity.proofs.AsciiTexts.{is_low, are_low, utf8_from_low}
+use Rattle.smithy_strings.proofs.AsciiTexts.{is_low, are_low, utf8_from_low}
 use Rattle.smithy_unambiguity.proofs.ByMember.{at_member}
 use Rattle.smithy_unambiguity.proofs.Conforming.{no_first}
 use Rattle.smithy_unambiguity.proofs.EntriesTold.{passed, text_writes, own_list, own_value, own_value_list, as_text, is_text_node, string_kind, text_part, key_texts, has_texts, query_texts, query_texts_ascend}

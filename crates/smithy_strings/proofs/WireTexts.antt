@@ -14,9 +14,9 @@ use Rattle.smithy_serde.specs.DocumentOf.{base64}
 use Rattle.smithy_strings.specs.declared.wire.Place.{Place}
 use Rattle.smithy_strings.specs.declared.wire.Place.TheVariants.{Header}
 use Rattle.smithy_strings.specs.Wire.{wire, time_format, blob_text, string_text}
-use Rattle.smithy_unambiguity.proofs.AsciiTexts.{IsAscii-from_test, big_integer-utf8, big_decimal-utf8}
-use Rattle.smithy_unambiguity.proofs.TimeTexts.{time_form, form_utf8}
-use Rattle.smithy_unambiguity.proofs.Widths.{long_width, long_magnitude}
+use Rattle.smithy_strings.proofs.AsciiTexts.{IsAscii-from_test, utf8_from_low, big_integer-utf8, big_decimal-utf8}
+use Rattle.smithy_strings.proofs.TimeTexts.{time_form, form_low}
+use Rattle.smithy_strings.proofs.Widths.{long_width, long_magnitude}
 
 pub ascii_utf8 : (text : List ℕ) → IsAscii text → is_utf8 text ≡ true
 ascii_utf8 text ascii = is_utf8-from_IsUtf8 text (IsUtf8-from_ascii text ascii)
@@ -40,5 +40,5 @@ wire_utf8 f media place (value.scalar (value.big_integer s)) t range e = is_some
 wire_utf8 f media place (value.scalar (value.big_decimal s)) t range e = is_some_text e (big_decimal-utf8 s range)
 wire_utf8 f media place (value.scalar (value.text s)) t range e = is_some_text e (string_utf8 media s range)
 wire_utf8 f media place (value.scalar (value.blob bytes)) t range e = blob_utf8 place bytes t e
-wire_utf8 f media place (value.scalar (value.timestamp z)) t range e = form_utf8 (time_format f place) t (time_form (time_format f place) z t range e)
+wire_utf8 f media place (value.scalar (value.timestamp z)) t range e = utf8_from_low t (form_low (time_format f place) t (time_form (time_format f place) z t range e))
 wire_utf8 f media place _ t range e = absurd (cc e)

@@ -1,8 +1,9 @@
--- The texts of times are ASCII, and each is cut off where a comma follows it: an HTTP date has one comma, the others have none.
-use Rattle.std.proofs.Common.{◌≡◌, ◌≢◌, refl, sym, ◌∙◌, ap, subst, ℕ, zero, suc, ◌+◌, ◌-◌, ◌/◌, ◌%◌, ◌^◌, ◌<◌, ◌≤◌, nat_lt, arith, Bool, true, false, not, cond, ◌==◌, List, [], ◌∷◌, ◌++◌, length, replicate, codes, Some, None, option_map, unwrap_or, slice_get, ℤ, pos, negsuc, ne_eqb, ◌≤ℤ◌, ◌<ℤ◌}
+-- The texts of times are ASCII, and no white space stands at their ends: an HTTP date has one comma, the others have none.
+use Rattle.std.proofs.Common.{◌≡◌, ◌≢◌, refl, sym, ◌∙◌, ap, subst, ℕ, zero, suc, ◌+◌, ◌-◌, ◌/◌, ◌%◌, ◌^◌, ◌<◌, ◌≤◌, nat_lt, arith, Bool, true, false, not, cond, ◌==◌, ◌&&◌, List, [], ◌∷◌, ◌++◌, length, replicate, codes, Some, None, option_map, unwrap_or, slice_get, ℤ, pos, negsuc, ne_eqb, ◌≤ℤ◌, ◌<ℤ◌}
 use Rattle.std.specs.Prelude.{int_le, neg_ℤ, unsigned_abs, ◌+ℤ◌}
 use Rattle.std.specs.Fmt.{decimal, signed_decimal}
-use Rattle.std.specs.Str.{is_utf8}
+use Rattle.std.specs.Char.{is_whitespace}
+use Rattle.std.specs.List.{list_all}
 use Rattle.std.specs.Str.Parse.{AllDigits}
 use Rattle.std.proofs.lemmas.Bool.{agree_below_at, and_parts, and_from, lt-ltb}
 use Rattle.std.proofs.lemmas.Fmt.{decimal_is_IsNumeral}
@@ -18,13 +19,34 @@ use Rattle.smithy_types.specs.declared.date_time.Format.TheVariants.{EpochSecond
 use Rattle.smithy_types.specs.TimestampReading.{timestamp_of, is_zone}
 use Rattle.smithy_types.specs.Timestamps.{is_in_calendar, since_year_one, clock_text, weekday_name, weekday_names, month_name, full_date_text, short_date_text, date_time_text, http_date_text, calendar_text, timestamp_text}
 use Rattle.smithy_serde.specs.Ranges.{is_signed_within}
-use Rattle.smithy_unambiguity.proofs.AsciiTexts.{are_low, utf8_from_low}
-use Rattle.smithy_unambiguity.proofs.ListedTold.{is_plain_byte, are_plain, IsPlain, OneComma, IsCuttable, plain_cuttable, one_comma_cuttable}
 use Rattle.smithy_types.proofs.DateLaws.{date_of-is_real}
-use Rattle.smithy_unambiguity.proofs.Widths.{long_magnitude}
-use Rattle.smithy_unambiguity.proofs.Wires.{time_back}
+use Rattle.smithy_types.proofs.DigitLaws.{padded_four}
+use Rattle.smithy_http.specs.Quoting.{begins_with_white_space, ends_with_white_space}
+use Rattle.smithy_strings.proofs.AsciiTexts.{are_low}
+use Rattle.smithy_strings.proofs.UnwireLaws.{time_back}
+use Rattle.smithy_strings.proofs.Widths.{long_magnitude}
 
 -- Plain texts.
+
+-- a byte that is ASCII and no comma
+abbrev pub is_plain_byte : ℕ → Bool
+is_plain_byte b = nat_lt b 128 && not (b == 44)
+
+abbrev pub are_plain : List ℕ → Bool
+are_plain text = list_all is_plain_byte text
+
+-- a text without a comma that is not empty
+pub record IsPlain (t : List ℕ) : Type 0 where
+  pub plain : are_plain t ≡ true
+  pub some : t ≢ []
+
+-- a text with exactly one comma
+pub record OneComma (t : List ℕ) : Type 0 where
+  pub front : List ℕ
+  pub back : List ℕ
+  pub plain_front : are_plain front ≡ true
+  pub plain_back : are_plain back ≡ true
+  pub is : t ≡ front ++ 44 ∷ back
 
 joined_plain : (a b : List ℕ) → are_plain a ≡ true → are_plain b ≡ true → are_plain (a ++ b) ≡ true
 joined_plain a b p q = list_all-append is_plain_byte a b ∙ and_from (are_plain a) (are_plain b) p q
@@ -120,11 +142,6 @@ abbrev pub TimeForm : Format → List ℕ → Type 0
 TimeForm HttpDate t = OneComma t
 TimeForm _ t = IsPlain t
 
-pub time_cuttable : (f : Format) → IsCuttable (TimeForm f)
-time_cuttable HttpDate = one_comma_cuttable
-time_cuttable EpochSeconds = plain_cuttable
-time_cuttable DateTime = plain_cuttable
-
 -- a text of the calendar is one of a number of seconds
 calendar_time : (f : Format) (z : ℤ) (t : List ℕ) → option_map (calendar_text f) (since_year_one z) ≡ Some t → (s : ℕ) × (s < 315537897600) × (calendar_text f s ≡ t)
 calendar_time f z t e = go (is_in_calendar z) refl e
@@ -169,9 +186,77 @@ low_from_plain (b ∷ text) e =
     let parts = and_parts (is_plain_byte b) (are_plain text) e in
     and_from (nat_lt b 128) (are_low text) (and_parts (nat_lt b 128) (not (b == 44)) parts.0).0 (low_from_plain text parts.1)
 
-pub form_utf8 : (f : Format) (t : List ℕ) → TimeForm f t → is_utf8 t ≡ true
-form_utf8 EpochSeconds t is = utf8_from_low t (low_from_plain t is.plain)
-form_utf8 DateTime t is = utf8_from_low t (low_from_plain t is.plain)
-form_utf8 HttpDate t is =
-    utf8_from_low t
-    (ap are_low is.is ∙ list_all-append (λ b. nat_lt b 128) is.front (44 ∷ is.back) ∙ and_from (are_low is.front) (are_low is.back) (low_from_plain is.front is.plain_front) (low_from_plain is.back is.plain_back))
+pub form_low : (f : Format) (t : List ℕ) → TimeForm f t → are_low t ≡ true
+form_low EpochSeconds t is = low_from_plain t is.plain
+form_low DateTime t is = low_from_plain t is.plain
+form_low HttpDate t is =
+    ap are_low is.is ∙ list_all-append (λ b. nat_lt b 128) is.front (44 ∷ is.back) ∙ and_from (are_low is.front) (are_low is.back) (low_from_plain is.front is.plain_front) (low_from_plain is.back is.plain_back)
+
+-- and none is empty
+pub form_some : (f : Format) (t : List ℕ) → TimeForm f t → t ≢ []
+form_some EpochSeconds t is = is.some
+form_some DateTime t is = is.some
+form_some HttpDate t is = λ e. never is.front is.back (sym is.is ∙ e)
+  where
+    never : (front back : List ℕ) → front ++ 44 ∷ back ≢ []
+    never [] back e = cc e
+    never (x ∷ front) back e = cc e
+
+-- The ends of a text.
+
+digit_seen : (b : ℕ) → 48 ≤ b → b ≤ 57 → is_whitespace b ≡ false
+digit_seen b low high =
+    let same : b - 48 + 48 ≡ b = omega arith in
+    subst (λ k. is_whitespace k ≡ false) same (agree_below_at (λ k. is_whitespace (k + 48)) (λ k. false) 10 (b - 48) refl (omega arith))
+
+begins_digit : (ds : List ℕ) → AllDigits 10 ds → begins_with_white_space ds ≡ false
+begins_digit [] all = refl
+begins_digit (d ∷ ds) all = let r = digit_from_value d all.0 in digit_seen d r.0 r.1
+
+ends_digit : (ds : List ℕ) → AllDigits 10 ds → ends_with_white_space ds ≡ false
+ends_digit [] all = refl
+ends_digit (d ∷ []) all = let r = digit_from_value d all.0 in digit_seen d r.0 r.1
+ends_digit (d ∷ e ∷ ds) all = ends_digit (e ∷ ds) all.1
+
+ends_minus : (ds : List ℕ) → AllDigits 10 ds → ends_with_white_space (45 ∷ ds) ≡ false
+ends_minus [] all = refl
+ends_minus (d ∷ ds) all = ends_digit (d ∷ ds) all
+
+-- an end is that of the text before which a front stands
+ends_behind : (front : List ℕ) (b : ℕ) (back : List ℕ) → ends_with_white_space (front ++ b ∷ back) ≡ ends_with_white_space (b ∷ back)
+ends_behind [] b back = refl
+ends_behind (x ∷ []) b back = refl
+ends_behind (x ∷ y ∷ front) b back = ends_behind (y ∷ front) b back
+
+-- no white space stands at either end
+abbrev pub HasNoOuterBlank : List ℕ → Type 0
+HasNoOuterBlank t = (begins_with_white_space t ≡ false) × (ends_with_white_space t ≡ false)
+
+epoch_ends : (z : ℤ) → is_signed_within (2 ^ 63) z ≡ true → HasNoOuterBlank (signed_decimal z)
+epoch_ends (pos n) range =
+    let small = long_magnitude (pos n) range in let all = (decimal_is_IsNumeral n (omega (arith, small))).0.1 in (begins_digit (decimal n) all, ends_digit (decimal n) all)
+epoch_ends (negsuc n) range =
+    let small = long_magnitude (negsuc n) range in let all = (decimal_is_IsNumeral (suc n) (omega (arith, small))).0.1 in (refl, ends_minus (decimal (suc n)) all)
+
+date_time_ends : (s : ℕ) → s < 315537897600 → HasNoOuterBlank (date_time_text s)
+date_time_ends s few =
+    let date = date_of (s / 86400) in
+    let r = date_of-is_real (s / 86400) (omega arith) in
+    let high = r.year_high in (
+      ap (λ year. begins_with_white_space (year ++ codes "-" ++ padded_decimal 2 date.month ++ codes "-" ++ padded_decimal 2 date.day ++ codes "T" ++ clock_text (s % 86400) ++ codes "Z")) (padded_four date.year (omega arith))
+          ∙ digit_seen (48 + date.year / 10 / 10 / 10) (omega arith) (omega arith),
+      ends_behind (full_date_text date.year date.month date.day ++ codes "T" ++ clock_text (s % 86400)) 90 [],
+    )
+
+http_date_ends : (s : ℕ) → HasNoOuterBlank (http_date_text s)
+http_date_ends s =
+    let date = date_of (s / 86400) in
+    let short = short_date_text date.year date.month date.day in (
+      agree_below_at (λ k. begins_with_white_space (unwrap_or (slice_get weekday_names k) [] ++ codes ", " ++ short ++ codes " " ++ clock_text (s % 86400) ++ codes " GMT")) (λ k. false) 7 (s / 86400 % 7) refl (omega arith),
+      ends_behind (weekday_name (s / 86400) ++ codes ", " ++ short ++ codes " " ++ clock_text (s % 86400)) 32 (71 ∷ 77 ∷ 84 ∷ []),
+    )
+
+pub time_ends : (f : Format) (z : ℤ) (t : List ℕ) → is_signed_within (2 ^ 63) z ≡ true → timestamp_text f z ≡ Some t → HasNoOuterBlank t
+time_ends EpochSeconds z t range e = let same : signed_decimal z ≡ t = cc e in subst HasNoOuterBlank same (epoch_ends z range)
+time_ends DateTime z t range e = let x = calendar_time DateTime z t e in subst HasNoOuterBlank x.2 (date_time_ends x.0 x.1)
+time_ends HttpDate z t range e = let x = calendar_time HttpDate z t e in subst HasNoOuterBlank x.2 (http_date_ends x.0)

@@ -1,0 +1,15 @@
+pub mod TextsBack
+pub mod HeadersBack
+pub mod QueryBack
+pub mod PathBack
+pub mod BodyBack
+pub mod Merging
+pub mod Joining
+pub mod Deciding
+pub mod Exact
+pub mod LabelsBack
+pub mod ReadingBack
+pub mod PrefixMapBack
+pub mod QueryMapBack
+pub mod Seen
+pub mod Law
