@@ -1,10 +1,8 @@
 -- What a document of writes that follow a node is read as.
 use Rattle.std.proofs.Common.{◌≡◌, refl, sym, subst, ◌∙◌, true, false, Option, Some, None, option_map, Result, Ok, Err}
-use Rattle.smithy_types.specs.Documents as tested
-use Rattle.smithy_types.specs.Documents.{Document}
+use Rattle.smithy_types.specs.Documents.{Document, is_canonical}
 use Rattle.smithy_serde.specs.DocumentOf.{DocumentFault, document_fault, document_fault_text, document_of}
 use Rattle.smithy_serde.specs.Held as held
-use Rattle.smithy_serde.specs.Lawful as asked
 use Rattle.smithy_serde.specs.ReadCalls.{Gives}
 use Rattle.smithy_serde.specs.Refusing.{IsFaultRefusal}
 use Rattle.smithy_serde.specs.ValueReading.{structure_of, gives_structure}
@@ -13,7 +11,6 @@ use Rattle.smithy_serde.specs.declared.builders.ValueReader.{ValueReader}
 use Rattle.smithy_serde.specs.declared.error.SerdeError.{SerdeError}
 use Rattle.smithy_serde.specs.declared.error.SerdeError.TheVariants.{Custom, OutOfMemory}
 use Rattle.smithy_serde.specs.declared.struct_value.StructValue.{StructValue}
-use Rattle.smithy_document.specs.Canonical.{IsCanonicalTold}
 use Rattle.smithy_document.specs.ReadsBack.{HasDocument, HasCanonicalDocument, ReadsNormalStructure, normal_form}
 use Rattle.smithy_serde.proofs.ReadValue.{gives_memory}
 use Rattle.uses.specs.RoundTrip.{ComesBack}
@@ -39,8 +36,8 @@ read_back r ws d result back is gives = λ n by stands follows.
     subst (λ (v : Result Value SerdeError). Gives structure_of (Some v) result) (back n ws d stands follows is) (gives n by)
 
 -- each document of such writes is canonical
-pub canonical_back : (r : ValueReader) (ws : Writes) (d : Document) (result : Result StructValue SerdeError) → IsCanonicalTold → HasCanonicalDocument
-    → document_of (structure ws) ≡ Ok d → tested.is_canonical d ≡ false → ComesBack r ws result
-canonical_back r ws d result same has is other = λ n by stands follows.
-    let holds : asked.is_canonical d ≡ true = has n (structure ws) d follows is in
-    absurd (let both : false ≡ true = sym other ∙ same d ∙ holds in cc both)
+pub canonical_back : (r : ValueReader) (ws : Writes) (d : Document) (result : Result StructValue SerdeError) → HasCanonicalDocument
+    → document_of (structure ws) ≡ Ok d → is_canonical d ≡ false → ComesBack r ws result
+canonical_back r ws d result has is other = λ n by stands follows.
+    let holds : is_canonical d ≡ true = has n (structure ws) d follows is in
+    absurd (let both : false ≡ true = sym other ∙ holds in cc both)

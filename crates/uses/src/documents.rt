@@ -2,9 +2,7 @@
 ghost use Rattle.uses.specs.RoundTrip.{ComesBack, ComesBackFrom};
 
 use smithy_document::DiscriminatedDocumentExt;
-use smithy_document::laws::{
-    canonical_documents_are_told, documents_are_read_back, documents_tell_normal_forms,
-};
+use smithy_document::laws::{documents_are_read_back, documents_tell_normal_forms};
 use smithy_serde::{SerdeError, SerializableStruct, StructValue, ValueReader};
 use smithy_types::{DiscriminatedDocument, NoSettings};
 use std::alloc::Global;
@@ -19,7 +17,6 @@ pub fn structure_in<'t>(
     ensures { ComesBackFrom reader.entry document.now.document result }
 {
     documents_tell_normal_forms();
-    canonical_documents_are_told();
     documents_are_read_back();
     if !document.document().is_canonical() {
         return Err(SerdeError::invalid_input(alloc, "a number has two forms"));

@@ -1,4 +1,6 @@
 // Each use on its happy path. The texts are those of the worked examples and of the protocol's public description.
+mod responses;
+
 use crate::get_object::INPUT;
 use crate::lenient_json::LenientJson;
 use crate::*;

@@ -1,0 +1,129 @@
+// Jobs that are read: the writes of an input, and what a response is read as.
+use crate::given_job::job_bytes;
+use crate::told::{no_job, push_headers, push_names, writes_text};
+use serde_json::Value;
+use smithy_http::NonUtf8HeaderHandling;
+use smithy_job::{CodedError, Expected, Job, Received, read_job, read_received};
+use smithy_json::{Scratch, read_json};
+use smithy_model::{is_full_name, members_of, text_of};
+use smithy_schema::Schemas;
+use smithy_types::Text;
+use std::alloc::Global;
+use test_rows::{Failed, text_of as given_text, told_bytes};
+
+/// The answer of one of these calls; none of another.
+pub fn answer(alloc: Global, call: &str, given: &Value) -> Result<Option<Text>, Failed> {
+    match call {
+        "read_job" => Ok(Some(job(alloc, given)?)),
+        "read_received" => Ok(Some(received(alloc, given)?)),
+        "is_full_name" => {
+            let is_name = is_full_name(given_text(given, "name")?);
+            let word = if is_name { "true" } else { "false" };
+            Ok(Some(Text::from_str(alloc, word)?))
+        }
+        "members_of" => Ok(Some(members(alloc, given)?)),
+        _ => Ok(None),
+    }
+}
+
+fn job(alloc: Global, given: &Value) -> Result<Text, Failed> {
+    let bytes = job_bytes(alloc, given)?;
+    let mut scratch = Scratch::new(alloc);
+    let value = match read_json(alloc, bytes.as_slice(), &mut scratch) {
+        Ok(value) => value,
+        Err(refusal) => return no_job(alloc, refusal.into()),
+    };
+    match read_job(alloc, &value) {
+        Ok(job) => job_text(alloc, &job),
+        Err(refusal) => no_job(alloc, refusal),
+    }
+}
+
+// The writes, whether they have names that are no member's, the endpoint, and the headers to be left out.
+fn job_text(alloc: Global, job: &Job<'_>) -> Result<Text, Failed> {
+    let nodes = job.further.as_ref().unwrap_or(&job.table);
+    let mut text = writes_text(alloc, nodes, &job.writes)?;
+    if job.further.is_some() {
+        text.push_str("further names; ")?;
+    }
+    if job.omit.content_type {
+        text.push_str("without content type; ")?;
+    }
+    if job.omit.content_length {
+        text.push_str("without content length; ")?;
+    }
+    let endpoint = job.endpoint;
+    text.push_str(format!(in alloc; "endpoint \"{endpoint}\"")?.as_str())?;
+    Ok(text)
+}
+
+fn received(alloc: Global, given: &Value) -> Result<Text, Failed> {
+    let bytes = job_bytes(alloc, given)?;
+    let mut scratch = Scratch::new(alloc);
+    let value = match read_json(alloc, bytes.as_slice(), &mut scratch) {
+        Ok(value) => value,
+        Err(refusal) => return no_job(alloc, refusal.into()),
+    };
+    match read_received(alloc, &value) {
+        Ok(received) => received_text(alloc, &received),
+        Err(refusal) => no_job(alloc, refusal),
+    }
+}
+
+// The status, what becomes of headers that are no UTF-8, what the response is read as, its headers and its body.
+fn received_text(alloc: Global, received: &Received<'_>) -> Result<Text, Failed> {
+    let response = &received.response;
+    let status = response.status();
+    let policy = match received.policy {
+        NonUtf8HeaderHandling::Reject => "reject",
+        NonUtf8HeaderHandling::Skip => "skip",
+    };
+    let mut text = Text::from_string(format!(in alloc; "{status} {policy}: ")?);
+    push_expected(&mut text, &received.table, &received.expected)?;
+    text.push_str("\n")?;
+    push_headers(alloc, &mut text, response.headers())?;
+    if let Some(body) = response.body() {
+        text.push_str("\n")?;
+        text.push_str(told_bytes(alloc, body.as_slice())?.as_str())?;
+    }
+    Ok(text)
+}
+
+fn push_expected(text: &mut Text, table: &Schemas, expected: &Expected<'_>) -> Result<(), Failed> {
+    match expected {
+        Expected::Output(place) => {
+            text.push_str("output")?;
+            push_names(text, table, &[*place])
+        }
+        Expected::Error(place) => {
+            text.push_str("error")?;
+            push_names(text, table, &[*place])
+        }
+        Expected::Coded(coded) => push_coded(text, table, coded),
+    }
+}
+
+fn push_coded(text: &mut Text, table: &Schemas, coded: &CodedError<'_>) -> Result<(), Failed> {
+    text.push_str("code ")?;
+    text.push_str(coded.code)?;
+    text.push_str(" of")?;
+    push_names(text, table, coded.operation.as_slice())?;
+    text.push_str("; service:")?;
+    push_names(text, table, coded.service.as_slice())
+}
+
+// How many members an object has, and the text under a key.
+fn members(alloc: Global, given: &Value) -> Result<Text, Failed> {
+    let bytes = job_bytes(alloc, given)?;
+    let mut scratch = Scratch::new(alloc);
+    let value = match read_json(alloc, bytes.as_slice(), &mut scratch) {
+        Ok(value) => value,
+        Err(refusal) => return no_job(alloc, refusal.into()),
+    };
+    let Some(members) = members_of(&value) else {
+        return Ok(Text::from_str(alloc, "None")?);
+    };
+    let count = members.len();
+    let found = text_of(&value, "key").unwrap_or("no text");
+    Ok(Text::from_string(format!(in alloc; "{count} members, {found}")?))
+}

@@ -1,0 +1,56 @@
+// Rows of calls that make requests: each line of standard input has a call, its arguments and its answer. The last line of the
+// output tells how many rows there are, and how many failed.
+#![tactic(auto)]
+
+mod documents;
+mod given_job;
+mod jobs;
+mod models;
+mod pointing;
+mod requests;
+mod runs;
+mod schema_text;
+mod service;
+mod told;
+mod told_input;
+
+use serde_json::Value;
+use smithy_types::Text;
+use std::alloc::Global;
+use std::io::{Input, Print};
+use std::process::ExitCode;
+use test_rows::{Answers, Failed, run_rows};
+
+fn main(rt: HostRuntime) -> ExitCode {
+    match run_rows(&rt, &Calls) {
+        Ok(()) => ExitCode::SUCCESS,
+        Err(Failed) => ExitCode::FAILURE,
+    }
+}
+
+// The calls of this program.
+struct Calls;
+
+impl Answers for Calls {
+    fn answer(&self, alloc: Global, call: &str, given: &Value) -> Result<Text, Failed> {
+        if let Some(text) = models::answer(alloc, call, given)? {
+            return Ok(text);
+        }
+        if let Some(text) = jobs::answer(alloc, call, given)? {
+            return Ok(text);
+        }
+        if let Some(text) = requests::answer(alloc, call, given)? {
+            return Ok(text);
+        }
+        if let Some(text) = pointing::answer(alloc, call, given)? {
+            return Ok(text);
+        }
+        if let Some(text) = service::answer(alloc, call, given)? {
+            return Ok(text);
+        }
+        if let Some(text) = runs::answer(alloc, call, given)? {
+            return Ok(text);
+        }
+        documents::answer(alloc, call, given)?.ok_or(Failed)
+    }
+}

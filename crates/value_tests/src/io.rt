@@ -1,3 +1,0 @@
-// Tests of `smithy_io`.
-mod standard;
-mod streams;
