@@ -5,7 +5,7 @@ use Rattle.smithy_types.specs.Results.{then_try, then_give}
 use Rattle.smithy_http.specs.declared.error.ListFault.{ListFault}
 use Rattle.smithy_http.specs.declared.error.HttpError.{HttpError}
 use Rattle.smithy_http.specs.HeaderValues.{IsRefusal, IsListRefusal, gathered}
-use Rattle.smithy_http.specs.ItemReading.{AreItemsRead}
+use Rattle.smithy_http.specs.views.ItemReading.{AreItemsRead}
 
 pub not_empty : (bytes : List ℕ) → false ≡ (length bytes == 0) → bytes ≢ []
 not_empty bytes e empty = let q : false ≡ true = e ∙ ap (λ xs. length xs == 0) empty in absurd (cc q)

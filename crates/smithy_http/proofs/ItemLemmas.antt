@@ -8,7 +8,7 @@ use Rattle.std.proofs.lemmas.List.{append_assoc, append-nil}
 use Rattle.std.proofs.lemmas.Str.{encode_ascii, inside_one, length-encode, len_utf8_bounds, is_utf8-from_IsUtf8, IsUtf8-from_is_utf8}
 use Rattle.smithy_http.specs.declared.error.ListFault.TheVariants as fault
 use Rattle.smithy_http.specs.HeaderValues.{text_of}
-use Rattle.smithy_http.specs.ItemReading.{with_text}
+use Rattle.smithy_http.specs.views.ItemReading.{with_text}
 use Rattle.smithy_http.specs.ListTexts.{behind_blanks, with_first, quoted_text, behind_comma}
 
 -- ---- blanks and commas

@@ -1,36 +1,16 @@
 -- The place of each name.
-use Rattle.std.proofs.Common.{◌≡◌, refl, ap, sym, ◌∙◌, subst, ℕ, suc, zero, ◌+◌, ◌<◌, nat_lt, arith, Bool, true, false, not, cond, List, [], ◌∷◌, ◌++◌, map, length, get_or, set, position, string_bytes, String, Option, Some, None, option_map, if◌then◌else◌}
+use Rattle.std.proofs.Common.{◌≡◌, refl, ap, sym, ◌∙◌, subst, ℕ, suc, zero, ◌+◌, arith, Bool, true, false, not, cond, List, [], ◌∷◌, ◌++◌, map, length, get_or, set, position, string_bytes, String, Option, Some, None, option_map, if◌then◌else◌}
 use Rattle.std.specs.Global.{Global}
 use Rattle.std.specs.BTreeMap.{BTreeMap, Updates, get_by_text}
 use Rattle.std.specs.String.{string_cmp}
-use Rattle.std.specs.List.{position_or_len}
 use Rattle.std.specs.Str.{bytes_eq}
-use Rattle.std.proofs.lemmas.Bool.{lt-ltb, le-ltb, ltb-true, ltb-false}
 use Rattle.std.proofs.lemmas.Slice.Eq.{bytes_eq-Decides}
 use Rattle.std.proofs.lemmas.Map.Text.{btree_map_updates_text}
 use Rattle.smithy_types.specs.Texts.{same_text}
+use Rattle.smithy_types.proofs.Positions.{one_more, position-cons}
 use Rattle.smithy_http.specs.declared.pairs.Pair.{Pair}
 use Rattle.smithy_http.specs.Headers.{put, without}
-use Rattle.smithy_http.specs.Pairs.{pair_of, name_of, is_named, place_of, AreApart, IsIndex}
-
-abbrev one_more : ℕ → ℕ
-one_more k = 1 + k
-
--- the position in a list by its first element
-position-cons : {X : Type 0} (p : X → Bool) (x : X) (xs : List X) → position p (x ∷ xs) ≡ cond (p x) (Some 0) (option_map one_more (position p xs))
-position-cons p x xs = go (p x)
-  where
-    behind : (b : Bool) → nat_lt (position_or_len p xs) (length xs) ≡ b → cond (nat_lt (1 + position_or_len p xs) (suc (length xs))) (Some (1 + position_or_len p xs)) None ≡ option_map one_more (cond b (Some (position_or_len p xs)) None)
-    behind true e =
-        let l : position_or_len p xs < length xs = ltb-true _ _ e in
-        ap (λ b. cond b (Some (1 + position_or_len p xs)) None) (lt-ltb (1 + position_or_len p xs) (suc (length xs)) (omega arith))
-    behind false e =
-        let l = ltb-false _ _ e in
-        ap (λ b. cond b (Some (1 + position_or_len p xs)) None) (le-ltb (1 + position_or_len p xs) (suc (length xs)) (omega arith))
-
-    go : (b : Bool) → cond (nat_lt (cond (not b) (1 + position_or_len p xs) 0) (suc (length xs))) (Some (cond (not b) (1 + position_or_len p xs) 0)) None ≡ cond b (Some 0) (option_map one_more (position p xs))
-    go true = ap (λ b. cond b (Some 0) None) (lt-ltb 0 (suc (length xs)) (omega arith))
-    go false = behind (nat_lt (position_or_len p xs) (length xs)) refl
+use Rattle.smithy_http.specs.views.Pairs.{pair_of, name_of, is_named, place_of, AreApart, IsIndex}
 
 -- where none passes, the first does not, and none behind it does
 pub none-cons : {X : Type 0} (p : X → Bool) (x : X) (xs : List X) → position p (x ∷ xs) ≡ None → (p x ≡ false) × (position p xs ≡ None)

@@ -7,7 +7,7 @@ use Rattle.std.proofs.lemmas.List.{map-append}
 use Rattle.std.proofs.lemmas.Slice.Eq.{bytes_eq-Decides}
 use Rattle.smithy_http.specs.declared.pairs.Pair.{Pair}
 use Rattle.smithy_http.specs.Headers.{put, without}
-use Rattle.smithy_http.specs.Pairs.{pair_of, is_named, named_otherwise}
+use Rattle.smithy_http.specs.views.Pairs.{pair_of, is_named, named_otherwise}
 
 one_more : (k : ℕ) → 1 + k ≡ suc k
 one_more k = omega arith

@@ -7,7 +7,7 @@ use Rattle.std.specs.Str.{is_utf8, str_to_ascii_lowercase}
 use Rattle.std.proofs.lemmas.Str.Ascii.{lowercase-lowercase}
 use Rattle.smithy_http.specs.Facts.{values_at}
 use Rattle.smithy_http.specs.HeaderValues.{text_of, texts_in}
-use Rattle.smithy_http.specs.Pairs.{pair_of, name_of, is_named, AreApart}
+use Rattle.smithy_http.specs.views.Pairs.{pair_of, name_of, is_named, AreApart}
 use Rattle.smithy_http.proofs.PlaceLemmas.{none-cons, some-cons, position-map}
 
 abbrev values_of : List ℕ → List Pair → List (List ℕ)

@@ -20,6 +20,10 @@ cut_at_commas own_comma stays (b ∷ bytes) =
     if is_comma b then (if stays then onto_first b (cut_at_commas own_comma false bytes) else [] ∷ cut_at_commas own_comma own_comma bytes)
     else onto_first b (cut_at_commas own_comma stays bytes)
 
+-- the pieces of a whole text
+abbrev pub pieces_of : Bool → List ℕ → List (List ℕ)
+pieces_of own_comma text = cut_at_commas own_comma own_comma text
+
 -- an HTTP date has a comma behind the day's name (RFC 7231, section 7.1.1.1)
 abbrev pub has_comma : Format → Bool
 has_comma HttpDate = true
@@ -28,7 +32,7 @@ has_comma _ = false
 -- the pieces of a value; an empty one has none
 abbrev pub date_pieces : Format → List ℕ → List (List ℕ)
 date_pieces format [] = []
-date_pieces format (b ∷ bytes) = cut_at_commas (has_comma format) (has_comma format) (b ∷ bytes)
+date_pieces format (b ∷ bytes) = pieces_of (has_comma format) (b ∷ bytes)
 
 -- the time that a piece tells without its outer white space
 abbrev pub date_in : Format → List ℕ → Result ℤ HttpError
@@ -39,9 +43,13 @@ abbrev pub dates_in : Format → List (List ℕ) → Result (List ℤ) HttpError
 dates_in format [] = Ok []
 dates_in format (piece ∷ pieces) = then_try (date_in format piece) (λ date. then_give (dates_in format pieces) (λ dates. date ∷ dates))
 
+-- the times of a list
+abbrev pub list_dates : Format → List ℕ → Result (List ℤ) HttpError
+list_dates format text = dates_in format (date_pieces format text)
+
 -- the times of a value
 abbrev pub value_dates : Format → List ℕ → Result (List ℤ) HttpError
-value_dates format value = then_try (value_text value) (λ text. dates_in format (date_pieces format text))
+value_dates format value = then_try (value_text value) (λ text. list_dates format text)
 
 -- the times of all values
 unfoldable pub dates_of : Format → List (List ℕ) → Result (List ℤ) HttpError

@@ -1,11 +1,12 @@
 -- How the target of a request is joined to an endpoint (RFC 3986, sections 3.1 to 3.4; the host prefix of `smithy.api#endpoint`).
-use Rattle.std.specs.Prelude.{◌≡◌, ◌==◌, ℕ, Bool, false, not, ◌||◌, ◌&&◌, List, [], ◌∷◌, ◌++◌, length, drop, codes, Some, IsTrue, Result, Ok, Err, if◌then◌else◌}
+use Rattle.std.specs.Prelude.{◌≡◌, ◌==◌, ℕ, Bool, false, not, ◌||◌, ◌&&◌, List, [], ◌∷◌, ◌++◌, length, drop, codes, Some, None, ◌⊎◌, IsTrue, Result, Ok, Err, if◌then◌else◌}
 use Rattle.std.specs.Char.{is_ascii_alphanumeric}
 use Rattle.std.specs.List.{list_all, after_first}
 use Rattle.std.specs.Str.{str_to_ascii_lowercase}
 use Rattle.http_uri.specs.Uri.{Spells, uri_scheme, uri_authority, uri_path}
 use Rattle.http_uri.specs.declared.uri.Uri.{Uri}
 use Rattle.smithy_types.specs.Grammars.{before_query, scheme_len, is_legal_target}
+use Rattle.smithy_types.specs.Texts.{hyphen, full_stop, slash}
 use Rattle.smithy_http.specs.declared.error.HttpError.{HttpError}
 use Rattle.smithy_http.specs.declared.error.HttpError.TheVariants as error
 
@@ -17,7 +18,7 @@ pub record Endpoint : Type 0 where
 
 -- a byte of host labels and the points between them
 abbrev pub is_prefix_byte : ℕ → Bool
-is_prefix_byte b = is_ascii_alphanumeric b || (b == 45) || (b == 46)
+is_prefix_byte b = is_ascii_alphanumeric b || (b == hyphen) || (b == full_stop)
 
 -- what may stand before the authority of an address
 abbrev pub is_endpoint_prefix : List ℕ → Bool
@@ -37,11 +38,19 @@ pub record IsAddress (text : List ℕ) (address : Address) : Type 0 where
   pub authority : uri_authority uri ≡ Some address.authority
   pub path : uri_path uri ≡ address.path
 
+-- the URI has the parts of this address
+abbrev pub HasParts : Uri → Address → Type 0
+HasParts uri a = (uri_scheme uri ≡ Some a.scheme) × (uri_authority uri ≡ Some a.authority) × (uri_path uri ≡ a.path)
+
+-- the URI has no scheme or no authority
+abbrev pub LacksParts : Uri → Type 0
+LacksParts uri = (uri_scheme uri ≡ None) ⊎ (uri_authority uri ≡ None)
+
 abbrev pub IsNoAddress : List ℕ → Type 0
 IsNoAddress text = (address : Address) → ¬ (IsAddress text address)
 
 abbrev pub is_slash : ℕ → Bool
-is_slash b = b == 47
+is_slash b = b == slash
 
 -- a path without one slash at its end
 abbrev pub without_last_slash : List ℕ → List ℕ

@@ -72,3 +72,7 @@ IsRefusal e read = (e ≡ error.OutOfMemory) ⊎ (read ≡ Err e)
 -- the same, where what was to be read has the fault of a list
 abbrev pub IsListRefusal : {A : Type 0} → HttpError → Result A ListFault → Type 0
 IsListRefusal e read = (e ≡ error.OutOfMemory) ⊎ ((f : ListFault) × (read ≡ Err f) × (e ≡ error.List f))
+
+-- a byte that is no comma stands where one is due
+abbrev pub IsTrailing : {A : Type 0} → Result A ListFault → HttpError → Type 0
+IsTrailing read e = (e ≡ error.List fault.Trailing) × (read ≡ Err fault.Trailing)

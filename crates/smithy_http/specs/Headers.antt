@@ -1,6 +1,11 @@
 -- Header fields: pairs of a lower-case name and the bytes of a value, in order (RFC 7230, section 3.2).
 use Rattle.std.specs.Prelude.{ℕ, List, [], ◌∷◌, filter, not, if◌then◌else◌}
+use Rattle.std.specs.Str.{str_to_ascii_lowercase}
 use Rattle.smithy_types.specs.Texts.{same_text}
+
+-- a name, which is kept in lower case, and its value
+abbrev pub field : List ℕ → List ℕ → List ℕ × List ℕ
+field name value = (str_to_ascii_lowercase name, value)
 
 -- the pairs of other names
 abbrev pub without : List ℕ → List (List ℕ × List ℕ) → List (List ℕ × List ℕ)

@@ -4,11 +4,9 @@ pub mod Responses
 pub mod Spelling
 pub mod Facts
 pub mod Headers
-pub mod Pairs
-pub mod Lends
 pub mod Refusals
 pub mod ListTexts
 pub mod HeaderValues
 pub mod DateLists
 pub mod Quoting
-pub mod ItemReading
+pub mod views

@@ -4,7 +4,7 @@ use Rattle.std.specs.Str.{chars}
 use Rattle.std.specs.Char.{is_whitespace}
 use Rattle.std.specs.List.{last_or, list_any}
 use Rattle.std.specs.Option.{option_map_or}
-use Rattle.smithy_types.specs.Texts.{has_byte}
+use Rattle.smithy_types.specs.Texts.{has_byte, quotation_mark, backslash}
 
 abbrev pub begins_with_white_space : List ℕ → Bool
 begins_with_white_space [] = false
@@ -24,11 +24,11 @@ needs_quotes text =
 
 -- a `"` or a `\`
 abbrev pub is_paired : ℕ → Bool
-is_paired b = (b == 34) || (b == 92)
+is_paired b = (b == quotation_mark) || (b == backslash)
 
 -- what stands before a character between quotes
 abbrev pub mark_before : ℕ → List ℕ
-mark_before b = if is_paired b then 92 ∷ [] else []
+mark_before b = if is_paired b then backslash ∷ [] else []
 
 -- `\` before each `"` and `\` (`quoted-pair` of RFC 7230, section 3.2.6)
 abbrev pub paired : ℕ → List ℕ
@@ -36,7 +36,7 @@ paired b = mark_before b ++ b ∷ []
 
 -- `quoted-string` of RFC 7230, section 3.2.6
 abbrev pub quoted : List ℕ → List ℕ
-quoted text = 34 ∷ flat_map paired text ++ 34 ∷ []
+quoted text = quotation_mark ∷ flat_map paired text ++ quotation_mark ∷ []
 
 -- a text as an item of a list: in quotes where it needs them
 abbrev pub list_item : List ℕ → List ℕ

@@ -1,9 +1,8 @@
 // The dates of a list of dates, read where they stand (RFC 7231, section 7.1.1.1).
-ghost use Rattle.std.specs.Prelude.{◌≡◌, ◌∷◌, ◌++◌, ◌+◌, ◌<◌, [], ℤ, take, drop, length, slice_index, MatchOption, IfSome, IfErr, OnOk};
-ghost use Rattle.std.specs.Option.{option_map_or};
-ghost use Rattle.smithy_http.specs.DateLists.{cut_at_commas, has_comma, date_pieces, dates_in, date_in};
+ghost use Rattle.std.specs.Prelude.{◌≡◌, ◌∷◌, ◌<◌, length, IfSome, IfErr, OnOk};
+ghost use Rattle.smithy_http.specs.DateLists.{pieces_of, has_comma, list_dates, date_in};
 ghost use Rattle.smithy_http.specs.HeaderValues.{IsRefusal};
-ghost use Rattle.smithy_http.specs.ItemReading.{AreItemsRead, IsDateRead};
+ghost use Rattle.smithy_http.specs.views.ItemReading.{AreItemsRead, IsDateRead, CutsPiece, pieces_behind, pieces_dates};
 
 use crate::error::{HttpError, ListFault};
 use smithy_types::{DateTime, Format, Longs};
@@ -21,10 +20,7 @@ fn has_comma(format: Format) -> bool
 
 // The place of the comma that ends the first piece; the first comma does not where a piece has one itself.
 fn cutting_comma(bytes: &[u8], own_comma: bool) -> Option<usize>
-    ensures { let pieces = cut_at_commas own_comma own_comma in
-        MatchOption result (pieces bytes.now ≡ bytes.now ∷ []) (λ place.
-        (place < length bytes.now) × (slice_index bytes.now place ≡ 44)
-        × (pieces bytes.now ≡ take place bytes.now ∷ pieces (drop (place + 1) bytes.now))) }
+    ensures { CutsPiece own_comma bytes.now result }
 {
     let mut stays = own_comma;
     for (place, b) in bytes.iter().enumerate() {
@@ -40,8 +36,7 @@ fn cutting_comma(bytes: &[u8], own_comma: bool) -> Option<usize>
 
 // The first piece, and what stands behind the comma that ends it, if one does.
 fn cut_piece(text: &str, own_comma: bool) -> (&str, Option<&str>)
-    ensures pieces { cut_at_commas own_comma own_comma text.now
-        ≡ result.0.now ∷ option_map_or (λ rest. cut_at_commas own_comma own_comma rest.now) result.1 [] }
+    ensures pieces { pieces_of own_comma text.now ≡ result.0.now ∷ pieces_behind own_comma result.1 }
     ensures shorter { IfSome result.1 (λ rest. length rest.now < length text.now) }
 {
     match cutting_comma(text.as_bytes(), own_comma) {
@@ -73,16 +68,13 @@ fn push_date(
 fn push_pieces(
     alloc: Global,
     seconds: &mut Longs,
-    text: &str,
+    mut text: &str,
     format: Format,
 ) -> Result<(), HttpError>
-    ensures ok { let pieces = cut_at_commas (has_comma format) (has_comma format) text.now in
-        OnOk result (AreItemsRead (dates_in format pieces) seconds.old seconds.new) }
-    ensures err { let pieces = cut_at_commas (has_comma format) (has_comma format) text.now in
-        IfErr result (λ e. IsRefusal e (dates_in format pieces)) }
+    ensures ok { OnOk result (AreItemsRead (pieces_dates format text.now) seconds.old seconds.new) }
+    ensures err { IfErr result (λ e. IsRefusal e (pieces_dates format text.now)) }
 {
     let own_comma = has_comma(format);
-    let mut text = text;
     loop {
         let (piece, behind) = cut_piece(text, own_comma);
         push_date(alloc, seconds, piece, format)?;
@@ -100,9 +92,8 @@ pub(crate) fn push_date_list(
     text: &str,
     format: Format,
 ) -> Result<(), HttpError>
-    ensures ok { OnOk result
-        (AreItemsRead (dates_in format (date_pieces format text.now)) seconds.old seconds.new) }
-    ensures err { IfErr result (λ e. IsRefusal e (dates_in format (date_pieces format text.now))) }
+    ensures ok { OnOk result (AreItemsRead (list_dates format text.now) seconds.old seconds.new) }
+    ensures err { IfErr result (λ e. IsRefusal e (list_dates format text.now)) }
 {
     if text.is_empty() {
         return Ok(());

@@ -2,9 +2,11 @@
 ghost use Rattle.std.specs.Prelude.{◌≡◌, ◌↔◌, ◌⊎◌, ◌++◌, [], Some, None, false, drop, IsTrue, IfOk, IfErr, OnOk, MatchOption, MatchResult, IsErrOf, string_bytes, unwrap_or};
 ghost use Rattle.std.specs.List.{list_all};
 ghost use Rattle.std.specs.Option.{option_copied};
-ghost use Rattle.http_uri.specs.Uri.{Spells, SpellsNone, uri_scheme, uri_authority, uri_path};
+ghost use Rattle.http_uri.specs.Uri.{Spells, SpellsNone};
 ghost use Rattle.smithy_types.specs.Grammars.{is_legal_target, scheme_len, before_query};
-ghost use Rattle.smithy_http.specs.Endpoints.{is_prefix_byte, is_endpoint_prefix, IsAddress, IsNoAddress, SetsEndpoint, joined_target, without_last_slash, path_behind_slash, marked_query};
+ghost use Rattle.smithy_http.specs.Endpoints.{is_prefix_byte, is_endpoint_prefix, IsAddress, IsNoAddress, HasParts, LacksParts, SetsEndpoint, joined_target, without_last_slash, path_behind_slash, marked_query};
+ghost use Rattle.smithy_http.specs.Refusals.{IsRefusedFor};
+ghost use Rattle.smithy_http.specs.views.Addresses.{address_view};
 
 use crate::error::HttpError;
 use crate::headers::Headers;
@@ -36,8 +38,7 @@ impl EndpointPrefix {
     /// Takes memory.
     pub fn new(alloc: Global, prefix: &str) -> Result<EndpointPrefix, HttpError>
         ensures ok { IfOk result (λ p. (p ≡ prefix.now) × IsTrue (is_endpoint_prefix prefix.now)) }
-        ensures err { IfErr result (λ e. (e ≡ HttpError.OutOfMemory)
-            ⊎ (e ≡ HttpError.Address) × (is_endpoint_prefix prefix.now ≡ false)) }
+        ensures err { IfErr result (IsRefusedFor HttpError.Address (is_endpoint_prefix prefix.now ≡ false)) }
     {
         if !is_endpoint_prefix(prefix) {
             return Err(HttpError::Address);
@@ -160,8 +161,7 @@ fn prefix_text<'p>(prefix: Option<&'p EndpointPrefix>) -> &'p str
 
 // Reads a URI.
 fn read_uri(alloc: Global, url: &str) -> Result<Uri, HttpError>
-    ensures { MatchResult result (Spells url.now) (λ e. (e ≡ HttpError.OutOfMemory)
-        ⊎ (e ≡ HttpError.Address) × SpellsNone url.now) }
+    ensures { MatchResult result (Spells url.now) (IsRefusedFor HttpError.Address (SpellsNone url.now)) }
 {
     match Uri::from_str(alloc, url) {
         Ok(uri) => Ok(uri),
@@ -180,9 +180,7 @@ struct Address<'u> {
 
 // The address that a URI is.
 fn address_of(uri: &Uri) -> Option<Address<'_>>
-    ensures { MatchOption result ((uri_scheme uri.now ≡ None) ⊎ (uri_authority uri.now ≡ None)) (λ a.
-        (uri_scheme uri.now ≡ Some a.scheme.now)
-        × (uri_authority uri.now ≡ Some a.authority.now) × (uri_path uri.now ≡ a.path.now)) }
+    ensures { MatchOption result (LacksParts uri.now) (λ a. HasParts uri.now (address_view a)) }
 {
     let scheme = uri.scheme_str()?;
     let authority = uri.authority()?;
@@ -200,11 +198,7 @@ fn join(
     prefix: &str,
     target: &str,
 ) -> Result<Text, OutOfMemory>
-    ensures { IfOk result (λ joined. joined ≡ joined_target (record {
-      scheme = address.now.scheme.now;
-      authority = address.now.authority.now;
-      path = address.now.path.now;
-    }) prefix.now target.now) }
+    ensures { IfOk result (λ t. t ≡ joined_target (address_view address.now) prefix.now target.now) }
 {
     let mut joined = address.scheme.to_ascii_lowercase(alloc)?;
     joined.push_str("://")?;

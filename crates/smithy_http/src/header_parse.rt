@@ -1,10 +1,10 @@
 // What is read from the values of a header (RFC 7230, sections 3.2.2 and 7).
 ghost use Rattle.std.specs.Prelude.{◌≡◌, Ok, Err, IfOk, IfErr, OnOk, MatchResult, option_map};
-ghost use Rattle.std.specs.Str.{str_to_ascii_lowercase, trim};
+ghost use Rattle.std.specs.Str.{trim};
 ghost use Rattle.smithy_http.specs.DateLists.{value_dates, dates_of};
-ghost use Rattle.smithy_http.specs.Facts.{values_at};
+ghost use Rattle.smithy_http.specs.Facts.{values_of_name};
 ghost use Rattle.smithy_http.specs.HeaderValues.{IsRefusal, IsListRefusal, SpellInOrder, value_text, value_texts, tokens_of, one_text_of, refusal_of_second};
-ghost use Rattle.smithy_http.specs.ItemReading.{AreItemsRead};
+ghost use Rattle.smithy_http.specs.views.ItemReading.{AreItemsRead};
 ghost use Rattle.smithy_http.specs.ListTexts.{list_texts};
 
 use crate::date_list::push_date_list;
@@ -25,12 +25,9 @@ use std::alloc::Global;
 /// it has no end, `List(Trailing)` where another byte than a comma follows a closing quote. Takes memory;
 /// `OutOfMemory` where it is not there.
 pub fn tokens(alloc: Global, headers: &Headers, name: &str) -> Result<Words, HttpError>
-    ensures spelled { IfOk result (λ words.
-        SpellInOrder (values_at (str_to_ascii_lowercase name.now) headers.now) words) }
-    ensures value { IfOk result (λ words.
-        tokens_of (values_at (str_to_ascii_lowercase name.now) headers.now) ≡ Ok words) }
-    ensures err { IfErr result (λ e.
-        IsRefusal e (tokens_of (values_at (str_to_ascii_lowercase name.now) headers.now))) }
+    ensures spelled { IfOk result (λ words. SpellInOrder (values_of_name name.now headers.now) words) }
+    ensures value { IfOk result (λ words. tokens_of (values_of_name name.now headers.now) ≡ Ok words) }
+    ensures err { IfErr result (λ e. IsRefusal e (tokens_of (values_of_name name.now headers.now))) }
 {
     let lower = lower_name(alloc, name)?;
     let mut words = Words::new(alloc);
@@ -65,9 +62,8 @@ pub fn dates(
     format: Format,
 ) -> Result<Longs, HttpError>
     ensures value { IfOk result (λ seconds.
-        dates_of format (values_at (str_to_ascii_lowercase name.now) headers.now) ≡ Ok seconds) }
-    ensures err { IfErr result (λ e.
-        IsRefusal e (dates_of format (values_at (str_to_ascii_lowercase name.now) headers.now))) }
+        dates_of format (values_of_name name.now headers.now) ≡ Ok seconds) }
+    ensures err { IfErr result (λ e. IsRefusal e (dates_of format (values_of_name name.now headers.now))) }
 {
     let lower = lower_name(alloc, name)?;
     let mut seconds = Longs::new(alloc);
@@ -86,10 +82,8 @@ pub fn dates(
 /// `NotUtf8` where the first value is not UTF-8, or the first is and a second is not; `List(TooMany)` where both
 /// are. Takes memory; `OutOfMemory` where it is not there.
 pub fn one_text(alloc: Global, headers: &Headers, name: &str) -> Result<Option<Text>, HttpError>
-    ensures value { IfOk result (λ text.
-        one_text_of (values_at (str_to_ascii_lowercase name.now) headers.now) ≡ Ok text) }
-    ensures err { IfErr result (λ e.
-        IsRefusal e (one_text_of (values_at (str_to_ascii_lowercase name.now) headers.now))) }
+    ensures value { IfOk result (λ text. one_text_of (values_of_name name.now headers.now) ≡ Ok text) }
+    ensures err { IfErr result (λ e. IsRefusal e (one_text_of (values_of_name name.now headers.now))) }
 {
     let lower = lower_name(alloc, name)?;
     match only_text(headers.get_all_bytes(lower.as_str()))? {
@@ -100,8 +94,7 @@ pub fn one_text(alloc: Global, headers: &Headers, name: &str) -> Result<Option<T
 
 // A value as a text.
 fn text_of(value: &[u8]) -> Result<&str, HttpError>
-    ensures { MatchResult result (λ text. value_text value.now ≡ Ok text.now)
-        (λ e. value_text value.now ≡ Err e) }
+    ensures { MatchResult result (λ t. value_text value.now ≡ Ok t.now) (λ e. value_text value.now ≡ Err e) }
 {
     match text_in(value) {
         Some(text) => Ok(text),
@@ -160,11 +153,10 @@ fn push_dates(
 }
 
 // The one text of values.
-fn only_text<'h>(values: GetAllBytes<'h>) -> Result<Option<&'h str>, HttpError>
+fn only_text<'h>(mut values: GetAllBytes<'h>) -> Result<Option<&'h str>, HttpError>
     ensures ok { IfOk result (λ text. one_text_of values.entry ≡ Ok (option_map (λ t. trim t.now) text)) }
     ensures err { IfErr result (λ e. one_text_of values.entry ≡ Err e) }
 {
-    let mut values = values;
     let Some(first) = values.next() else {
         return Ok(None);
     };

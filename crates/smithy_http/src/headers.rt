@@ -1,14 +1,14 @@
 // Header fields.
-ghost use Rattle.std.specs.Prelude.{◌≡◌, ◌∷◌, ◌++◌, [], map, false, true, ◌↔◌, IfOk, IfErr, OnOk, OnErr, IsErrOf};
+ghost use Rattle.std.specs.Prelude.{◌≡◌, ◌∷◌, ◌++◌, [], map, false, ◌↔◌, IfOk, IfErr, OnOk, OnErr, IsErrOf};
 ghost use Rattle.std.specs.Cow.{cow_str_bytes};
 ghost use Rattle.std.specs.Option.{option_copied};
 ghost use Rattle.std.specs.Str.{str_to_ascii_lowercase};
 ghost use Rattle.smithy_types.specs.Grammars as grammar;
-ghost use Rattle.smithy_http.specs.Facts.{values_at};
+ghost use Rattle.smithy_http.specs.Facts.{values_of_name};
 ghost use Rattle.smithy_http.specs.HeaderValues.{first_text, texts_in};
-ghost use Rattle.smithy_http.specs.Headers.{put, without};
-ghost use Rattle.smithy_http.specs.Pairs.{pair_of};
-ghost use Rattle.smithy_http.specs.Refusals.{IsPairRefusal};
+ghost use Rattle.smithy_http.specs.Headers.{field, put, without};
+ghost use Rattle.smithy_http.specs.views.Pairs.{pair_of};
+ghost use Rattle.smithy_http.specs.Refusals.{HasUnfitValue, IsPairRefusal};
 
 use crate::error::HttpError;
 use crate::pairs::{
@@ -32,7 +32,7 @@ pub struct Headers {
 impl Model for Headers {
     ghost use Rattle.std.specs.Prelude.{List, ℕ, map};
     ghost use Rattle.std.specs.Option.{ForSome};
-    ghost use Rattle.smithy_http.specs.Pairs.{pair_of, name_of, IsIndex};
+    ghost use Rattle.smithy_http.specs.views.Pairs.{pair_of, name_of, IsIndex};
 
     ghost Value = { List (List ℕ × List ℕ) };
 
@@ -58,10 +58,9 @@ impl Headers {
     /// `Name` where the name is not a token (RFC 7230, section 3.2.6), then `Value` where the value has a
     /// byte that no field value has. After a refusal the fields are unchanged. Takes memory.
     pub fn try_insert(&mut self, name: &str, value: &str) -> Result<(), HttpError>
-        ensures ok { OnOk result (self.new ≡ put self.old (str_to_ascii_lowercase name.now, value.now)) }
+        ensures ok { OnOk result (self.new ≡ put self.old (field name.now value.now)) }
         ensures name { IsErrOf result HttpError.Name ↔ (grammar.is_token name.now ≡ false) }
-        ensures value { IsErrOf result HttpError.Value ↔ (grammar.is_token name.now ≡ true)
-            × (grammar.is_header_value value.now ≡ false) }
+        ensures value { IsErrOf result HttpError.Value ↔ HasUnfitValue name.now value.now }
         ensures refusals { IfErr result IsPairRefusal }
         ensures err { OnErr result (self.new ≡ self.old) }
     {
@@ -74,11 +73,9 @@ impl Headers {
     ///
     /// Refused as `try_insert` is, with `Name`, then with `Value`. After a refusal the fields are unchanged. Takes memory.
     pub fn insert_text(&mut self, name: &str, value: CowStr<'_, Global>) -> Result<(), HttpError>
-        ensures ok { OnOk result
-            (self.new ≡ put self.old (str_to_ascii_lowercase name.now, cow_str_bytes value.entry)) }
+        ensures ok { OnOk result (self.new ≡ put self.old (field name.now (cow_str_bytes value.entry))) }
         ensures name { IsErrOf result HttpError.Name ↔ (grammar.is_token name.now ≡ false) }
-        ensures value { IsErrOf result HttpError.Value ↔ (grammar.is_token name.now ≡ true)
-            × (grammar.is_header_value (cow_str_bytes value.entry) ≡ false) }
+        ensures value { IsErrOf result HttpError.Value ↔ HasUnfitValue name.now (cow_str_bytes value.entry) }
         ensures refusals { IfErr result IsPairRefusal }
         ensures err { OnErr result (self.new ≡ self.old) }
     {
@@ -92,10 +89,9 @@ impl Headers {
     /// `Name` where the name is not a token (RFC 7230, section 3.2.6), then `Value` where the value has a
     /// byte that no field value has. After a refusal the fields are unchanged. Takes memory.
     pub fn append(&mut self, name: &str, value: &[u8]) -> Result<(), HttpError>
-        ensures ok { OnOk result (self.new ≡ self.old ++ (str_to_ascii_lowercase name.now, value.now) ∷ []) }
+        ensures ok { OnOk result (self.new ≡ self.old ++ field name.now value.now ∷ []) }
         ensures name { IsErrOf result HttpError.Name ↔ (grammar.is_token name.now ≡ false) }
-        ensures value { IsErrOf result HttpError.Value ↔ (grammar.is_token name.now ≡ true)
-            × (grammar.is_header_value value.now ≡ false) }
+        ensures value { IsErrOf result HttpError.Value ↔ HasUnfitValue name.now value.now }
         ensures refusals { IfErr result IsPairRefusal }
         ensures err { OnErr result (self.new ≡ self.old) }
     {
@@ -114,7 +110,7 @@ impl Headers {
     /// The first value of the name, where it is UTF-8. Names are compared without ASCII case; among more than 16 pairs a
     /// name in lower case is found without a search as long as no name stands twice and none was removed. Takes no memory.
     pub fn get(&self, name: &str) -> Option<&str>
-        ensures { option_copied result ≡ first_text (values_at (str_to_ascii_lowercase name.now) self.now) }
+        ensures { option_copied result ≡ first_text (values_of_name name.now self.now) }
     {
         let (value, _) = next_value(named_part(&self.pairs, &self.places, name), name)?;
         text_in(value)
@@ -123,14 +119,14 @@ impl Headers {
     /// The values of the name that are UTF-8, in order (RFC 7230, section 3.2.2). The name is found as by `get`.
     /// Takes no memory.
     pub fn get_all<'h>(&'h self, name: &'h str) -> GetAll<'h>
-        ensures { result ≡ texts_in (values_at (str_to_ascii_lowercase name.now) self.now) }
+        ensures { result ≡ texts_in (values_of_name name.now self.now) }
     {
         GetAll::of(self.get_all_bytes(name))
     }
 
     /// The values of the name, in order (RFC 7230, section 3.2.2). The name is found as by `get`. Takes no memory.
     pub fn get_all_bytes<'h>(&'h self, name: &'h str) -> GetAllBytes<'h>
-        ensures { result ≡ values_at (str_to_ascii_lowercase name.now) self.now }
+        ensures { result ≡ values_of_name name.now self.now }
     {
         GetAllBytes::among(named_part(&self.pairs, &self.places, name), name)
     }
@@ -183,7 +179,7 @@ pub struct HeaderPairs<'h> {
 
 impl<'h> Model for HeaderPairs<'h> {
     ghost use Rattle.std.specs.Prelude.{List, ℕ, map};
-    ghost use Rattle.smithy_http.specs.Pairs.{pair_of};
+    ghost use Rattle.smithy_http.specs.views.Pairs.{pair_of};
 
     ghost Value = { List (List ℕ × List ℕ) };
 

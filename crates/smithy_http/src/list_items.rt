@@ -1,8 +1,9 @@
 // The items of a header list, read where they stand (RFC 7230, section 7).
-ghost use Rattle.std.specs.Prelude.{◌≡◌, ◌≢◌, ◌⊎◌, ◌<◌, ◌++◌, [], List, ℕ, false, Some, None, Ok, Err, length, option_map, string_bytes, encode_utf8, MatchOption, MatchResult, IfOk, IfErr, OnOk};
-ghost use Rattle.smithy_http.specs.HeaderValues.{IsListRefusal};
-ghost use Rattle.smithy_http.specs.ItemReading.{IsItemRead, AreItemsRead, with_text};
+ghost use Rattle.std.specs.Prelude.{◌≡◌, ◌≢◌, [], false, Some, Ok, string_bytes, MatchOption, MatchResult, IfOk, IfErr, OnOk};
+ghost use Rattle.smithy_http.specs.HeaderValues.{IsListRefusal, IsTrailing};
 ghost use Rattle.smithy_http.specs.ListTexts.{behind_blanks, behind_comma, quoted_text, quoted_item, bare_item, first_item, list_texts};
+ghost use Rattle.smithy_http.specs.Refusals.{IsRefusedFor};
+ghost use Rattle.smithy_http.specs.views.ItemReading.{IsItemRead, AreItemsRead, IsBehindBlank, IsCharRead, IsUnended};
 
 use crate::error::{HttpError, ListFault};
 use smithy_types::{OutOfMemory, Words};
@@ -10,8 +11,7 @@ use std::alloc::Global;
 
 // What stands behind a blank at the front.
 fn behind_blank(text: &str) -> Option<&str>
-    ensures { MatchOption result (behind_blanks text.now ≡ text.now) (λ rest.
-        (length rest.now < length text.now) × (behind_blanks rest.now ≡ behind_blanks text.now)) }
+    ensures { MatchOption result (behind_blanks text.now ≡ text.now) (λ rest. IsBehindBlank text.now rest.now) }
 {
     match text.strip_prefix(' ') {
         Some(rest) => Some(rest),
@@ -33,9 +33,7 @@ fn behind_blanks(text: &str) -> &str
 // Adds a character from between quotes, or leaves a `\` out. Gives whether the next one is paired with that `\`.
 fn push_char(text: &mut String, paired: bool, c: char) -> Result<bool, OutOfMemory>
     requires { paired ≡ false → c ≢ 34 }
-    ensures { IfOk result (λ next. (rest : List ℕ) →
-        option_map (with_text (string_bytes text.new)) (quoted_text next rest)
-        ≡ option_map (with_text (string_bytes text.old)) (quoted_text paired (encode_utf8 c ++ rest))) }
+    ensures { IfOk result (IsCharRead c (string_bytes text.old) paired (string_bytes text.new)) }
 {
     if !paired && c == '\\' {
         return Ok(true);
@@ -48,8 +46,7 @@ fn push_char(text: &mut String, paired: bool, c: char) -> Result<bool, OutOfMemo
 fn read_quoted<'t>(text: &mut String, inner: &'t str) -> Result<&'t str, HttpError>
     requires { string_bytes text.old ≡ [] }
     ensures ok { IfOk result (λ rest. quoted_text false inner.now ≡ Some (string_bytes text.new, rest.now)) }
-    ensures err { IfErr result (λ e. (e ≡ HttpError.OutOfMemory)
-        ⊎ ((e ≡ HttpError.List ListFault.Unended) × (quoted_text false inner.now ≡ None))) }
+    ensures err { IfErr result (IsRefusedFor (HttpError.List ListFault.Unended) (IsUnended inner.now)) }
 {
     let mut chars = inner.chars();
     let mut paired = false;
@@ -64,8 +61,7 @@ fn read_quoted<'t>(text: &mut String, inner: &'t str) -> Result<&'t str, HttpErr
 
 // What stands behind the comma after a quoted text, or nothing at the end.
 fn behind_comma(text: &str) -> Result<&str, HttpError>
-    ensures { MatchResult result (λ rest. behind_comma text.now ≡ Ok rest.now)
-        (λ e. (e ≡ HttpError.List ListFault.Trailing) × (behind_comma text.now ≡ Err ListFault.Trailing)) }
+    ensures { MatchResult result (λ r. behind_comma text.now ≡ Ok r.now) (IsTrailing (behind_comma text.now)) }
 {
     if text.is_empty() {
         return Ok(text);

@@ -6,10 +6,9 @@ ghost use Rattle.std.specs.Option.{ForSome};
 ghost use Rattle.std.specs.Str.{str_to_ascii_lowercase};
 ghost use Rattle.smithy_types.specs.Grammars as grammar;
 ghost use Rattle.smithy_types.specs.Texts.{same_text};
-ghost use Rattle.smithy_http.specs.Facts.{values_at};
-ghost use Rattle.smithy_http.specs.Headers.{put, without};
-ghost use Rattle.smithy_http.specs.Pairs.{pair_of, name_of, is_named, named_otherwise, place_of as place_of_name, AreApart, IsIndex};
-ghost use Rattle.smithy_http.specs.Refusals.{IsPairRefusal};
+ghost use Rattle.smithy_http.specs.Headers.{field, put, without};
+ghost use Rattle.smithy_http.specs.views.Pairs.{pair_of, name_of, shown, values_among, is_named, named_otherwise, place_of as place_of_name, AreApart, IsIndex, TakesFirst};
+ghost use Rattle.smithy_http.specs.Refusals.{HasUnfitValue, IsPairRefusal};
 
 use crate::error::HttpError;
 use smithy_types::{Blob, OutOfMemory, is_header_value, is_token};
@@ -36,8 +35,7 @@ const FIRST_ROOM: usize = 8;
 // Whether a field may have this name and this value.
 fn test_pair(name: &str, value: &[u8]) -> Result<(), HttpError>
     ensures name { IsErrOf result HttpError.Name ↔ (grammar.is_token name.now ≡ false) }
-    ensures value { IsErrOf result HttpError.Value ↔ (grammar.is_token name.now ≡ true)
-        × (grammar.is_header_value value.now ≡ false) }
+    ensures value { IsErrOf result HttpError.Value ↔ HasUnfitValue name.now value.now }
     ensures refusals { IfErr result IsPairRefusal }
 {
     if !is_token(name) {
@@ -52,18 +50,16 @@ fn test_pair(name: &str, value: &[u8]) -> Result<(), HttpError>
 // A name in lower case, so that no search is needed for it.
 pub(crate) fn lower_name(alloc: Global, name: &str) -> Result<String, OutOfMemory>
     ensures lower { IfOk result (λ lower. string_bytes lower ≡ str_to_ascii_lowercase name.now) }
-    ensures twice { IfOk result (λ lower.
-        str_to_ascii_lowercase (string_bytes lower) ≡ str_to_ascii_lowercase name.now) }
+    ensures twice { IfOk result (λ l. str_to_ascii_lowercase (string_bytes l) ≡ str_to_ascii_lowercase name.now) }
 {
     Ok(name.to_ascii_lowercase(alloc)?)
 }
 
 // The pair of a name in lower case and a value, once both are tested.
 pub(crate) fn tested_pair(alloc: Global, name: &str, value: &[u8]) -> Result<Pair, HttpError>
-    ensures ok { IfOk result (λ p. pair_of p ≡ (str_to_ascii_lowercase name.now, value.now)) }
+    ensures ok { IfOk result (λ p. pair_of p ≡ field name.now value.now) }
     ensures name { IsErrOf result HttpError.Name ↔ (grammar.is_token name.now ≡ false) }
-    ensures value { IsErrOf result HttpError.Value ↔ (grammar.is_token name.now ≡ true)
-        × (grammar.is_header_value value.now ≡ false) }
+    ensures value { IsErrOf result HttpError.Value ↔ HasUnfitValue name.now value.now }
     ensures refusals { IfErr result IsPairRefusal }
 {
     test_pair(name, value)?;
@@ -79,11 +75,9 @@ pub(crate) fn tested_text_pair(
     name: &str,
     value: CowStr<'_, Global>,
 ) -> Result<Pair, HttpError>
-    ensures ok { IfOk result (λ p.
-        pair_of p ≡ (str_to_ascii_lowercase name.now, cow_str_bytes value.entry)) }
+    ensures ok { IfOk result (λ p. pair_of p ≡ field name.now (cow_str_bytes value.entry)) }
     ensures name { IsErrOf result HttpError.Name ↔ (grammar.is_token name.now ≡ false) }
-    ensures value { IsErrOf result HttpError.Value ↔ (grammar.is_token name.now ≡ true)
-        × (grammar.is_header_value (cow_str_bytes value.entry) ≡ false) }
+    ensures value { IsErrOf result HttpError.Value ↔ HasUnfitValue name.now (cow_str_bytes value.entry) }
     ensures refusals { IfErr result IsPairRefusal }
 {
     test_pair(name, value.as_str().as_bytes())?;
@@ -162,8 +156,7 @@ fn find(pairs: &[Pair], places: &Option<Places>, name: &str) -> Option<usize>
 // The part with the pairs of a name: the one pair, where each name stands once, or all from the first on.
 pub(crate) fn named_part<'p>(pairs: &'p [Pair], places: &Option<Places>, name: &str) -> &'p [Pair]
     requires { ForSome places.now (λ m. IsIndex m (map name_of pairs.now)) }
-    ensures { values_at (str_to_ascii_lowercase name.now) (map pair_of result.now)
-        ≡ values_at (str_to_ascii_lowercase name.now) (map pair_of pairs.now) }
+    ensures { values_among name.now result.now ≡ values_among name.now pairs.now }
 {
     let Some(place) = find(pairs, places, name) else {
         return &[];
@@ -176,9 +169,7 @@ pub(crate) fn named_part<'p>(pairs: &'p [Pair], places: &Option<Places>, name: &
 
 // The first value of a name in any case, and the pairs behind it.
 pub(crate) fn next_value<'p>(pairs: &'p [Pair], name: &str) -> Option<(&'p [u8], &'p [Pair])>
-    ensures { let values = values_at (str_to_ascii_lowercase name.now) in
-        MatchOption result (values (map pair_of pairs.now) ≡ []) (λ found.
-        values (map pair_of pairs.now) ≡ found.0.now ∷ values (map pair_of found.1.now)) }
+    ensures { TakesFirst name.now pairs.now result }
 {
     let place = find(pairs, &None, name)?;
     Some((pairs[place].value.as_slice(), &pairs[place + 1..]))
@@ -195,8 +186,7 @@ fn drop_all_named(pairs: &mut Vec<Pair>, name: &str)
 #[tactic(auto, using(crate::proofs::PutLemmas::removing))]
 pub(crate) fn remove_named(pairs: &mut Vec<Pair>, places: &mut Option<Places>, name: &str)
     requires { ForSome places.old (λ m. IsIndex m (map name_of pairs.old.items)) }
-    ensures pairs { map pair_of pairs.new.items
-        ≡ without (str_to_ascii_lowercase name.now) (map pair_of pairs.old.items) }
+    ensures pairs { shown pairs.new.items ≡ without (str_to_ascii_lowercase name.now) (shown pairs.old.items) }
     ensures index { ForSome places.new (λ m. IsIndex m (map name_of pairs.new.items)) }
 {
     match find(pairs, places, name) {
@@ -229,7 +219,7 @@ fn drop_named(pairs: &mut Vec<Pair>, name: &str)
 // Puts the pair at the first place of its name, and its other values go.
 fn replace(pairs: &mut Vec<Pair>, place: usize, pair: Pair)
     requires { position (is_named (name_of pair)) pairs.old.items ≡ Some place }
-    ensures { map pair_of pairs.new.items ≡ put (map pair_of pairs.old.items) (pair_of pair) }
+    ensures { shown pairs.new.items ≡ put (shown pairs.old.items) (pair_of pair) }
 {
     drop_named(pairs, pair.name.as_str());
     pairs.insert(place, pair).unwrap();
@@ -240,7 +230,7 @@ fn replace(pairs: &mut Vec<Pair>, place: usize, pair: Pair)
 fn set_value(pairs: &mut Vec<Pair>, place: usize, pair: Pair)
     requires apart { AreApart (map name_of pairs.old.items) }
     requires found { position (is_named (name_of pair)) pairs.old.items ≡ Some place }
-    ensures value { map pair_of pairs.new.items ≡ put (map pair_of pairs.old.items) (pair_of pair) }
+    ensures value { shown pairs.new.items ≡ put (shown pairs.old.items) (pair_of pair) }
     ensures names { map name_of pairs.new.items ≡ map name_of pairs.old.items }
 {
     let Pair { name: _, value } = pair;
@@ -251,7 +241,7 @@ fn set_value(pairs: &mut Vec<Pair>, place: usize, pair: Pair)
 fn put_at(pairs: &mut Vec<Pair>, places: &Option<Places>, place: usize, pair: Pair)
     requires index { ForSome places.now (λ m. IsIndex m (map name_of pairs.old.items)) }
     requires found { position (is_named (name_of pair)) pairs.old.items ≡ Some place }
-    ensures value { map pair_of pairs.new.items ≡ put (map pair_of pairs.old.items) (pair_of pair) }
+    ensures value { shown pairs.new.items ≡ put (shown pairs.old.items) (pair_of pair) }
     ensures index { ForSome places.now (λ m. IsIndex m (map name_of pairs.new.items)) }
 {
     match places {
@@ -348,8 +338,8 @@ pub(crate) fn put_pair(
 ) -> Result<(), OutOfMemory>
     requires { ForSome places.old (λ m. IsIndex m (map name_of pairs.old.items)) }
     ensures ok { OnOk result
-        (map pair_of pairs.new.items ≡ put (map pair_of pairs.old.items) (pair_of pair)) }
-    ensures err { OnErr result (map pair_of pairs.new.items ≡ map pair_of pairs.old.items) }
+        (shown pairs.new.items ≡ put (shown pairs.old.items) (pair_of pair)) }
+    ensures err { OnErr result (shown pairs.new.items ≡ shown pairs.old.items) }
     ensures index { ForSome places.new (λ m. IsIndex m (map name_of pairs.new.items)) }
 {
     match place_of(pairs, places, pair.name.as_str()) {

@@ -2,7 +2,8 @@
 ghost use Rattle.std.specs.Prelude.{◌≡◌, ◌↔◌, ◌⊎◌, [], false, codes, IsTrue, IfOk, IfErr, OnOk, OnErr, IsErrOf};
 ghost use Rattle.std.specs.Borrow.{sem};
 ghost use Rattle.smithy_types.specs.Grammars.{is_token, is_legal_target};
-ghost use Rattle.smithy_http.specs.Lends.{LendsHeaders};
+ghost use Rattle.smithy_http.specs.Requests.{request_of};
+ghost use Rattle.smithy_http.specs.views.Lends.{LendsHeaders};
 
 use crate::error::HttpError;
 use crate::headers::Headers;
@@ -34,8 +35,7 @@ impl Model for Request {
 impl Request {
     /// The request `GET /` with this body and no headers. Takes memory.
     pub fn new(alloc: Global, body: Blob) -> Result<Request, OutOfMemory>
-        ensures { IfOk result (λ r.
-            r ≡ record { method = codes "GET"; target = codes "/"; headers = []; body = body }) }
+        ensures { IfOk result (λ r. r ≡ request_of (codes "GET") (codes "/") [] body) }
     {
         Ok(Request {
             method: Text::from_str(alloc, "GET")?,
@@ -54,8 +54,7 @@ impl Request {
         body: Blob,
     ) -> Result<Request, HttpError>
         requires { IsTrue (is_token method) }
-        ensures ok { IfOk result (λ r.
-            r ≡ record { method = method; target = target; headers = headers; body = body }) }
+        ensures ok { IfOk result (λ r. r ≡ request_of method target headers body) }
         ensures target { IsErrOf result HttpError.Target ↔ (is_legal_target target ≡ false) }
         ensures err { IfErr result (λ e. e ≡ HttpError.Target) }
     {

@@ -1,5 +1,5 @@
 // Responses.
-ghost use Rattle.std.specs.Prelude.{◌≡◌, ◌≤◌};
+ghost use Rattle.std.specs.Prelude.{◌≡◌, ◌≤◌, [], unwrap_or};
 ghost use Rattle.std.specs.Option.{option_copied};
 
 use crate::headers::Headers;
@@ -59,5 +59,15 @@ impl Response {
         ensures { option_copied result ≡ self.now.body }
     {
         self.body.as_ref()
+    }
+
+    /// The bytes of the body; none where it is not buffered.
+    pub fn body_bytes(&self) -> &[u8]
+        ensures { result.now ≡ unwrap_or self.now.body [] }
+    {
+        match &self.body {
+            Some(bytes) => bytes.as_slice(),
+            None => &[],
+        }
     }
 }

@@ -1,5 +1,6 @@
 // The values of a header name.
-ghost use Rattle.std.specs.Prelude.{◌≡◌, ◌∷◌, [], MatchOption};
+ghost use Rattle.std.specs.Prelude.{◌≡◌};
+ghost use Rattle.std.specs.Iterator.{YieldsFirstBy};
 ghost use Rattle.std.specs.Option.{option_copied};
 ghost use Rattle.smithy_http.specs.HeaderValues.{text_of, texts_in};
 
@@ -14,25 +15,21 @@ pub struct GetAllBytes<'h> {
 }
 
 impl<'h> Model for GetAllBytes<'h> {
-    ghost use Rattle.std.specs.Prelude.{List, ℕ, map};
-    ghost use Rattle.std.specs.Str.{str_to_ascii_lowercase};
-    ghost use Rattle.smithy_http.specs.Facts.{values_at};
-    ghost use Rattle.smithy_http.specs.Pairs.{pair_of};
+    ghost use Rattle.std.specs.Prelude.{List, ℕ};
+    ghost use Rattle.smithy_http.specs.views.Pairs.{values_among};
 
     ghost Value = { List (List ℕ) };
 
-    ghost view = { λ g. values_at (str_to_ascii_lowercase g.name.now) (map pair_of g.pairs.now) };
+    ghost view = { λ g. values_among g.name.now g.pairs.now };
 }
 
 impl<'h> GetAllBytes<'h> {
-    ghost use Rattle.std.specs.Prelude.{◌≡◌, map};
-    ghost use Rattle.std.specs.Str.{str_to_ascii_lowercase};
-    ghost use Rattle.smithy_http.specs.Facts.{values_at};
-    ghost use Rattle.smithy_http.specs.Pairs.{pair_of};
+    ghost use Rattle.std.specs.Prelude.{◌≡◌};
+    ghost use Rattle.smithy_http.specs.views.Pairs.{values_among};
 
     // The values of a name among pairs.
     pub(crate) fn among(pairs: &'h [Pair], name: &'h str) -> GetAllBytes<'h>
-        ensures { result ≡ values_at (str_to_ascii_lowercase name.now) (map pair_of pairs.now) }
+        ensures { result ≡ values_among name.now pairs.now }
     {
         GetAllBytes { pairs, name }
     }
@@ -97,8 +94,7 @@ impl<'h> Iterator for GetAll<'h> {
 
 // The next value that is UTF-8.
 fn next_text<'h>(values: &mut GetAllBytes<'h>) -> Option<&'h str>
-    ensures { MatchOption result ((texts_in values.old ≡ []) × (texts_in values.new ≡ []))
-        (λ text. texts_in values.old ≡ text.now ∷ texts_in values.new) }
+    ensures { YieldsFirstBy (λ text. text.now) texts_in values.old result values.new }
 {
     while let Some(value) = values.next() {
         if let Some(text) = text_in(value) {

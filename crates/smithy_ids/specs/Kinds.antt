@@ -50,6 +50,9 @@ is_unwritable kind.Double = true
 is_unwritable kind.Member = true
 is_unwritable _ = false
 
+abbrev pub is_structure : ShapeType → Bool
+is_structure shape_type = same_kind shape_type kind.Structure
+
 abbrev pub is_structure_or_union : ShapeType → Bool
 is_structure_or_union kind.Structure = true
 is_structure_or_union kind.Union = true

@@ -1,4 +1,5 @@
 pub mod Kinds
 pub mod ShapeIds
-pub mod ShapeIdParts
 pub mod Traits
+pub mod views
+pub use Rattle.smithy_ids.specs.views.ShapeIdParts

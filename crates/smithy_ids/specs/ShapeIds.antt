@@ -9,6 +9,11 @@ pub record Parts : Type 0 where
   pub shape_name : List ℕ
   pub member_name : Option (List ℕ)
 
+-- the parts of this full name
+abbrev pub parts_with : List ℕ → List ℕ → List ℕ → Option (List ℕ) → Parts
+parts_with full namespace shape member =
+    record { full_name = full; namespace = namespace; shape_name = shape; member_name = member }
+
 abbrev pub is_hash : ℕ → Bool
 is_hash b = b == 35
 
@@ -51,6 +56,10 @@ parts_in name =
       member_name = member_in (after_first is_hash name);
     })
     else None
+
+-- the full name is cut into these parts
+abbrev pub HasParts : List ℕ → List ℕ → Option (List ℕ) → List ℕ → Type 0
+HasParts namespace shape member full = parts_in full ≡ Some (parts_with full namespace shape member)
 
 -- a text in two at its first byte b
 pub record IsCutAt (b : ℕ) (text front back : List ℕ) : Type 0 where

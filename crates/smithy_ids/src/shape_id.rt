@@ -24,20 +24,15 @@ pub struct ShapeId<'a> {
 
 impl<'a> ShapeId<'a> {
     ghost use Rattle.std.specs.Prelude.{◌≡◌, false, ◌∷◌, ◌++◌, option_map, Some, None};
-    ghost use Rattle.smithy_ids.specs.ShapeIds.{has_hash, has_dollar, parts_in, Parts};
-    ghost use Rattle.smithy_ids.specs.ShapeIdParts.{parts_of};
+    ghost use Rattle.smithy_ids.specs.ShapeIds.{has_hash, has_dollar, parts_in, parts_with};
+    ghost use Rattle.smithy_ids.specs.views.ShapeIdParts.{parts_of};
 
     /// The identifier of a shape, of its full name and its parts. It takes no memory.
     pub const fn from_parts(fqn: &'a str, namespace: &'a str, shape_name: &'a str) -> ShapeId<'a>
         requires spelled { fqn.now ≡ namespace.now ++ 35 ∷ shape_name.now }
         requires no_hash { has_hash namespace.now ≡ false }
         requires no_dollar { has_dollar shape_name.now ≡ false }
-        ensures { parts_of result ≡ record {
-          full_name = fqn.now;
-          namespace = namespace.now;
-          shape_name = shape_name.now;
-          member_name = None;
-        } }
+        ensures { parts_of result ≡ parts_with fqn.now namespace.now shape_name.now None }
     {
         ShapeId {
             full_name: fqn,
@@ -57,12 +52,7 @@ impl<'a> ShapeId<'a> {
         requires spelled { fqn.now ≡ namespace.now ++ 35 ∷ (shape_name.now ++ 36 ∷ member_name.now) }
         requires no_hash { has_hash namespace.now ≡ false }
         requires no_dollar { has_dollar shape_name.now ≡ false }
-        ensures { parts_of result ≡ record {
-          full_name = fqn.now;
-          namespace = namespace.now;
-          shape_name = shape_name.now;
-          member_name = Some member_name.now;
-        } }
+        ensures { parts_of result ≡ parts_with fqn.now namespace.now shape_name.now (Some member_name.now) }
     {
         ShapeId {
             full_name: fqn,

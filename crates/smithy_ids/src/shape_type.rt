@@ -25,7 +25,7 @@ pub enum ShapeType {
 
 impl ShapeType {
     ghost use Rattle.std.specs.Prelude.{◌≡◌};
-    ghost use Rattle.smithy_ids.specs.Kinds.{is_simple, is_aggregate, is_member};
+    ghost use Rattle.smithy_ids.specs.Kinds.{is_simple, is_aggregate, is_member, is_structure, is_structure_or_union, is_scalar, is_unwritable};
 
     /// One of the simple types, which hold no other shape (Smithy, simple types).
     pub fn is_simple(&self) -> bool
@@ -49,5 +49,48 @@ impl ShapeType {
         ensures { result ≡ is_member self.now }
     {
         matches!(self, ShapeType::Member)
+    }
+
+    /// A structure.
+    pub fn is_structure(&self) -> bool
+        ensures { result ≡ is_structure self.now }
+    {
+        matches!(self, ShapeType::Structure)
+    }
+
+    /// A structure or a union.
+    pub fn is_structure_or_union(&self) -> bool
+        ensures { result ≡ is_structure_or_union self.now }
+    {
+        matches!(self, ShapeType::Structure | ShapeType::Union)
+    }
+
+    /// A kind of labels and queries: each simple one but a float, a double, a blob and a document (Smithy, HTTP protocol
+    /// bindings).
+    pub fn is_scalar(&self) -> bool
+        ensures { result ≡ is_scalar self.now }
+    {
+        matches!(
+            self,
+            ShapeType::Boolean
+                | ShapeType::Byte
+                | ShapeType::Short
+                | ShapeType::Integer
+                | ShapeType::Long
+                | ShapeType::BigInteger
+                | ShapeType::BigDecimal
+                | ShapeType::String
+                | ShapeType::Timestamp
+        )
+    }
+
+    /// A kind of which no value is written: a float, a double, and a member, which is no kind of values.
+    pub fn is_unwritable(&self) -> bool
+        ensures { result ≡ is_unwritable self.now }
+    {
+        matches!(
+            self,
+            ShapeType::Float | ShapeType::Double | ShapeType::Member
+        )
     }
 }

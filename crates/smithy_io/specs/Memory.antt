@@ -1,8 +1,9 @@
 -- Sources and sinks in memory: what they hold, and what each call does.
-use Rattle.std.specs.Prelude.{ℕ, ◌+◌, ◌-◌, min, nat_le, nat_lt, Bool, not, ◌&&◌, ◌||◌, ◌==◌, List, ◌++◌, length, drop, ℤ, pos}
+use Rattle.std.specs.Prelude.{ℕ, ◌+◌, ◌-◌, min, nat_le, nat_lt, Bool, not, ◌&&◌, ◌||◌, ◌==◌, List, [], ◌++◌, length, drop, ℤ, pos, Some}
 use Rattle.std.specs.List.{list_any}
 use Rattle.std.specs.Ordering.{int_eq}
 use Rattle.smithy_io.specs.Causes.{next_count}
+use Rattle.smithy_io.specs.Streams.{Gave}
 
 -- the number of the next call, counted from 1; it stays at the greatest number of 64 bits with a sign
 abbrev pub next_call : ℕ → ℕ
@@ -56,6 +57,10 @@ pub record SinkState : Type 0 where
   pub calls : ℕ
   pub faults : ℕ
 
+-- a sink that was never called
+abbrev pub empty_sink : ℕ → ℕ → List ℤ → SinkState
+empty_sink room piece failing = record { written = []; room = room; piece = piece; failing = failing; calls = 0; faults = 0 }
+
 -- a piece that isn't empty comes when the room is full
 abbrev pub is_over_full : ℕ → ℕ → ℕ → Bool
 is_over_full room used size = nat_le room used && not (size == 0)
@@ -82,3 +87,15 @@ pub record SureSinkState : Type 0 where
   -- how many bytes it takes in all
   pub room : ℕ
   pub faults : ℕ
+
+-- a piece of this size that isn't empty comes when the room is full
+abbrev pub is_overflowing : SureSinkState → ℕ → Bool
+is_overflowing s size = is_over_full s.room (length s.written) size
+
+-- after a call that took these bytes
+abbrev pub with_more : SureSinkState → List ℕ → SureSinkState
+with_more s bytes = record s { written = s.written ++ bytes }
+
+-- from a place on, so many of the bytes were given
+abbrev pub GaveFrom : List ℕ → ℕ → List ℕ → ℕ → Type 0
+GaveFrom bytes done given n = Gave (Some (drop done bytes)) given (Some (drop (done + n) bytes))

@@ -29,6 +29,10 @@ max_job_len = 16777216
 abbrev pub IsTooLong : ℕ → Option (List ℕ) → Option (List ℕ) → Type 0
 IsTooLong most before after = (given : List ℕ) × (length given ≡ most + 1) × Gave before given after
 
+-- the source had more than the most bytes of an input
+abbrev pub HasTooMuch : Option (List ℕ) → Option (List ℕ) → Type 0
+HasTooMuch before after = IsTooLong max_job_len before after
+
 -- a part was read, and at most one byte more than the most
 abbrev pub HasReadPart : ℕ → Option (List ℕ) → Option (List ℕ) → Type 0
 HasReadPart most before after = (given : List ℕ) × (length given ≤ most + 1) × Gave before given after

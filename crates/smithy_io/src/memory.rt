@@ -1,8 +1,8 @@
 // Sources and sinks in memory.
 ghost use Rattle.std.specs.Prelude.{◌≡◌, ◌+◌, ◌-◌, ◌<◌, ◌≤◌, ◌↔◌, ◌++◌, [], min, length, take, drop, Some, false, IsTrue, IsOk, IsErr, IfOk, OnErr, vec_len, vec_capacity};
-ghost use Rattle.smithy_io.specs.Causes.{Rose, next_count};
-ghost use Rattle.smithy_io.specs.Memory.{next_call, is_listed, SourceState, SinkState, SureSinkState, fails_to_give, given_count, gave, failed_to_give, has_failed_to_give, fails_to_take, taken_count, took, failed_to_take, is_over_full};
-ghost use Rattle.smithy_io.specs.Streams.{Gave, EndsAt, Keeps, Gained, IsFull};
+ghost use Rattle.smithy_io.specs.Causes.{next_count};
+ghost use Rattle.smithy_io.specs.Memory.{next_call, is_listed, SourceState, SinkState, SureSinkState, fails_to_give, given_count, gave, failed_to_give, has_failed_to_give, fails_to_take, taken_count, took, failed_to_take, empty_sink, is_overflowing, with_more, GaveFrom};
+ghost use Rattle.smithy_io.specs.Streams.{Gave, EndsAt};
 
 use crate::sink::Sink;
 use crate::source::{Failed, Source};
@@ -152,8 +152,7 @@ fn is_listed(failing: &Longs, call: u64) -> bool
 fn next_bytes(bytes: &[u8], done: usize, buf: &mut [u8]) -> usize
     requires { done ≤ length bytes.now }
     ensures count { result ≡ min (length buf.old) (length bytes.now - done) }
-    ensures given { Gave (Some (drop done bytes.now)) (take result buf.new)
-        (Some (drop (done + result) bytes.now)) }
+    ensures given { GaveFrom bytes.now done (take result buf.new) result }
     ensures end { 0 < length buf.old → EndsAt result (Some (drop done bytes.now)) }
 {
     let n = buf.len().min(bytes.len() - done);
@@ -222,12 +221,9 @@ impl Sink for SureSink {
     /// Takes as many bytes of the piece as still fit. `Failed` comes exactly where a piece that isn't empty comes when the room
     /// is full.
     fn write(&mut self, bytes: &[u8]) -> Result<usize, Failed>
-        ensures fails { IsErr result
-            ↔ IsTrue (is_over_full self.old.room (length self.old.written) (length bytes.now)) }
-        ensures amount { IfOk result (λ n.
-            n ≡ min (length bytes.now) (self.old.room - length self.old.written)) }
-        ensures ok { IfOk result (λ n.
-            self.new ≡ record self.old { written = self.old.written ++ take n bytes.now }) }
+        ensures fails { IsErr result ↔ IsTrue (is_overflowing self.old (length bytes.now)) }
+        ensures amount { IfOk result (λ n. n ≡ min (length bytes.now) (self.old.room - length self.old.written)) }
+        ensures ok { IfOk result (λ n. self.new ≡ with_more self.old (take n bytes.now)) }
         ensures err { OnErr result (self.new ≡ record self.old { faults = next_count self.old.faults }) }
         ensures count { self.old.faults ≤ self.new.faults }
         ensures some { IfOk result (λ n. 0 < length bytes.now → 0 < n) }
@@ -283,14 +279,7 @@ impl MemorySink {
         failing: Longs,
     ) -> Result<MemorySink, OutOfMemory>
         requires { 0 < piece }
-        ensures { IfOk result (λ s. s ≡ record {
-          written = [];
-          room = room;
-          piece = piece;
-          failing = failing;
-          calls = 0;
-          faults = 0;
-        }) }
+        ensures { IfOk result (λ s. s ≡ empty_sink room piece failing) }
     {
         let bytes = Vec::with_capacity(alloc, room)?;
         Ok(MemorySink {

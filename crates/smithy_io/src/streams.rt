@@ -1,7 +1,7 @@
 // Reading a source to its end, and writing all of a text.
 ghost use Rattle.std.specs.Prelude.{◌≡◌, ◌≤◌, length, IfOk, OnOk, OnErr, Err};
 ghost use Rattle.smithy_io.specs.Causes.{Rose, Stops};
-ghost use Rattle.smithy_io.specs.Streams.{IsWhole, IsTooLong, HasReadPart, max_job_len, Gained, GainedPart, IsFull};
+ghost use Rattle.smithy_io.specs.Streams.{IsWhole, HasTooMuch, HasReadPart, max_job_len, Gained, GainedPart, IsFull};
 
 use crate::sink::Sink;
 use crate::source::{Failed, Source};
@@ -41,8 +41,7 @@ impl From<OutOfMemory> for ReadError {
 pub fn read_all<S: Source>(alloc: Global, source: &mut S) -> Result<Vec<u8>, ReadError>
     ensures whole { IfOk result (λ bytes. IsWhole (S.left source.old) bytes.items (S.left source.new)) }
     ensures short { IfOk result (λ bytes. length bytes.items ≤ max_job_len) }
-    ensures too_long { result ≡ Err ReadError.TooLong →
-        IsTooLong max_job_len (S.left source.old) (S.left source.new) }
+    ensures too_long { result ≡ Err ReadError.TooLong → HasTooMuch (S.left source.old) (S.left source.new) }
     ensures part { OnErr result (HasReadPart max_job_len (S.left source.old) (S.left source.new)) }
     ensures stops { Stops result (S.faults source.old) (S.faults source.new) (S.has_failed source.new) }
     ensures count { S.faults source.old ≤ S.faults source.new }

@@ -2,10 +2,10 @@
 use Rattle.std.proofs.Common.{◌≡◌, refl, sym, ap, ◌∙◌, ℕ, ◌+◌, ◌<◌, ◌≤◌, List, length, get_or, drop, Option, Some, None, option_map}
 use Rattle.std.proofs.lemmas.List.{drop_more}
 use Rattle.std.proofs.Math.ListN.{drop_of_length-le}
-use Rattle.smithy_json.specs.JsonView.{view, items_view}
+use Rattle.smithy_json.specs.views.JsonView.{view, items_view}
 use Rattle.smithy_json.specs.declared.value.JsonValue.{JsonValue}
 use Rattle.smithy_types.specs.Documents as doc
-use Rattle.smithy_types.specs.Documents.{Document, Items, Members, items_snoc, put, put_all}
+use Rattle.smithy_types.specs.Documents.{Document, Items, Members, items_snoc, put_all}
 use Rattle.smithy_json.specs.FromData.{of_data, items_of_data}
 
 -- items, and then others

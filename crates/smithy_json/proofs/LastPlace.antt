@@ -4,9 +4,10 @@ use Rattle.std.specs.Ordering.{is_gt, ordering_reverse}
 use Rattle.std.specs.Cmp.Lexicographic.{slice_cmp}
 use Rattle.std.proofs.lemmas.Cmp.{nat_list_cmp_total}
 use Rattle.smithy_types.specs.Maps.{IsOrdered}
-use Rattle.smithy_json.specs.JsonView.{Member, entries}
+use Rattle.smithy_json.specs.views.JsonView.{Member, entries}
 use Rattle.smithy_json.specs.PutMembers.{further, place_of}
-use Rattle.smithy_json.proofs.OrderLemmas.{Entry, Under, Ascends, up_ordered}
+use Rattle.smithy_json.proofs.OrderLemmas.{Entry, Under}
+use Rattle.smithy_json.proofs.OrderedPairs.{Ascends, up_ordered}
 
 pub is_greater : (o : Ordering) → is_gt o ≡ true → o ≡ Greater
 is_greater Less h = absurd (cc h)

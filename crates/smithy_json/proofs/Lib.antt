@@ -4,6 +4,7 @@ pub mod NumberLemmas
 pub mod OptionLemmas
 pub mod OrderLemmas
 pub mod OrderedData
+pub mod OrderedPairs
 pub mod ReadingLemmas
 pub mod Shortening
 pub mod TextDocuments

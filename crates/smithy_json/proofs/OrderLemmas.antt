@@ -1,12 +1,8 @@
 -- Members put one after another, in byte order of their names.
-use Rattle.std.proofs.Common.{◌≡◌, refl, sym, ap, subst, ◌∙◌, ℕ, suc, ◌+◌, ◌<◌, ◌≤◌, arith, List, [], ◌∷◌, ◌++◌, length, get_or, drop, slice_set, insert, append_assoc, append-nil, Bool, true, false, cond, Option, Some, None, MatchOption, Result, Ok, Err, Bor, bytes_eq, Ordering, Less, Equal, Greater, nat_cmp, is_eq, is_ge, IsTrue}
-use Rattle.std.specs.Ordering.{match_ordering, ordering_reverse}
+use Rattle.std.proofs.Common.{◌≡◌, refl, sym, ap, subst, ◌∙◌, ℕ, suc, ◌+◌, ◌<◌, ◌≤◌, arith, List, [], ◌∷◌, ◌++◌, length, get_or, drop, slice_set, insert, Bool, true, false, cond, Option, Some, None, MatchOption, Result, Ok, Err, Bor, bytes_eq, Ordering, Less, Equal, Greater, nat_cmp, is_eq, is_ge, IsTrue}
+use Rattle.std.specs.Ordering.{match_ordering}
 use Rattle.std.specs.BTreeMap.{insert_entry}
-use Rattle.std.specs.List.{AllByRecursion}
-use Rattle.std.specs.List.Sorted.{IsStrictlySortedBy}
-use Rattle.std.specs.Map.{keys_of}
-use Rattle.std.specs.Cmp.Lexicographic.{slice_cmp, same_text as same_from_test}
-use Rattle.std.proofs.lemmas.Cmp.{nat_list_cmp_total}
+use Rattle.std.specs.Cmp.Lexicographic.{slice_cmp}
 use Rattle.std.proofs.lemmas.List.{drop_more}
 use Rattle.std.proofs.lemmas.List.Edits.{insert_end}
 use Rattle.std.proofs.lemmas.Map.Text.{is_eq-slice_cmp}
@@ -14,9 +10,10 @@ use Rattle.std.proofs.Math.ListN.{drop_of_length-le}
 use Rattle.serde_json.specs.Data as parsed
 use Rattle.serde_json.specs.Data.{Data, Members, put}
 use Rattle.serde_json.specs.Find.{get_member}
-use Rattle.smithy_types.specs.Maps.{IsOrdered}
-use Rattle.smithy_json.specs.JsonView.{Member, members_view, entry_of, entries}
+use Rattle.smithy_types.specs.Maps.{IsOrdered, with_value}
+use Rattle.smithy_json.specs.views.JsonView.{Member, members_view, entry_of, entries}
 use Rattle.smithy_json.specs.PutMembers.{put_all, further, place_of}
+use Rattle.smithy_json.proofs.OrderedPairs.{same_name, Behind, Ascends, put_ascends, all_put, ordered_up, up_ordered, put_as_they_stand as pairs_as_they_stand}
 
 abbrev pub Entry : Type 0
 Entry = List ℕ × Data
@@ -30,6 +27,34 @@ pub made_entries : (ms : List Member) → made (entries ms) ≡ members_view ms
 made_entries [] = refl
 made_entries (m ∷ ms) = ap (parsed.member m.0.now (entry_of m).1) (made_entries ms)
 
+-- the entries of members
+abbrev taken : Members → List Entry
+taken parsed.no_members = []
+taken (parsed.member k d ms) = (k, d) ∷ taken ms
+
+made_taken : (ms : Members) → made (taken ms) ≡ ms
+made_taken parsed.no_members = refl
+made_taken (parsed.member k d ms) = ap (parsed.member k d) (made_taken ms)
+
+taken_entries : (ms : List Member) → taken (members_view ms) ≡ entries ms
+taken_entries [] = refl
+taken_entries (m ∷ ms) = ap (λ es. entry_of m ∷ es) (taken_entries ms)
+
+taken_put : (k : List ℕ) (d : Data) (ms : Members) → taken (put k d ms) ≡ with_value k d (taken ms)
+taken_put k d parsed.no_members = refl
+taken_put k d (parsed.member l e ms) = go (slice_cmp nat_cmp k l) (taken_put k d ms)
+  where
+    go : (o : Ordering) → taken (put k d ms) ≡ with_value k d (taken ms)
+        → taken (match_ordering o (parsed.member k d (parsed.member l e ms)) (parsed.member l d ms) (parsed.member l e (put k d ms)))
+        ≡ match_ordering o ((k, d) ∷ (l, e) ∷ taken ms) ((l, d) ∷ taken ms) ((l, e) ∷ with_value k d (taken ms))
+    go Less rest = refl
+    go Equal rest = refl
+    go Greater rest = ap (λ es. (l, e) ∷ es) rest
+
+taken_all : (es : List Entry) (ms : Members) → taken (put_all es ms) ≡ all_put es (taken ms)
+taken_all [] ms = refl
+taken_all (e ∷ es) ms = taken_all es (put e.0 e.1 ms) ∙ ap (all_put es) (taken_put e.0 e.1 ms)
+
 -- ---- one more
 
 pub put_more : (es : List Entry) (e : Entry) (ms : Members) → put_all (es ++ e ∷ []) ms ≡ put e.0 e.1 (put_all es ms)
@@ -40,128 +65,23 @@ pub entries_more : (ms : List Member) (m : Member) → entries (ms ++ m ∷ []) 
 entries_more [] m = refl
 entries_more (x ∷ ms) m = ap (λ es. entry_of x ∷ es) (entries_more ms m)
 
--- ---- names that ascend
-
-abbrev pub Behind : {X : Type 0} → List ℕ → List (List ℕ × X) → Type 0
-Behind name [] = Unit {0}
-Behind name (e ∷ es) = (slice_cmp nat_cmp name e.0 ≡ Less) × Behind e.0 es
-
-abbrev pub Ascends : {X : Type 0} → List (List ℕ × X) → Type 0
-Ascends [] = Unit {0}
-Ascends (e ∷ es) = Behind e.0 es
-
-pub up_tail : {X : Type 0} (name : List ℕ) (es : List (List ℕ × X)) → Behind name es → Ascends es
-up_tail name [] behind = tt
-up_tail name (e ∷ es) behind = behind.1
-
-below_all : {X : Type 0} (name : List ℕ) (es : List (List ℕ × X)) → Behind name es → AllByRecursion (λ y. slice_cmp nat_cmp name y ≡ Less) (keys_of es)
-below_all name [] behind = tt
-below_all {X = X} name (e ∷ es) behind = (behind.0, below_all name es (lower es behind.1))
-  where
-    lower : (fs : List (List ℕ × X)) → Behind e.0 fs → Behind name fs
-    lower [] behind = tt
-    lower (f ∷ fs) h = (nat_list_cmp_total.trans name e.0 f.0 behind.0 h.0, h.1)
-
-pub ordered_up : {X : Type 0} (es : List (List ℕ × X)) → Ascends es → IsOrdered es
-unfolding IsStrictlySortedBy
-ordered_up [] up = tt
-ordered_up (e ∷ es) up = (below_all e.0 es up, ordered_up es (up_tail e.0 es up))
-
-pub up_ordered : {X : Type 0} (es : List (List ℕ × X)) → IsOrdered es → Ascends es
-unfolding IsStrictlySortedBy
-up_ordered [] h = tt
-up_ordered {X = X} (e ∷ es) h = behind e.0 es h
-  where
-    behind : (low : List ℕ) (fs : List (List ℕ × X)) → IsStrictlySortedBy (slice_cmp nat_cmp) (low ∷ keys_of fs) → Behind low fs
-    behind low [] k = tt
-    behind low (f ∷ fs) k = (k.0.0, behind f.0 fs k.1)
-
 -- each of these names is below one
 abbrev pub Under : List Entry → List ℕ → Type 0
 Under [] name = Unit {0}
 Under (e ∷ es) name = (slice_cmp nat_cmp e.0 name ≡ Less) × Under es name
 
-abbrev Follows : List Entry → List Entry → Type 0
-Follows done [] = Unit {0}
-Follows done (e ∷ es) = Under done e.0 × Behind e.0 es
-
-put_end : (e : Entry) (done : List Entry) → Under done e.0 → put e.0 e.1 (made done) ≡ made (done ++ e ∷ [])
-put_end e [] under = refl
-put_end e (x ∷ done) under =
-    let above : slice_cmp nat_cmp e.0 x.0 ≡ Greater = nat_list_cmp_total.antisymm e.0 x.0 ∙ ap ordering_reverse under.0 in
-    rw above (ap (parsed.member x.0 x.1) (put_end e done under.1))
-
-under_more : (done : List Entry) (e : Entry) (name : List ℕ) → Under done e.0 → slice_cmp nat_cmp e.0 name ≡ Less → Under (done ++ e ∷ []) name
-under_more [] e name under less = (less, tt)
-under_more (x ∷ done) e name under less = (nat_list_cmp_total.trans x.0 e.0 name under.0 less, under_more done e name under.1 less)
-
-follows_more : (done : List Entry) (e : Entry) (es : List Entry) → Follows done (e ∷ es) → Follows (done ++ e ∷ []) es
-follows_more done e [] follows = tt
-follows_more done e (x ∷ es) follows = (under_more done e x.0 follows.0 follows.1.0, follows.1.1)
-
-all_end : (es done : List Entry) → Follows done es → put_all es (made done) ≡ made (done ++ es)
-all_end [] done follows = ap made (sym (append-nil done))
-all_end (e ∷ es) done follows =
-    ap (put_all es) (put_end e done follows.0) ∙ all_end es (done ++ e ∷ []) (follows_more done e es follows) ∙ ap made (append_assoc done (e ∷ []) es)
-
-starts : (es : List Entry) → Ascends es → Follows [] es
-starts [] up = tt
-starts (e ∷ es) up = (tt, up)
-
 -- members whose names ascend are put as they stand
 pub put_as_they_stand : (ms : List Member) → IsOrdered (entries ms) → put_all (entries ms) parsed.no_members ≡ members_view ms
-put_as_they_stand ms ordered = all_end (entries ms) [] (starts (entries ms) (up_ordered (entries ms) ordered)) ∙ made_entries ms
+put_as_they_stand ms ordered =
+    sym (made_taken (put_all (entries ms) parsed.no_members))
+    ∙ ap made (taken_all (entries ms) parsed.no_members ∙ pairs_as_they_stand (entries ms) (up_ordered (entries ms) ordered)) ∙ made_entries ms
 
 -- ---- a member that is put leaves the order
 
-abbrev BehindIn : List ℕ → Members → Type 0
-BehindIn name parsed.no_members = Unit {0}
-BehindIn name (parsed.member k d ms) = (slice_cmp nat_cmp name k ≡ Less) × BehindIn k ms
-
-abbrev AscendsIn : Members → Type 0
-AscendsIn parsed.no_members = Unit {0}
-AscendsIn (parsed.member k d ms) = BehindIn k ms
-
-pub below : (k l : List ℕ) → slice_cmp nat_cmp k l ≡ Greater → slice_cmp nat_cmp l k ≡ Less
-below k l above = nat_list_cmp_total.antisymm l k ∙ ap ordering_reverse above
-
-behind_put : (low k : List ℕ) (d : Data) (ms : Members) → BehindIn low ms → slice_cmp nat_cmp low k ≡ Less → BehindIn low (put k d ms)
-behind_put low k d parsed.no_members behind less = (less, tt)
-behind_put low k d (parsed.member l e ms) behind less = go (slice_cmp nat_cmp k l) refl (behind_put l k d ms behind.1)
-  where
-    go : (o : Ordering) → slice_cmp nat_cmp k l ≡ o → (slice_cmp nat_cmp l k ≡ Less → BehindIn l (put k d ms))
-        → BehindIn low (match_ordering o (parsed.member k d (parsed.member l e ms)) (parsed.member l d ms) (parsed.member l e (put k d ms)))
-    go Less is rest = (less, (is, behind.1))
-    go Equal is rest = behind
-    go Greater is rest = (behind.0, rest (below k l is))
-
-up_put : (k : List ℕ) (d : Data) (ms : Members) → AscendsIn ms → AscendsIn (put k d ms)
-up_put k d parsed.no_members up = tt
-up_put k d (parsed.member l e ms) up = go (slice_cmp nat_cmp k l) refl
-  where
-    go : (o : Ordering) → slice_cmp nat_cmp k l ≡ o → AscendsIn (match_ordering o (parsed.member k d (parsed.member l e ms)) (parsed.member l d ms) (parsed.member l e (put k d ms)))
-    go Less is = (is, up)
-    go Equal is = up
-    go Greater is = behind_put l k d ms up (below k l is)
-
-behind_in : (name : List ℕ) (ms : List Member) → Behind name (entries ms) → BehindIn name (members_view ms)
-behind_in name [] behind = tt
-behind_in name (m ∷ ms) behind = (behind.0, behind_in m.0.now ms behind.1)
-
-in_behind : (name : List ℕ) (ms : List Member) → BehindIn name (members_view ms) → Behind name (entries ms)
-in_behind name [] behind = tt
-in_behind name (m ∷ ms) behind = (behind.0, in_behind m.0.now ms behind.1)
-
-up_in : (ms : List Member) → Ascends (entries ms) → AscendsIn (members_view ms)
-up_in [] up = tt
-up_in (m ∷ ms) up = behind_in m.0.now ms up
-
-in_up : (ms : List Member) → AscendsIn (members_view ms) → Ascends (entries ms)
-in_up [] up = tt
-in_up (m ∷ ms) up = in_behind m.0.now ms up
-
 pub put_ordered : (old new : List Member) (k : List ℕ) (d : Data) → members_view new ≡ put k d (members_view old) → IsOrdered (entries old) → IsOrdered (entries new)
-put_ordered old new k d is ordered = ordered_up (entries new) (in_up new (subst AscendsIn (sym is) (up_put k d (members_view old) (up_in old (up_ordered (entries old) ordered)))))
+put_ordered old new k d is ordered =
+    let same : entries new ≡ with_value k d (entries old) = sym (taken_entries new) ∙ ap taken is ∙ taken_put k d (members_view old) ∙ ap (with_value k d) (taken_entries old) in
+    ordered_up (entries new) (subst (λ es. Ascends es) (sym same) (put_ascends k d (entries old) (up_ordered (entries old) ordered)))
 
 -- ---- names before those that are left
 
@@ -226,9 +146,6 @@ place_end name ms i all low high h =
     ap (λ (n : ℕ). Err n) (omega (arith, low, high)) ∙ ap (λ xs. past i (place_of name (entries xs))) (sym (drop_of_length-le ms high)) ∙ h
 
 -- ---- a member at its place
-
-same_name : (k l : List ℕ) → slice_cmp nat_cmp k l ≡ Equal → k ≡ l
-same_name k l e = same_from_test k l (sym (ap is_eq e) ∙ is_eq-slice_cmp k l)
 
 found_place : (r : Result ℕ ℕ) (i : ℕ) → further r ≡ Ok i → (j : ℕ) × (i ≡ suc j) × (r ≡ Ok j)
 found_place (Ok j) i e = let same : suc j ≡ i = cc e in (j, sym same, refl)

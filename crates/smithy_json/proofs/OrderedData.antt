@@ -10,13 +10,13 @@ use Rattle.json.specs.Lex.{tokens}
 use Rattle.serde_json.specs.Data as parsed
 use Rattle.serde_json.specs.Data.{Num, Data, Items, Members, put}
 use Rattle.serde_json.specs.Read.{number_of, of_json, of_items, of_members, max_depth, read}
-use Rattle.smithy_json.specs.JsonView.{view}
+use Rattle.smithy_json.specs.views.JsonView.{view}
 use Rattle.smithy_json.specs.Ordered.{is_before, is_ordered, are_items_ordered, are_members_ordered}
 use Rattle.smithy_json.specs.Reads.{Reads}
 use Rattle.smithy_json.specs.declared.error.JsonError.{JsonError}
 use Rattle.smithy_json.specs.declared.value.JsonValue.{JsonValue}
 use Rattle.smithy_json.proofs.OptionLemmas.{mapped, after, joined}
-use Rattle.smithy_json.proofs.OrderLemmas.{below}
+use Rattle.smithy_json.proofs.OrderedPairs.{above}
 
 abbrev pub IsOrdered : Data → Type 0
 IsOrdered d = IsTrue (is_ordered d)
@@ -58,7 +58,7 @@ put_ordered k d (parsed.member l e ms) h up = go (slice_cmp nat_cmp k l) refl (p
         → AreMembersOrdered (match_ordering o (parsed.member k d (parsed.member l e ms)) (parsed.member l d ms) (parsed.member l e (put k d ms)))
     go Less is rest = placed k d (parsed.member l e ms) (rw is refl) h up
     go Equal is rest = let p = member_placed l e ms up in placed l d ms p.0 h p.2
-    go Greater is rest = let p = member_placed l e ms up in placed l e (put k d ms) (before_put l k d ms (below k l is) p.0) p.1 rest
+    go Greater is rest = let p = member_placed l e ms up in placed l e (put k d ms) (before_put l k d ms (above k l is) p.0) p.1 rest
 
 -- ---- what the grammar's values are
 

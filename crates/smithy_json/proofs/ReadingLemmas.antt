@@ -11,7 +11,7 @@ use Rattle.serde_json.specs.Data.{Num, Data, Items, item, no_items}
 use Rattle.serde_json.specs.Read.{number_of, of_json, converted, max_depth, read}
 use Rattle.serde_json.specs.View.{number_view}
 use Rattle.serde_json.specs.declared.number.Number as numbers
-use Rattle.smithy_json.specs.JsonView.{Member, view, items_view, members_view, entry_of, entries}
+use Rattle.smithy_json.specs.views.JsonView.{Member, view, items_view, members_view, entry_of, entries}
 use Rattle.smithy_json.specs.PutMembers.{put_all}
 use Rattle.smithy_json.specs.Reads.{Reads}
 use Rattle.smithy_json.specs.Tokens.{value_at, items_at, members_at, Takes}

@@ -1,8 +1,9 @@
 pub mod FromData
 pub mod FromText
 pub mod Integers
-pub mod JsonView
 pub mod Ordered
 pub mod PutMembers
 pub mod Reads
 pub mod Tokens
+pub mod views
+pub use Rattle.smithy_json.specs.views.JsonView

@@ -2,7 +2,7 @@
 ghost use Rattle.std.specs.Prelude.{◌≡◌, option_map};
 ghost use Rattle.smithy_types.specs.Documents.{members_of};
 ghost use Rattle.serde_json.specs.View.{number_view as json_number_view};
-ghost use Rattle.smithy_json.specs.JsonView.{view, items_view, members_view};
+ghost use Rattle.smithy_json.specs.views.JsonView.{view, items_view, members_view};
 ghost use Rattle.smithy_types.specs.DocumentView.{number_view, view as document_view, items_view as documents_view, members_view as fields_view};
 ghost use Rattle.smithy_json.specs.FromData.{number_of_data, of_data, items_of_data, pairs_of_data};
 ghost use Rattle.smithy_json.specs.FromText.{document_of_text};

@@ -1,9 +1,9 @@
 // The members of an object in byte order of their names.
-ghost use Rattle.std.specs.Prelude.{◌≡◌, ◌↔◌, Err, length, IfOk, OnOk, IsTrue};
-ghost use Rattle.serde_json.specs.Data.{no_members, put};
+ghost use Rattle.std.specs.Prelude.{◌≡◌, ◌↔◌, IfOk, OnOk, IsTrue};
 ghost use Rattle.smithy_types.specs.Maps.{IsOrdered};
-ghost use Rattle.smithy_json.specs.JsonView.{view, members_view, entries};
-ghost use Rattle.smithy_json.specs.PutMembers.{put_all, place_of};
+ghost use Rattle.smithy_json.specs.PutMembers.{place_of};
+ghost use Rattle.smithy_json.specs.views.Adding.{all_put, Adds, Puts, BelongsLast};
+ghost use Rattle.smithy_json.specs.views.JsonView.{view, members_view, entries};
 
 use crate::value::JsonValue;
 use smithy_types::OutOfMemory;
@@ -36,8 +36,7 @@ pub(crate) fn add_member<'t>(
     value: JsonValue<'t>,
 ) -> Result<bool, OutOfMemory>
     requires { IsTrue are_ordered → IsOrdered (entries members.old.items) }
-    ensures put { OnOk result (put_all (entries members.new.items) no_members
-        ≡ put name.now (view value.entry) (put_all (entries members.old.items) no_members)) }
+    ensures put { OnOk result (Adds name.now (view value.entry) members.old.items members.new.items) }
     ensures ordered { IfOk result (λ o. IsTrue o → IsOrdered (entries members.new.items)) }
 {
     make_room(members)?;
@@ -60,7 +59,7 @@ pub(crate) fn in_order<'t>(
     are_ordered: bool,
 ) -> Result<Vec<(&'t str, JsonValue<'t>)>, OutOfMemory>
     requires { IsTrue are_ordered → IsOrdered (entries members.items) }
-    ensures { IfOk result (λ v. members_view v.items ≡ put_all (entries members.entry.items) no_members) }
+    ensures { IfOk result (λ v. members_view v.items ≡ all_put members.entry.items) }
 {
     if are_ordered {
         Ok(members)
@@ -87,8 +86,7 @@ pub fn are_ascending(members: &[(&str, JsonValue<'_>)]) -> bool
 
 // Whether a name belongs behind the last member.
 fn belongs_last(members: &[(&str, JsonValue<'_>)], name: &str) -> bool
-    ensures { IsTrue result → IsOrdered (entries members.now)
-        → place_of name.now (entries members.now) ≡ Err (length members.now) }
+    ensures { IsTrue result → BelongsLast name.now members.now }
 {
     match members.last() {
         Some(last) => name > last.0,
@@ -117,8 +115,7 @@ fn put_member<'t>(
     value: JsonValue<'t>,
 ) -> Result<(), OutOfMemory>
     requires { IsOrdered (entries members.old.items) }
-    ensures put { OnOk result
-        (members_view members.new.items ≡ put name.now (view value.entry) (members_view members.old.items)) }
+    ensures put { OnOk result (Puts name.now (view value.entry) members.old.items members.new.items) }
     ensures ordered { OnOk result (IsOrdered (entries members.new.items)) }
 {
     match place_of(members.as_slice(), name) {
@@ -133,7 +130,7 @@ fn sorted<'t>(
     alloc: Global,
     members: Vec<(&'t str, JsonValue<'t>)>,
 ) -> Result<Vec<(&'t str, JsonValue<'t>)>, OutOfMemory>
-    ensures { IfOk result (λ v. members_view v.items ≡ put_all (entries members.entry.items) no_members) }
+    ensures { IfOk result (λ v. members_view v.items ≡ all_put members.entry.items) }
 {
     let mut found = BTreeMap::new(alloc);
     'members: for (name, value) in members {

@@ -1,13 +1,12 @@
 // JSON texts as values.
-ghost use Rattle.std.specs.Prelude.{◌≡◌, ◌≤◌, ◌∷◌, [], suc, length, IfOk, OnOk, MatchResult, IsTrue};
+ghost use Rattle.std.specs.Prelude.{◌≡◌, ◌≤◌, ◌∷◌, suc, length, IfOk, OnOk, MatchResult, IsTrue};
 ghost use Rattle.json.specs.Reads.{token_of};
-ghost use Rattle.serde_json.specs.Data.{no_members};
 ghost use Rattle.serde_json.specs.Read.{read};
 ghost use Rattle.smithy_json.specs.FromText.{json_of};
-ghost use Rattle.smithy_json.specs.JsonView.{view, items_view, members_view};
+ghost use Rattle.smithy_json.specs.views.JsonView.{view, items_view, members_view};
 ghost use Rattle.smithy_json.specs.Ordered.{is_ordered};
 ghost use Rattle.smithy_json.specs.Reads.{Reads};
-ghost use Rattle.smithy_json.specs.Tokens.{value_at, items_at, members_at, Takes};
+ghost use Rattle.smithy_json.specs.Tokens.{value_at, items_at, object_at, NextToken, Takes};
 
 use crate::error::JsonError;
 use crate::in_order::{add_member, in_order};
@@ -59,8 +58,7 @@ fn only_value<'t>(
 // The token that comes next, where one is wanted.
 #[inline(always)]
 fn next_token<'t>(reader: &mut Reader<'t>) -> Result<Token<'t>, JsonError>
-    ensures { MatchResult result (λ t. reader.old ≡ token_of t ∷ reader.new)
-        (λ e. (e ≡ JsonError.Unreadable) × (reader.old ≡ [])) }
+    ensures { NextToken reader.old reader.new result }
 {
     reader.next().ok_or(JsonError::Unreadable)
 }
@@ -133,8 +131,7 @@ fn members_from<'t>(
     reader: &mut Reader<'t>,
     depth: usize,
 ) -> Result<Vec<(&'t str, JsonValue<'t>)>, JsonError>
-    ensures members { Takes (λ v. members_view v.items) (members_at depth no_members reader.old)
-        reader.new result }
+    ensures members { Takes (λ v. members_view v.items) (object_at depth reader.old) reader.new result }
     ensures left { OnOk result (length reader.new ≤ length reader.old) }
 {
     let mut found = Vec::new(alloc);

@@ -1,7 +1,7 @@
 // Values of JSON.
 ghost use Rattle.std.specs.Prelude.{◌≡◌, option_map, option_and_then};
 ghost use Rattle.serde_json.specs.Find.{get, get_member, as_str, as_bool, as_array, as_object, as_number, as_u64};
-ghost use Rattle.smithy_json.specs.JsonView.{view, items_view, members_view};
+ghost use Rattle.smithy_json.specs.views.JsonView.{view, items_view, members_view};
 
 use serde_json::Number;
 

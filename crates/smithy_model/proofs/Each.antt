@@ -20,7 +20,7 @@ pub each_next : {A B X : Type 0} (view : X → A) (f : A → Option B) (done : L
     → and_rest done (each f (map view xs)) ≡ and_rest (done ++ y ∷ []) (each f (map view rest))
 each_next view f done y x xs rest is e = rw (is, e) (more_before done (y ∷ []) (each f (map view rest)))
 
--- the item at a place
+-- the item at a position
 pub each_at : {A B X : Type 0} (view : X → A) (f : A → Option B) (done : List B) (y : B) (xs : List X) (i : ℕ) (d : X) → i < length xs → f (view (get_or xs i d)) ≡ Some y
     → and_rest done (each f (map view (drop i xs))) ≡ and_rest (done ++ y ∷ []) (each f (map view (drop (i + 1) xs)))
 each_at view f done y xs i d l e = each_next view f done y (get_or xs i d) (drop i xs) (drop (i + 1) xs) (drop_more xs i d l) e

@@ -1,21 +1,21 @@
--- Places of a table that get their nodes one after another.
+-- Indexes of a table that get their nodes one after another.
 use Rattle.std.proofs.Common.{◌≡◌, refl, sym, ap, ◌∙◌, subst, ℕ, suc, ◌+◌, List, [], ◌∷◌, ◌++◌, append_assoc, length, length-append, set, arith, Option, Some, None}
 use Rattle.std.proofs.lemmas.List.{append-nil}
 use Rattle.smithy_schema.specs.Nodes.{Node, Table}
-use Rattle.smithy_model.specs.NodeView.{filled, IsFilledBy, IsFilled}
+use Rattle.smithy_model.specs.views.NodeView.{filled, IsFilledBy, IsFilled}
 use Rattle.smithy_model.proofs.Each.{and_rest, none_before, more_before}
 
 set-hole : (done : List Node) (holes : ℕ) (n : Node) → set (filled done (suc holes)) (length done) (Some n) ≡ filled (done ++ n ∷ []) holes
 set-hole [] holes n = refl
 set-hole (d ∷ done) holes n = ap (λ (t : Table). Some d ∷ t) (set-hole done holes n)
 
--- a place that was only declared gets its node
-pub filled-one : (place : ℕ) (n : Node) (before after : Table) → after ≡ set before place (Some n) → IsFilledBy place (n ∷ []) before after
-filled-one place n before after e done holes l b =
+-- a index that was only declared gets its node
+pub filled-one : (index : ℕ) (n : Node) (before after : Table) → after ≡ set before index (Some n) → IsFilledBy index (n ∷ []) before after
+filled-one index n before after e done holes l b =
     let one : 1 + holes ≡ suc holes = omega arith in
     e ∙ rw (b, one, ← l) (set-hole done holes n)
 
--- some places, and then those behind them
+-- some indexes, and then those behind them
 pub filled-both : (first second : ℕ) (xs ys : List Node) (t u v : Table) → second ≡ first + length xs → IsFilledBy first xs t u → IsFilledBy second ys u v → IsFilledBy first (xs ++ ys) t v
 filled-both first second xs ys t u v s h k done holes l b =
     let count : length (xs ++ ys) + holes ≡ length xs + (length ys + holes) = rw (length-append xs ys) (omega arith) in

@@ -1,11 +1,11 @@
--- What a slice lends at a place.
+-- What a slice lends at a position.
 use Rattle.std.proofs.Common.{◌≡◌, ℕ, List, length, map, Option, Some, None, option_map, Bor, refl, sym, ap, ◌∙◌}
 use Rattle.std.specs.List.{slice_get}
 use Rattle.std.specs.Slice.{IsItemAt}
 use Rattle.std.proofs.lemmas.List.{length-map}
 use Rattle.std.proofs.lemmas.Option.{slice_get_past, slice_get_read, slice_get-map}
-use Rattle.smithy_model.specs.ModelView.{shape_view}
-use Rattle.smithy_model.specs.PlaceView.{texts}
+use Rattle.smithy_model.specs.views.ModelView.{shape_view}
+use Rattle.smithy_model.specs.views.NameView.{texts}
 use Rattle.smithy_model.specs.declared.shape.Shape.{Shape}
 
 pub item_at : {X : Type 0} (xs : List X) (i : ℕ) (r : Option (Bor X)) → IsItemAt xs i r → option_map (λ x. x.now) r ≡ slice_get xs i

@@ -12,7 +12,7 @@ use Rattle.std.proofs.lemmas.List.Sorted.{searchable_from_sorted}
 use Rattle.serde_json.specs.Data as parsed
 use Rattle.serde_json.specs.Data.{Members}
 use Rattle.serde_json.specs.Find.{get_member}
-use Rattle.smithy_json.specs.JsonView.{Member, view, members_view, entries}
+use Rattle.smithy_json.specs.views.JsonView.{Member, view, members_view, entries}
 
 abbrev compare : List ℕ → List ℕ → Ordering
 compare = slice_cmp nat_cmp

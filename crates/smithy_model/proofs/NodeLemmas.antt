@@ -8,20 +8,20 @@ use Rattle.smithy_ids.specs.declared.payload_hint.PayloadHint.TheVariants.{Unkno
 use Rattle.smithy_schema.specs.Nodes.{Node, Table, bare_node}
 use Rattle.smithy_model.specs.Shapes as shapes
 use Rattle.smithy_model.specs.Nodes.{Spot, element_at, key_at, value_at, is_structure, members_at, are_outside, hint_of, spot_named, member_count, member_id, member_node, member_nodes_from, member_nodes, shape_node}
-use Rattle.smithy_model.specs.ModelView.{member_view, shape_view}
-use Rattle.smithy_model.specs.SpotView.{spot_view}
-use Rattle.smithy_model.specs.NodeView.{IsFilledBy, IsFilled}
+use Rattle.smithy_model.specs.views.ModelView.{member_view, shape_view}
+use Rattle.smithy_model.specs.views.SpotView.{spot_view}
+use Rattle.smithy_model.specs.views.NodeView.{IsFilledBy, IsFilled}
 use Rattle.smithy_model.specs.declared.shape.Member.{Member}
 use Rattle.smithy_model.specs.declared.shape.Shape.{Shape}
 use Rattle.smithy_model.specs.declared.spots.Spot as declared
 use Rattle.smithy_model.proofs.FilledLemmas.{Filled, filled-more}
 
 -- a member of a shape
-pub member-more : (ss : List Spot) (shape : List ℕ) (first place : ℕ) (ms : List Member) (i : ℕ) (m : Member) (spot : Spot) (t u v : Table) (all : Option (List Node)) → i < length ms → m ≡ get_or ms i m
-    → Some spot ≡ spot_named ss m.target.now → place ≡ first + i → IsFilledBy place (member_node ss (member_id shape m.name.now) i (member_view m) spot ∷ []) u v
+pub member-more : (ss : List Spot) (shape : List ℕ) (first index : ℕ) (ms : List Member) (i : ℕ) (m : Member) (spot : Spot) (t u v : Table) (all : Option (List Node)) → i < length ms → m ≡ get_or ms i m
+    → Some spot ≡ spot_named ss m.target.now → index ≡ first + i → IsFilledBy index (member_node ss (member_id shape m.name.now) i (member_view m) spot ∷ []) u v
     → Filled first (first + i) t u (member_nodes_from ss shape i (map member_view (drop i ms))) all
     → Filled first (first + (i + 1)) t v (member_nodes_from ss shape (i + 1) (map member_view (drop (i + 1) ms))) all
-member-more ss shape first place ms i m spot t u v all l is e p k h =
+member-more ss shape first index ms i m spot t u v all l is e p k h =
     let node = member_node ss (member_id shape m.name.now) i (member_view m) spot in
     filled-more first (first + i) (first + (i + 1)) (node ∷ []) t u v _ all (omega arith) (subst (λ q. IsFilledBy q (node ∷ []) u v) p k) (rw (drop_more ms i m l, ← is, ← e) at h)
 
@@ -66,15 +66,15 @@ shape-more ss xs i x ms next after t u v all l is m a k h =
         filled-more 0 next after ns t u v _ all (omega (arith, count, a)) some (rw (drop_more xs i x l, ← is, e) at h)
 
 -- the shapes themselves
-pub spot-more : (ss : List Spot) (first place : ℕ) (xs : List declared.Spot) (i : ℕ) (x : declared.Spot) (t u v : Table) (all : Option (List Node)) → i < length xs → x ≡ get_or xs i x
-    → place ≡ first + i → IsFilledBy place (shape_node ss (spot_view x) ∷ []) u v
+pub spot-more : (ss : List Spot) (first index : ℕ) (xs : List declared.Spot) (i : ℕ) (x : declared.Spot) (t u v : Table) (all : Option (List Node)) → i < length xs → x ≡ get_or xs i x
+    → index ≡ first + i → IsFilledBy index (shape_node ss (spot_view x) ∷ []) u v
     → Filled first (first + i) t u (Some (map (shape_node ss) (map spot_view (drop i xs)))) all
     → Filled first (first + (i + 1)) t v (Some (map (shape_node ss) (map spot_view (drop (i + 1) xs)))) all
-spot-more ss first place xs i x t u v all l is p k h =
+spot-more ss first index xs i x t u v all l is p k h =
     let node = shape_node ss (spot_view x) in
     filled-more first (first + i) (first + (i + 1)) (node ∷ []) t u v _ all (omega arith) (subst (λ q. IsFilledBy q (node ∷ []) u v) p k) (rw (drop_more xs i x l, ← is) at h)
 
--- one more place
+-- one more index
 pub range-more : (a n : ℕ) → range_with_len a (n + 1) ≡ range_with_len a n ++ (a + n) ∷ []
 range-more a zero = let here : a + 0 ≡ a = omega arith in rw here refl
 range-more a (suc n) =

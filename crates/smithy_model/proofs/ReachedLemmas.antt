@@ -1,4 +1,4 @@
--- Shapes that are reached, and the places of their names.
+-- Shapes that are reached, and the positions of their names.
 use Rattle.std.proofs.Common.{◌≡◌, refl, sym, ap, ◌∙◌, cond, ℕ, suc, ◌+◌, Bool, true, false, ◌||◌, ◌&&◌, List, [], ◌∷◌, ◌++◌, append_assoc, length, map, find, arith, Option, Some, None, option_map, option_and_then, Bor, subst}
 use Rattle.std.specs.List.{list_all, slice_get}
 use Rattle.std.specs.Option.{is_some, option_or}
@@ -18,42 +18,42 @@ use Rattle.smithy_model.specs.GivenTraits.{traits_of}
 use Rattle.smithy_ids.specs.declared.shape_type.ShapeType.{ShapeType}
 use Rattle.smithy_schema.specs.Nodes.{Traits}
 use Rattle.smithy_model.specs.Reached.{is_among, with_name, with_names, with_targets, names_of, reached_in, reached}
-use Rattle.smithy_model.specs.PlaceView.{found_in, place_from, place_in, ArePlaces}
+use Rattle.smithy_model.specs.views.NameView.{found_in, position_from, position_in, ArePositions}
 
-pub among-place : (p : ℕ) (ns : List (List ℕ)) (q : List ℕ) → is_some (place_from p ns q) ≡ is_among ns q
-among-place p [] q = refl
-among-place p (n ∷ ns) q = go (is n q) (among-place (p + 1) ns q)
+pub among-position : (p : ℕ) (ns : List (List ℕ)) (q : List ℕ) → is_some (position_from p ns q) ≡ is_among ns q
+among-position p [] q = refl
+among-position p (n ∷ ns) q = go (is n q) (among-position (p + 1) ns q)
   where
-    go : (b : Bool) → is_some (place_from (p + 1) ns q) ≡ is_among ns q → is_some (cond b (Some p) (place_from (p + 1) ns q)) ≡ b || is_among ns q
+    go : (b : Bool) → is_some (position_from (p + 1) ns q) ≡ is_among ns q → is_some (cond b (Some p) (position_from (p + 1) ns q)) ≡ b || is_among ns q
     go true h = refl
     go false h = h
 
 -- a further name behind
-place-apart : (p : ℕ) (ns : List (List ℕ)) (n q : List ℕ) → is n q ≡ false → place_from p (ns ++ n ∷ []) q ≡ place_from p ns q
-place-apart p [] n q e = rw e refl
-place-apart p (m ∷ ns) n q e = ap (cond (is m q) (Some p)) (place-apart (p + 1) ns n q e)
+position-apart : (p : ℕ) (ns : List (List ℕ)) (n q : List ℕ) → is n q ≡ false → position_from p (ns ++ n ∷ []) q ≡ position_from p ns q
+position-apart p [] n q e = rw e refl
+position-apart p (m ∷ ns) n q e = ap (cond (is m q) (Some p)) (position-apart (p + 1) ns n q e)
 
-place-last : (p : ℕ) (ns : List (List ℕ)) (n q : List ℕ) → is n q ≡ true → is_among ns q ≡ false → place_from p (ns ++ n ∷ []) q ≡ Some (p + length ns)
-place-last p [] n q e a = rw e (ap (λ k. Some k) (omega arith))
-place-last p (m ∷ ns) n q e a = go (is m q) a (place-last (p + 1) ns n q e)
+position-last : (p : ℕ) (ns : List (List ℕ)) (n q : List ℕ) → is n q ≡ true → is_among ns q ≡ false → position_from p (ns ++ n ∷ []) q ≡ Some (p + length ns)
+position-last p [] n q e a = rw e (ap (λ k. Some k) (omega arith))
+position-last p (m ∷ ns) n q e a = go (is m q) a (position-last (p + 1) ns n q e)
   where
-    go : (b : Bool) → b || is_among ns q ≡ false → (is_among ns q ≡ false → place_from (p + 1) (ns ++ n ∷ []) q ≡ Some (p + 1 + length ns)) → cond b (Some p) (place_from (p + 1) (ns ++ n ∷ []) q) ≡ Some (p + length (m ∷ ns))
+    go : (b : Bool) → b || is_among ns q ≡ false → (is_among ns q ≡ false → position_from (p + 1) (ns ++ n ∷ []) q ≡ Some (p + 1 + length ns)) → cond b (Some p) (position_from (p + 1) (ns ++ n ∷ []) q) ≡ Some (p + length (m ∷ ns))
     go true h k = absurd (cc h)
     go false h k = k h ∙ ap (λ k. Some k) (omega arith)
 
 -- a name that was not there is the last one now
-pub places_more : (ns : List (List ℕ)) (n : List ℕ) (p : ℕ) (old new : BTreeMap (Bor (List ℕ)) ℕ) → p ≡ length ns → is_among ns n ≡ false
+pub positions_more : (ns : List (List ℕ)) (n : List ℕ) (p : ℕ) (old new : BTreeMap (Bor (List ℕ)) ℕ) → p ≡ length ns → is_among ns n ≡ false
     → UpdatesBy (λ x y. slice_cmp nat_cmp x.now y.now) (λ k. slice_cmp nat_cmp n k.now) old new (Some p)
-    → ArePlaces old ns → ArePlaces new (ns ++ n ∷ [])
-places_more ns n p old new l a updates h q = btree_map_updates_str n old new (Some p) updates q ∙ go (is n q) refl
+    → ArePositions old ns → ArePositions new (ns ++ n ∷ [])
+positions_more ns n p old new l a updates h q = btree_map_updates_str n old new (Some p) updates q ∙ go (is n q) refl
   where
-    go : (b : Bool) → is n q ≡ b → cond b (Some p) (found_in old q) ≡ place_in (ns ++ n ∷ []) q
+    go : (b : Bool) → is n q ≡ b → cond b (Some p) (found_in old q) ≡ position_in (ns ++ n ∷ []) q
     go true e =
         let same : n ≡ q = (bytes_eq-Decides n q).0 e in
         let none : is_among ns q ≡ false = subst (λ m. is_among ns m ≡ false) same a in
         let here : 0 + length ns ≡ p = omega (arith, l) in
-        sym (place-last 0 ns n q e none ∙ ap (λ k. Some k) here)
-    go false e = h q ∙ sym (place-apart 0 ns n q e)
+        sym (position-last 0 ns n q e none ∙ ap (λ k. Some k) here)
+    go false e = h q ∙ sym (position-apart 0 ns n q e)
 
 -- the names stay in front
 pub with_name-front : (ns : List (List ℕ)) (n : List ℕ) → (rest : List (List ℕ)) × (with_name ns n ≡ ns ++ rest)
@@ -70,13 +70,13 @@ with_names-front ns (m ∷ ms) =
     let others = with_names-front (with_name ns m) ms in
     (first.0 ++ others.0, others.1 ∙ ap (λ xs. xs ++ others.0) first.1 ∙ append_assoc ns first.0 others.0)
 
-pub met_already : (ns : List (List ℕ)) (q : List ℕ) (p : ℕ) → Some p ≡ place_in ns q → ns ≡ with_name ns q
+pub met_already : (ns : List (List ℕ)) (q : List ℕ) (p : ℕ) → Some p ≡ position_in ns q → ns ≡ with_name ns q
 met_already ns q p e =
-    let among : is_among ns q ≡ true = sym (among-place 0 ns q) ∙ ap is_some (sym e) in
+    let among : is_among ns q ≡ true = sym (among-position 0 ns q) ∙ ap is_some (sym e) in
     rw among refl
 
-pub absent : (ns : List (List ℕ)) (q : List ℕ) → None ≡ place_in ns q → is_among ns q ≡ false
-absent ns q e = sym (among-place 0 ns q) ∙ ap is_some (sym e)
+pub absent : (ns : List (List ℕ)) (q : List ℕ) → None ≡ position_in ns q → is_among ns q ≡ false
+absent ns q e = sym (among-position 0 ns q) ∙ ap is_some (sym e)
 
 pub met_now : (ns : List (List ℕ)) (q : List ℕ) → is_among ns q ≡ false → ns ++ q ∷ [] ≡ with_name ns q
 met_now ns q a = rw a refl

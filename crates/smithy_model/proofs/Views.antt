@@ -2,7 +2,7 @@
 use Rattle.std.proofs.Common.{◌≡◌, ℕ, List, [], ◌∷◌, map, Option, Some, None, option_map, Bor, refl, sym, ap, ◌∙◌}
 use Rattle.serde_json.specs.Data.{Data}
 use Rattle.serde_json.specs.Find.{as_array, as_object}
-use Rattle.smithy_json.specs.JsonView.{Member, view, items_view, members_view, entry_of, entries}
+use Rattle.smithy_json.specs.views.JsonView.{Member, view, items_view, members_view, entry_of, entries}
 use Rattle.smithy_json.specs.declared.value.JsonValue.{JsonValue}
 use Rattle.smithy_model.specs.Json as json
 use Rattle.smithy_model.specs.Json.{listed, items_in, members_in}

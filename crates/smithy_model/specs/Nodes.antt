@@ -12,9 +12,9 @@ use Rattle.smithy_types.specs.Results.{each}
 use Rattle.smithy_model.specs.Names.{is}
 use Rattle.smithy_model.specs.Shapes.{Member, Shape}
 
--- where a shape stands: its own place, and that of its first member
+-- where a shape stands: its own index, and that of its first member
 pub record Spot : Type 0 where
-  pub place : ℕ
+  pub index : ℕ
   pub first : ℕ
   pub shape : Shape
 
@@ -23,8 +23,8 @@ member_count [] = 0
 member_count (s ∷ ss) = length s.members + member_count ss
 
 abbrev pub spots_from : ℕ → ℕ → List Shape → List Spot
-spots_from first place [] = []
-spots_from first place (s ∷ ss) = record { place = place; first = first; shape = s } ∷ spots_from (first + length s.members) (place + 1) ss
+spots_from first index [] = []
+spots_from first index (s ∷ ss) = record { index = index; first = first; shape = s } ∷ spots_from (first + length s.members) (index + 1) ss
 
 abbrev pub spots : List Shape → List Spot
 spots shapes = spots_from 0 (member_count shapes) shapes
@@ -36,7 +36,7 @@ spot_named spots name = find (λ s. is s.shape.name name) spots
 abbrev pub member_id : List ℕ → List ℕ → List ℕ
 member_id shape name = shape ++ 36 ∷ name
 
--- where the element of a list stands, where its first member has this place
+-- where the element of a list stands, where its first member has this index
 abbrev pub element_at : ShapeType → ℕ → Option ℕ
 element_at kind.List first = Some first
 element_at _ first = None
@@ -57,7 +57,7 @@ is_structure _ = false
 abbrev pub members_at : ShapeType → ℕ → ℕ → List ℕ
 members_at k first count = if is_structure k then range_with_len first count else []
 
--- a node that cites what a shape of this kind holds, whose first member has this place
+-- a node that cites what a shape of this kind holds, whose first member has this index
 abbrev pub holding : ShapeType → ℕ → Node → Node
 holding k first node = record node { element = element_at k first; key = key_at k first; value = value_at k first }
 
@@ -89,7 +89,7 @@ passed_traits spots traits target =
 -- a member of this full name at a position, of the shape at a spot, without its traits
 abbrev pub bare_member : List ℕ → ℕ → List ℕ → Spot → Node
 bare_member full_name position name spot =
-    record (holding_node full_name spot) { member_name = Some name; member_index = Some position; target = Some spot.place }
+    record (holding_node full_name spot) { member_name = Some name; member_index = Some position; target = Some spot.index }
 
 -- the same with its traits
 abbrev pub member_node : List Spot → List ℕ → ℕ → Member → Spot → Node
@@ -159,9 +159,9 @@ natural_node = bare_node (codes "smithy.api#Document") kind.Document
 unfoldable pub schema_of : List Shape → List ℕ → Option Schema
 schema_of shapes name = option_and_then (λ nodes. schema_named (nodes ++ natural_node ∷ []) (spots shapes) name) (nodes_of shapes)
 
--- the place of the shape of this name
-abbrev pub place_named : List Spot → List ℕ → Option ℕ
-place_named spots name = option_map (λ spot. spot.place) (spot_named spots name)
+-- the index of the shape of this name
+abbrev pub index_named : List Spot → List ℕ → Option ℕ
+index_named spots name = option_map (λ spot. spot.index) (spot_named spots name)
 
 -- the errors of an operation, and those of its service
 pub record Errors : Type 0 where

@@ -1,5 +1,5 @@
 -- The shapes of a model (Smithy, JSON AST).
-use Rattle.std.specs.Prelude.{ℕ, nat_eq, List, [], ◌∷◌, codes, Bool, true, false, not, ◌&&◌, ◌==◌, length, Option, Some, None, option_map, option_and_then, if◌then◌else◌}
+use Rattle.std.specs.Prelude.{ℕ, nat_eq, List, [], ◌∷◌, codes, find, Bool, true, false, not, ◌&&◌, ◌==◌, length, Option, Some, None, option_map, option_and_then, if◌then◌else◌}
 use Rattle.std.specs.List.{starts_with}
 use Rattle.std.specs.Option.{option_map_or, option_or}
 use Rattle.serde_json.specs.Data.{Data}
@@ -59,40 +59,33 @@ members_by kind.List shape = element_in shape
 members_by kind.Map shape = key_and_value_in shape
 members_by _ shape = Some []
 
--- the types of numbers (Smithy, simple types)
-abbrev pub number_kind : List ℕ → Option ShapeType
-number_kind type =
-    if is type (codes "byte") then Some kind.Byte
-    else (if is type (codes "short") then Some kind.Short
-    else (if is type (codes "integer") then Some kind.Integer
-    else (if is type (codes "long") then Some kind.Long
-    else (if is type (codes "float") then Some kind.Float
-    else (if is type (codes "double") then Some kind.Double
-    else (if is type (codes "bigInteger") then Some kind.BigInteger
-    else (if is type (codes "bigDecimal") then Some kind.BigDecimal else None)))))))
+-- the types of shapes that have a schema, with their kinds; an enum is a string, an intEnum an integer, a set a list (Smithy, simple and aggregate types)
+abbrev pub type_kinds : List (List ℕ × ShapeType)
+type_kinds =
+    (codes "byte", kind.Byte)
+    ∷ (codes "short", kind.Short)
+    ∷ (codes "integer", kind.Integer)
+    ∷ (codes "long", kind.Long)
+    ∷ (codes "float", kind.Float)
+    ∷ (codes "double", kind.Double)
+    ∷ (codes "bigInteger", kind.BigInteger)
+    ∷ (codes "bigDecimal", kind.BigDecimal)
+    ∷ (codes "boolean", kind.Boolean)
+    ∷ (codes "string", kind.String)
+    ∷ (codes "blob", kind.Blob)
+    ∷ (codes "timestamp", kind.Timestamp)
+    ∷ (codes "document", kind.Document)
+    ∷ (codes "enum", kind.String)
+    ∷ (codes "intEnum", kind.Integer)
+    ∷ (codes "list", kind.List)
+    ∷ (codes "set", kind.List)
+    ∷ (codes "map", kind.Map)
+    ∷ (codes "structure", kind.Structure)
+    ∷ (codes "union", kind.Union)
+    ∷ []
 
--- the other types that hold no other shape (Smithy, simple types)
-abbrev pub simple_kind : List ℕ → Option ShapeType
-simple_kind type =
-    if is type (codes "boolean") then Some kind.Boolean
-    else (if is type (codes "string") then Some kind.String
-    else (if is type (codes "blob") then Some kind.Blob
-    else (if is type (codes "timestamp") then Some kind.Timestamp
-    else (if is type (codes "document") then Some kind.Document else None))))
-
--- the types that stand for another one, and those that hold other shapes (Smithy, enum, intEnum, aggregate types)
-abbrev pub other_kind : List ℕ → Option ShapeType
-other_kind type =
-    if is type (codes "enum") then Some kind.String
-    else (if is type (codes "intEnum") then Some kind.Integer
-    else (if is type (codes "list") then Some kind.List
-    else (if is type (codes "set") then Some kind.List
-    else (if is type (codes "map") then Some kind.Map
-    else (if is type (codes "structure") then Some kind.Structure
-    else (if is type (codes "union") then Some kind.Union else None))))))
-
-abbrev pub kind_named : List ℕ → Option ShapeType
-kind_named type = option_or (number_kind type) (option_or (simple_kind type) (other_kind type))
+unfoldable pub kind_named : List ℕ → Option ShapeType
+kind_named type = option_map (λ p. p.1) (find (λ p. is p.0 type) type_kinds)
 
 abbrev pub kind_in : Data → Option ShapeType
 kind_in shape = option_and_then kind_named (text_at (codes "type") shape)

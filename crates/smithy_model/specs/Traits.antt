@@ -92,6 +92,10 @@ abbrev pub with_traits : Traits → List (List ℕ × Data) → Traits
 with_traits t [] = t
 with_traits t (entry ∷ entries) = with_traits (with_trait t entry.0 entry.1) entries
 
+-- those of an object's members, none where one is not fit
+abbrev pub fit_among : List (List ℕ × Data) → Option Traits
+fit_among entries = provided (list_all is_fit_trait entries) (Some (with_traits no_traits entries))
+
 abbrev pub plain_traits : Data → Traits
 plain_traits d = option_map_or (with_traits no_traits) (members_in d) no_traits
 

@@ -1,9 +1,9 @@
 // Traits without a field of their own, as documents.
-ghost use Rattle.std.specs.Prelude.{◌≡◌, [], map, option_map, IfOk, OnOk};
-ghost use Rattle.smithy_json.specs.JsonView.{view, entries};
+ghost use Rattle.std.specs.Prelude.{◌≡◌, [], IfOk, OnOk};
+ghost use Rattle.smithy_json.specs.views.JsonView.{view, entries};
 ghost use Rattle.smithy_schema.specs.Nodes.{no_traits};
 ghost use Rattle.smithy_model.specs.Further.{with_further, further_in, further_traits};
-ghost use Rattle.smithy_model.specs.ModelView.{traits_view};
+ghost use Rattle.smithy_model.specs.views.ModelView.{traits_view};
 
 use crate::json_value::members_of;
 use crate::shape::ShapeTraits;

@@ -1,6 +1,6 @@
 // JSON values, read where they stand.
 ghost use Rattle.std.specs.Prelude.{◌≡◌, map, option_map};
-ghost use Rattle.smithy_json.specs.JsonView.{view, entries};
+ghost use Rattle.smithy_json.specs.views.JsonView.{view, entries};
 ghost use Rattle.smithy_model.specs.Json.{items_in, members_in, text_at};
 
 use smithy_json::JsonValue;

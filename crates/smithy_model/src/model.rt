@@ -1,17 +1,17 @@
 // From a model and the name of an operation to its schemas.
 ghost use Rattle.std.specs.Prelude.{◌≡◌};
-ghost use Rattle.smithy_json.specs.JsonView.{view};
+ghost use Rattle.smithy_json.specs.views.JsonView.{view};
 ghost use Rattle.smithy_model.specs.Models.{http_asked, schema_in_model, errors_in_model};
-ghost use Rattle.smithy_model.specs.ModelView.{asked_view, operation_view};
-ghost use Rattle.smithy_model.specs.PlaceView.{texts};
-ghost use Rattle.smithy_model.specs.PlacedView.{Places, PlacesErrors};
+ghost use Rattle.smithy_model.specs.views.ModelView.{asked_view, operation_view};
+ghost use Rattle.smithy_model.specs.views.NameView.{texts};
+ghost use Rattle.smithy_model.specs.views.PlacedView.{Places, PlacesErrors};
 
 use crate::error::JobError;
 use crate::model_shapes::ModelShapes;
 use crate::operation::{name_asked, operation_at};
 use crate::reached::{shapes_from, with_http};
 use crate::shape::{Asked, Operation};
-use crate::table::{Placed, PlacedErrors, errors_of, table_of};
+use crate::table::{ModelTable, PlacedErrors, errors_of, table_of};
 use smithy_ids::HttpTrait;
 use smithy_json::JsonValue;
 use std::alloc::Global;
@@ -36,7 +36,7 @@ pub fn schema_of_operation(
     model: &JsonValue<'_>,
     name: &str,
     asked: Asked<'_>,
-) -> Result<Placed, JobError>
+) -> Result<ModelTable, JobError>
     ensures { Places (schema_in_model (asked_view asked.entry) (view model.now) name.now) result }
 {
     let Some(object) = model.get("shapes") else {

@@ -2,7 +2,7 @@
 ghost use Rattle.std.specs.Prelude.{IsTrue};
 ghost use Rattle.std.proofs.Props.{props};
 ghost use Rattle.smithy_types.specs.Maps.{IsOrdered};
-ghost use Rattle.smithy_json.specs.JsonView.{entries};
+ghost use Rattle.smithy_json.specs.views.JsonView.{entries};
 
 use smithy_json::{JsonValue, are_ascending, value_named};
 
@@ -17,8 +17,8 @@ pub struct ModelShapes<'v, 't> {
 impl<'v, 't> ModelShapes<'v, 't> {
     ghost use Rattle.std.specs.Prelude.{◌≡◌, option_map, None, IfSome, IsNone};
     ghost use Rattle.serde_json.specs.Find.{get, as_object};
-    ghost use Rattle.smithy_json.specs.JsonView.{view, members_view};
-    ghost use Rattle.smithy_model.specs.ModelView.{shapes_view};
+    ghost use Rattle.smithy_json.specs.views.JsonView.{view};
+    ghost use Rattle.smithy_model.specs.views.ModelView.{shapes_view};
 
     /// The shapes in an object. None where it is no object. It goes over their names once, and takes no memory.
     pub fn of(object: &'v JsonValue<'t>) -> Option<ModelShapes<'v, 't>>
@@ -40,7 +40,7 @@ impl<'v, 't> ModelShapes<'v, 't> {
             return value_named(self.members, name);
         }
         match self.members.binary_search_by(|member| member.0.cmp(name)) {
-            Ok(place) => Some(&self.members[place].1),
+            Ok(position) => Some(&self.members[position].1),
             Err(_) => None,
         }
     }

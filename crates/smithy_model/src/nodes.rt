@@ -1,18 +1,16 @@
 // The nodes of members and shapes.
-ghost use Rattle.std.specs.Prelude.{◌≡◌, ◌∷◌, [], true, false, None, Some, map, string_bytes, IfOk, OnOk};
+ghost use Rattle.std.specs.Prelude.{◌≡◌, [], true, false, None, Some, string_bytes, IfOk};
 ghost use Rattle.std.specs.List.{range_with_len};
 ghost use Rattle.smithy_ids.specs.ShapeIds.{has_hash};
 ghost use Rattle.smithy_ids.specs.ShapeIdParts.{parts_of};
 ghost use Rattle.smithy_schema.specs.Places.{places_of};
 ghost use Rattle.smithy_model.specs.Nodes as defined;
-ghost use Rattle.smithy_model.specs.ModelView.{member_view};
-ghost use Rattle.smithy_model.specs.SpotView.{spot_view};
-ghost use Rattle.smithy_model.specs.NodeView.{spots_of, IsFilledBy};
+ghost use Rattle.smithy_model.specs.views.NodeView.{node_of, bare_member_at, shape_at, Sets};
 
 use crate::further::with_traits;
 use crate::passed::{copied, passed_traits};
 use crate::shape::Member;
-use crate::spots::{Spot, SpotMap, place_behind};
+use crate::spots::{Spot, SpotMap, index_behind};
 use crate::structure::{are_outside, hint_of, is_structure};
 use smithy_ids::{ShapeId, ShapeType};
 use smithy_schema::{Schema, SchemaIndex, Schemas};
@@ -30,18 +28,18 @@ fn shape_id(name: &str) -> ShapeId<'_>
     }
 }
 
-// Gives a declared place its node. The nodes come in the table's order, with places below its length, so that a table
+// Gives a declared index its node. The nodes come in the table's order, with indexes below its length, so that a table
 // refuses them for want of memory alone.
-fn define(table: &mut Schemas, place: usize, schema: Schema<'_>) -> Result<(), OutOfMemory>
-    ensures { OnOk result (IsFilledBy place (schema.entry ∷ []) table.old table.new) }
+fn define(table: &mut Schemas, index: usize, schema: Schema<'_>) -> Result<(), OutOfMemory>
+    ensures { Sets index schema.entry table.old table.new result }
 {
-    match table.define(SchemaIndex(place), schema) {
+    match table.define(SchemaIndex(index), schema) {
         Ok(()) => Ok(()),
         Err(_) => Err(OutOfMemory),
     }
 }
 
-// The same, citing what a shape of this kind holds, whose first member has this place. Condition: it cites nothing of that.
+// The same, citing what a shape of this kind holds, whose first member has this index. Condition: it cites nothing of that.
 fn holding<'a>(schema: Schema<'a>, kind: ShapeType, first: usize) -> Result<Schema<'a>, OutOfMemory>
     requires { schema ≡ record schema { members = []; element = None; key = None; value = None } }
     ensures { IfOk result (λ s. s ≡ defined.holding kind first schema.entry) }
@@ -49,7 +47,7 @@ fn holding<'a>(schema: Schema<'a>, kind: ShapeType, first: usize) -> Result<Sche
     match kind {
         ShapeType::List => Ok(schema.with_list_member(SchemaIndex(first))),
         ShapeType::Map => {
-            let second = place_behind(first, 1)?;
+            let second = index_behind(first, 1)?;
             Ok(schema.with_map_members(SchemaIndex(first), SchemaIndex(second)))
         }
         _ => Ok(schema),
@@ -63,11 +61,10 @@ fn member_schema<'a>(
     name: &'a str,
     position: usize,
 ) -> Result<Schema<'a>, OutOfMemory>
-    ensures { IfOk result (λ s.
-        s ≡ defined.bare_member (parts_of id.entry).full_name position name.now (spot_view spot.entry)) }
+    ensures { IfOk result (λ s. s ≡ bare_member_at id.entry position name.now spot.entry) }
 {
     let schema = Schema::new_member(id, spot.shape.kind, name, position).with_target(SchemaIndex(
-        spot.place,
+        spot.index,
     ));
     holding(schema, spot.shape.kind, spot.first)
 }
@@ -83,39 +80,36 @@ fn member_id(alloc: Global, shape: &str, name: &str) -> Result<String, OutOfMemo
     Ok(id)
 }
 
-/// Gives a place the node of a member of the shape of this name, of the shape at a spot. Takes memory.
+/// Gives a index the node of a member of the shape of this name, of the shape at a spot. Takes memory.
 pub fn define_member<'v, 't, 's>(
     alloc: Global,
     table: &mut Schemas,
     spots: &SpotMap<'v, 't, 's>,
-    place: usize,
+    index: usize,
     shape: &str,
     position: usize,
     member: &Member<'v, 't>,
     spot: Spot<'v, 't, 's>,
 ) -> Result<(), OutOfMemory>
     requires { has_hash shape.now ≡ true }
-    ensures { OnOk result (IsFilledBy place
-        (defined.member_of (spots_of spots.now) shape.now position
-        (member_view member.now) (spot_view spot.entry) ∷ [])
-        table.old table.new) }
+    ensures { Sets index (node_of spots.now shape.now position member.now spot.entry) table.old table.new result }
 {
     let traits = passed_traits(spots, &member.traits, spot.shape);
     let name = member.name;
     let full_name = member_id(alloc, shape, name)?;
     let schema = member_schema(shape_id(full_name.as_str()), spot, name, position)?;
-    define(table, place, with_traits(alloc, schema, traits)?)
+    define(table, index, with_traits(alloc, schema, traits)?)
 }
 
-// The places from this one, as many as there are members.
-fn places_from(alloc: Global, first: usize, count: usize) -> Result<Vec<SchemaIndex>, OutOfMemory>
-    ensures { IfOk result (λ places. places_of places.items ≡ range_with_len first count) }
+// The indexes from this one, as many as there are members.
+fn indexes_from(alloc: Global, first: usize, count: usize) -> Result<Vec<SchemaIndex>, OutOfMemory>
+    ensures { IfOk result (λ indexes. places_of indexes.items ≡ range_with_len first count) }
 {
-    let mut places = Vec::with_capacity(alloc, count)?;
+    let mut indexes = Vec::with_capacity(alloc, count)?;
     for position in 0..count {
-        places.push(SchemaIndex(place_behind(first, position)?))?;
+        indexes.push(SchemaIndex(index_behind(first, position)?))?;
     }
-    Ok(places)
+    Ok(indexes)
 }
 
 fn with_flag<'a>(schema: Schema<'a>, are_outside: bool) -> Schema<'a>
@@ -129,60 +123,56 @@ fn with_flag<'a>(schema: Schema<'a>, are_outside: bool) -> Schema<'a>
     }
 }
 
-// Gives a place the node of a structure or a union.
+// Gives a index the node of a structure or a union.
 fn define_structure<'v, 't, 's>(
     alloc: Global,
     table: &mut Schemas,
     spots: &SpotMap<'v, 't, 's>,
-    place: usize,
+    index: usize,
     spot: Spot<'v, 't, 's>,
 ) -> Result<(), OutOfMemory>
     requires structure { defined.is_structure spot.shape.now.kind ≡ true }
     requires name { has_hash spot.shape.now.name.now ≡ true }
-    ensures { OnOk result (IsFilledBy place
-        (defined.shape_node (spots_of spots.now) (spot_view spot.entry) ∷ [])
-        table.old table.new) }
+    ensures { Sets index (shape_at spots.now spot.entry) table.old table.new result }
 {
     let shape = spot.shape;
     let members = shape.members.as_slice();
-    let places = places_from(alloc, spot.first, members.len())?;
+    let indexes = indexes_from(alloc, spot.first, members.len())?;
     let schema = Schema::new_struct(
         shape_id(shape.name),
         shape.kind,
-        places.as_slice(),
+        indexes.as_slice(),
     ).with_payload_hint(hint_of(spots, members));
     let schema = with_flag(schema, are_outside(members));
     let schema = with_traits(alloc, schema, copied(&shape.traits))?;
-    define(table, place, schema)
+    define(table, index, schema)
 }
 
-/// Gives a place the node of a shape. Takes memory.
+/// Gives a index the node of a shape. Takes memory.
 pub fn define_shape<'v, 't, 's>(
     alloc: Global,
     table: &mut Schemas,
     spots: &SpotMap<'v, 't, 's>,
-    place: usize,
+    index: usize,
     spot: Spot<'v, 't, 's>,
 ) -> Result<(), OutOfMemory>
     requires { has_hash spot.shape.now.name.now ≡ true }
-    ensures { OnOk result (IsFilledBy place
-        (defined.shape_node (spots_of spots.now) (spot_view spot.entry) ∷ [])
-        table.old table.new) }
+    ensures { Sets index (shape_at spots.now spot.entry) table.old table.new result }
 {
     let shape = spot.shape;
     if is_structure(shape.kind) {
-        return define_structure(alloc, table, spots, place, spot);
+        return define_structure(alloc, table, spots, index, spot);
     }
     let schema = Schema::new(shape_id(shape.name), shape.kind);
     let schema = holding(schema, shape.kind, spot.first)?;
     let schema = with_traits(alloc, schema, copied(&shape.traits))?;
-    define(table, place, schema)
+    define(table, index, schema)
 }
 
-/// Gives a place the node of natural values. Takes memory.
-pub fn define_natural(table: &mut Schemas, place: usize) -> Result<(), OutOfMemory>
-    ensures { OnOk result (IsFilledBy place (defined.natural_node ∷ []) table.old table.new) }
+/// Gives a index the node of natural values. Takes memory.
+pub fn define_natural(table: &mut Schemas, index: usize) -> Result<(), OutOfMemory>
+    ensures { Sets index defined.natural_node table.old table.new result }
 {
     let id = shape_id("smithy.api#Document");
-    define(table, place, Schema::new(id, ShapeType::Document))
+    define(table, index, Schema::new(id, ShapeType::Document))
 }

@@ -1,14 +1,15 @@
 // The operations of a model.
 ghost use Rattle.std.specs.Prelude.{◌≡◌, codes, find, map, option_map};
-ghost use Rattle.smithy_json.specs.JsonView.{view};
+ghost use Rattle.std.specs.Option.{option_copied};
+ghost use Rattle.smithy_json.specs.views.JsonView.{view};
 ghost use Rattle.serde_json.specs.Find.{get};
 ghost use Rattle.smithy_types.specs.Results.{each};
 ghost use Rattle.smithy_model.specs.Operations.{target_in, target_given, targets_given, http_among, http_given, is_operation, operation_with, operation_in, operation_at};
 ghost use Rattle.smithy_model.specs.Names.{is};
 ghost use Rattle.smithy_model.specs.Models.{name_asked};
 ghost use Rattle.smithy_model.specs.Reads.{Reads};
-ghost use Rattle.smithy_model.specs.ModelView.{asked_view, operation_view, shapes_view};
-ghost use Rattle.smithy_model.specs.PlaceView.{texts};
+ghost use Rattle.smithy_model.specs.views.ModelView.{asked_view, operation_view, shapes_view};
+ghost use Rattle.smithy_model.specs.views.NameView.{texts};
 
 use crate::error::JobError;
 use crate::json_value::{items_of, text_of};
@@ -147,8 +148,7 @@ fn error_named<'t>(errors: &[&'t str], name: &str) -> Option<&'t str>
 
 /// The full name of the shape of what is asked. None where it is no error of the operation. Takes no memory.
 pub fn name_asked<'t>(operation: &Operation<'t>, asked: Asked<'_>) -> Option<&'t str>
-    ensures { option_map (λ t. t.now) result
-        ≡ name_asked (asked_view asked.entry) (operation_view operation.now) }
+    ensures { option_copied result ≡ name_asked (asked_view asked.entry) (operation_view operation.now) }
 {
     match asked {
         Asked::Input => Some(operation.input),

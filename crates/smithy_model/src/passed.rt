@@ -3,9 +3,9 @@ ghost use Rattle.std.specs.Prelude.{◌≡◌, map, option_map};
 ghost use Rattle.std.specs.Option.{option_or};
 ghost use Rattle.smithy_schema.specs.DescribedTraits.{text_of};
 ghost use Rattle.smithy_model.specs.Nodes as defined;
-ghost use Rattle.smithy_model.specs.ModelView.{member_view, shape_view, traits_view};
-ghost use Rattle.smithy_model.specs.SpotView.{spot_view};
-ghost use Rattle.smithy_model.specs.NodeView.{spots_of};
+ghost use Rattle.smithy_model.specs.views.ModelView.{member_view, traits_view};
+ghost use Rattle.smithy_model.specs.views.SpotView.{spot_view};
+ghost use Rattle.smithy_model.specs.views.NodeView.{spots_of, traits_passed};
 
 use crate::shape::{Member, Shape, ShapeTraits};
 use crate::spots::{Spot, SpotMap};
@@ -16,8 +16,8 @@ use smithy_schema::Traits;
 pub fn spot_named<'v, 't, 's>(spots: &SpotMap<'v, 't, 's>, name: &str) -> Option<Spot<'v, 't, 's>>
     ensures { option_map spot_view result ≡ defined.spot_named (spots_of spots.now) name.now }
 {
-    let index = *spots.places.get(name)?;
-    match spots.spots.as_slice().get(index) {
+    let position = *spots.positions.get(name)?;
+    match spots.spots.as_slice().get(position) {
         Some(spot) => Some(*spot),
         None => None,
     }
@@ -150,8 +150,7 @@ pub fn passed_traits<'v, 't>(
     own: &ShapeTraits<'v, 't>,
     target: &Shape<'v, 't>,
 ) -> ShapeTraits<'v, 't>
-    ensures { traits_view result
-        ≡ defined.passed_traits (spots_of spots.now) (traits_view own.now) (shape_view target.now) }
+    ensures { traits_view result ≡ traits_passed spots.now own.now target.now }
 {
     let passed = &target.traits.plain;
     let elements = elements_format(spots, target.kind, target.members.as_slice());

@@ -2,7 +2,7 @@
 ghost use Rattle.std.specs.Prelude.{◌≡◌};
 ghost use Rattle.smithy_model.specs.Prelude.{prelude_kind};
 ghost use Rattle.smithy_model.specs.Shapes.{prelude_shape};
-ghost use Rattle.smithy_model.specs.ModelView.{shape_view};
+ghost use Rattle.smithy_model.specs.views.ModelView.{shape_view};
 
 use crate::shape::Shape;
 use crate::traits::no_traits;

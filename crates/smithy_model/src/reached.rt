@@ -1,75 +1,74 @@
 // The shapes that are reached from some.
 ghost use Rattle.std.specs.Prelude.{◌≡◌, ◌++◌, ◌∷◌, [], false, map, IfOk, OnOk, Some};
-ghost use Rattle.smithy_model.specs.Reached.{is_among, with_name, with_names, with_targets, reached};
+ghost use Rattle.smithy_model.specs.Reached.{is_among, with_name, with_names, reached};
 ghost use Rattle.smithy_model.specs.Models.{with_http};
 ghost use Rattle.smithy_model.specs.Reads.{Reads};
-ghost use Rattle.smithy_model.specs.ModelView.{member_view, shape_view, shapes_view};
-ghost use Rattle.smithy_model.specs.PlaceView.{texts, ArePlaces};
-ghost use Rattle.smithy_model.specs.ReachedView.{IsWhole};
+ghost use Rattle.smithy_model.specs.views.ModelView.{shape_view, shapes_view};
+ghost use Rattle.smithy_model.specs.views.NameView.{texts, ArePositions};
+ghost use Rattle.smithy_model.specs.views.ReachedView.{shapes_of, and_targets, IsWhole};
 
 use crate::error::JobError;
 use crate::model_shapes::ModelShapes;
 use crate::prelude::PRELUDE_SHAPES;
 use crate::shape::{Member, Shape};
 use crate::shapes::shape_at;
-use crate::spots::place_behind;
+use crate::spots::index_behind;
 use smithy_ids::HttpTrait;
 use std::alloc::{AllocError, Global};
 use std::collections::BTreeMap;
 
-/// Shapes, with the place of each among them by its name.
+/// Shapes, with the position of each among them by its name.
 #[derive(Drop)]
 pub struct Reached<'v, 't> {
     pub shapes: Vec<Shape<'v, 't>>,
-    pub places: BTreeMap<&'t str, usize>,
+    pub positions: BTreeMap<&'t str, usize>,
 }
 
-// Adds a name that isn't there, with its place.
+// Adds a name that isn't there, with its position.
 fn add<'t>(
     names: &mut Vec<&'t str>,
-    places: &mut BTreeMap<&'t str, usize>,
+    positions: &mut BTreeMap<&'t str, usize>,
     name: &'t str,
 ) -> Result<(), AllocError>
-    requires places { ArePlaces places.old (texts names.old.items) }
+    requires positions { ArePositions positions.old (texts names.old.items) }
     requires absent { is_among (texts names.old.items) name.now ≡ false }
     ensures names { OnOk result (texts names.new.items ≡ texts names.old.items ++ name.now ∷ []) }
-    ensures places { OnOk result (ArePlaces places.new (texts names.new.items)) }
+    ensures positions { OnOk result (ArePositions positions.new (texts names.new.items)) }
 {
-    let place = names.as_slice().len();
+    let position = names.as_slice().len();
     names.push(name)?;
-    places.insert(name, place)?;
+    positions.insert(name, position)?;
     Ok(())
 }
 
-// Adds a name where it isn't there yet, with its place.
+// Adds a name where it isn't there yet, with its position.
 fn meet<'t>(
     names: &mut Vec<&'t str>,
-    places: &mut BTreeMap<&'t str, usize>,
+    positions: &mut BTreeMap<&'t str, usize>,
     name: &'t str,
 ) -> Result<(), AllocError>
-    requires { ArePlaces places.old (texts names.old.items) }
+    requires { ArePositions positions.old (texts names.old.items) }
     ensures names { OnOk result (texts names.new.items ≡ with_name (texts names.old.items) name.now) }
-    ensures places { OnOk result (ArePlaces places.new (texts names.new.items)) }
+    ensures positions { OnOk result (ArePositions positions.new (texts names.new.items)) }
 {
-    match places.get(name) {
+    match positions.get(name) {
         Some(_) => Ok(()),
-        None => add(names, places, name),
+        None => add(names, positions, name),
     }
 }
 
 // Adds the names of the targets of these members.
 fn meet_targets<'t>(
     names: &mut Vec<&'t str>,
-    places: &mut BTreeMap<&'t str, usize>,
+    positions: &mut BTreeMap<&'t str, usize>,
     members: &[Member<'_, 't>],
 ) -> Result<(), AllocError>
-    requires { ArePlaces places.old (texts names.old.items) }
-    ensures names { OnOk result
-        (texts names.new.items ≡ with_targets (texts names.old.items) (map member_view members.now)) }
-    ensures places { OnOk result (ArePlaces places.new (texts names.new.items)) }
+    requires { ArePositions positions.old (texts names.old.items) }
+    ensures names { OnOk result (texts names.new.items ≡ and_targets names.old.items members.now) }
+    ensures positions { OnOk result (ArePositions positions.new (texts names.new.items)) }
 {
     for member in members {
-        meet(names, places, member.target)?;
+        meet(names, positions, member.target)?;
     }
     Ok(())
 }
@@ -77,16 +76,15 @@ fn meet_targets<'t>(
 // Adds these names.
 fn meet_names<'t>(
     names: &mut Vec<&'t str>,
-    places: &mut BTreeMap<&'t str, usize>,
+    positions: &mut BTreeMap<&'t str, usize>,
     more: &[&'t str],
 ) -> Result<(), AllocError>
-    requires { ArePlaces places.old (texts names.old.items) }
-    ensures names { OnOk result
-        (texts names.new.items ≡ with_names (texts names.old.items) (texts more.now)) }
-    ensures places { OnOk result (ArePlaces places.new (texts names.new.items)) }
+    requires { ArePositions positions.old (texts names.old.items) }
+    ensures names { OnOk result (texts names.new.items ≡ with_names (texts names.old.items) (texts more.now)) }
+    ensures positions { OnOk result (ArePositions positions.new (texts names.new.items)) }
 {
     for name in more {
-        meet(names, places, *name)?;
+        meet(names, positions, *name)?;
     }
     Ok(())
 }
@@ -100,19 +98,18 @@ pub fn shapes_from<'v, 't>(
     shapes: &ModelShapes<'v, 't>,
     roots: &[&'t str],
 ) -> Result<Reached<'v, 't>, JobError>
-    ensures shapes { Reads (λ r. map shape_view r.shapes.items)
-        (reached (shapes_view shapes.now) (texts roots.now)) result }
+    ensures shapes { Reads shapes_of (reached (shapes_view shapes.now) (texts roots.now)) result }
     ensures whole { IfOk result IsWhole }
 {
     let mut found = Vec::new(alloc);
     let mut names = Vec::new(alloc);
-    let mut places = BTreeMap::new(alloc);
-    meet_names(&mut names, &mut places, roots)?;
+    let mut positions = BTreeMap::new(alloc);
+    meet_names(&mut names, &mut positions, roots)?;
     // So many shapes can be met.
-    let mut rest = place_behind(shapes.members.len(), PRELUDE_SHAPES)?;
+    let mut rest = index_behind(shapes.members.len(), PRELUDE_SHAPES)?;
     'walk: while let Some(name) = names.as_slice().get(found.as_slice().len()) {
         let shape = shape_at(alloc, shapes, name)?;
-        meet_targets(&mut names, &mut places, shape.members.as_slice())?;
+        meet_targets(&mut names, &mut positions, shape.members.as_slice())?;
         found.push(shape)?;
         if rest == 0 {
             return Err(JobError::NoJob);
@@ -121,7 +118,7 @@ pub fn shapes_from<'v, 't>(
     }
     Ok(Reached {
         shapes: found,
-        places,
+        positions,
     })
 }
 
@@ -137,13 +134,15 @@ fn set_http<'t>(shapes: &mut [Shape<'_, 't>], http: HttpTrait<'t>)
 /// The same shapes, the first with an operation's `@http` where it has one. Takes no memory.
 pub fn with_http<'v, 't>(reached: Reached<'v, 't>, http: Option<HttpTrait<'t>>) -> Reached<'v, 't>
     requires { IsWhole reached }
-    ensures shapes { map shape_view result.shapes.items
-        ≡ with_http http.entry (map shape_view reached.entry.shapes.items) }
+    ensures shapes { shapes_of result ≡ with_http http.entry (shapes_of reached.entry) }
     ensures whole { IsWhole result }
 {
-    let Reached { mut shapes, places } = reached;
+    let Reached {
+        mut shapes,
+        positions,
+    } = reached;
     if let Some(http) = http {
         set_http(shapes.as_mut_slice(), http);
     }
-    Reached { shapes, places }
+    Reached { shapes, positions }
 }

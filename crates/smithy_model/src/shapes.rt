@@ -1,11 +1,11 @@
 // The shapes of a model.
 ghost use Rattle.std.specs.Prelude.{◌≡◌, true, map, option_map, OnSome};
 ghost use Rattle.smithy_ids.specs.ShapeIds.{has_hash};
-ghost use Rattle.smithy_json.specs.JsonView.{view, entries};
+ghost use Rattle.smithy_json.specs.views.JsonView.{view, entries};
 ghost use Rattle.smithy_types.specs.Results.{each};
 ghost use Rattle.smithy_model.specs.Reads.{Reads};
-ghost use Rattle.smithy_model.specs.Shapes.{member_at, member_in, part_at, members_at, element_in, key_and_value_in, members_by, number_kind, simple_kind, other_kind, kind_named, kind_in, has_no_mixins, shape_with, shape_in, is_of_prelude, found_at, own_shape_at, shape_at};
-ghost use Rattle.smithy_model.specs.ModelView.{member_view, shape_view, shapes_view};
+ghost use Rattle.smithy_model.specs.Shapes.{member_at, member_in, part_at, members_at, element_in, key_and_value_in, members_by, kind_named, kind_in, has_no_mixins, shape_with, shape_in, is_of_prelude, found_at, own_shape_at, shape_at};
+ghost use Rattle.smithy_model.specs.views.ModelView.{member_view, shape_view, shapes_view};
 
 use crate::error::JobError;
 use crate::json_value::{items_of, members_of, text_of};
@@ -41,8 +41,7 @@ fn members_in<'v, 't>(
     alloc: Global,
     members: &'v [(&'t str, JsonValue<'t>)],
 ) -> Result<Vec<Member<'v, 't>>, JobError>
-    ensures { Reads (λ v. map member_view v.items)
-        (each member_in (entries members.now)) result }
+    ensures { Reads (λ v. map member_view v.items) (each member_in (entries members.now)) result }
 {
     let mut found = Vec::with_capacity(alloc, members.len())?;
     for member in members {
@@ -115,93 +114,32 @@ fn members_by<'v, 't>(
     }
 }
 
-fn number_kind(name: &str) -> Option<ShapeType>
-    ensures { result ≡ number_kind name.now }
-{
-    if name == "byte" {
-        return Some(ShapeType::Byte);
-    }
-    if name == "short" {
-        return Some(ShapeType::Short);
-    }
-    if name == "integer" {
-        return Some(ShapeType::Integer);
-    }
-    if name == "long" {
-        return Some(ShapeType::Long);
-    }
-    if name == "float" {
-        return Some(ShapeType::Float);
-    }
-    if name == "double" {
-        return Some(ShapeType::Double);
-    }
-    if name == "bigInteger" {
-        return Some(ShapeType::BigInteger);
-    }
-    if name == "bigDecimal" {
-        return Some(ShapeType::BigDecimal);
-    }
-    None
-}
-
-fn simple_kind(name: &str) -> Option<ShapeType>
-    ensures { result ≡ simple_kind name.now }
-{
-    if name == "boolean" {
-        return Some(ShapeType::Boolean);
-    }
-    if name == "string" {
-        return Some(ShapeType::String);
-    }
-    if name == "blob" {
-        return Some(ShapeType::Blob);
-    }
-    if name == "timestamp" {
-        return Some(ShapeType::Timestamp);
-    }
-    if name == "document" {
-        return Some(ShapeType::Document);
-    }
-    None
-}
-
-fn other_kind(name: &str) -> Option<ShapeType>
-    ensures { result ≡ other_kind name.now }
-{
-    if name == "enum" {
-        return Some(ShapeType::String);
-    }
-    if name == "intEnum" {
-        return Some(ShapeType::Integer);
-    }
-    if name == "list" {
-        return Some(ShapeType::List);
-    }
-    if name == "set" {
-        return Some(ShapeType::List);
-    }
-    if name == "map" {
-        return Some(ShapeType::Map);
-    }
-    if name == "structure" {
-        return Some(ShapeType::Structure);
-    }
-    if name == "union" {
-        return Some(ShapeType::Union);
-    }
-    None
-}
-
+#[tactic(auto, unfolding(crate::specs::Shapes::kind_named))]
 fn kind_named(name: &str) -> Option<ShapeType>
     ensures { result ≡ kind_named name.now }
 {
-    match number_kind(name) {
-        Some(kind) => Some(kind),
-        None => match simple_kind(name) {
-            Some(kind) => Some(kind),
-            None => other_kind(name),
-        },
+    match name {
+        "byte" => Some(ShapeType::Byte),
+        "short" => Some(ShapeType::Short),
+        "integer" => Some(ShapeType::Integer),
+        "long" => Some(ShapeType::Long),
+        "float" => Some(ShapeType::Float),
+        "double" => Some(ShapeType::Double),
+        "bigInteger" => Some(ShapeType::BigInteger),
+        "bigDecimal" => Some(ShapeType::BigDecimal),
+        "boolean" => Some(ShapeType::Boolean),
+        "string" => Some(ShapeType::String),
+        "blob" => Some(ShapeType::Blob),
+        "timestamp" => Some(ShapeType::Timestamp),
+        "document" => Some(ShapeType::Document),
+        "enum" => Some(ShapeType::String),
+        "intEnum" => Some(ShapeType::Integer),
+        "list" => Some(ShapeType::List),
+        "set" => Some(ShapeType::List),
+        "map" => Some(ShapeType::Map),
+        "structure" => Some(ShapeType::Structure),
+        "union" => Some(ShapeType::Union),
+        _ => None,
     }
 }
 
@@ -269,8 +207,7 @@ fn is_of_prelude(name: &str) -> bool
 
 /// What the shapes of a model have at a full name that isn't the prelude's. Takes no memory.
 pub fn found_at<'v, 't>(shapes: &ModelShapes<'v, 't>, name: &str) -> Option<&'v JsonValue<'t>>
-    ensures found { option_map (λ v. view v.now) result
-        ≡ found_at (shapes_view shapes.now) name.now }
+    ensures found { option_map (λ v. view v.now) result ≡ found_at (shapes_view shapes.now) name.now }
     ensures named { OnSome result (has_hash name.now ≡ true) }
 {
     if !is_full_name(name) || is_of_prelude(name) {

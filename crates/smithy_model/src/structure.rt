@@ -1,8 +1,8 @@
 // What is said of structures as a whole.
 ghost use Rattle.std.specs.Prelude.{◌≡◌, map};
 ghost use Rattle.smithy_model.specs.Nodes as defined;
-ghost use Rattle.smithy_model.specs.ModelView.{member_view, traits_view};
-ghost use Rattle.smithy_model.specs.NodeView.{spots_of};
+ghost use Rattle.smithy_model.specs.views.ModelView.{member_view, traits_view};
+ghost use Rattle.smithy_model.specs.views.NodeView.{spots_of};
 
 use crate::passed::spot_named;
 use crate::shape::{Member, ShapeTraits};

@@ -1,14 +1,13 @@
 // The traits of shapes and members.
-ghost use Rattle.std.specs.Prelude.{◌≡◌, codes, option_map, Some, IfSome};
+ghost use Rattle.std.specs.Prelude.{◌≡◌, codes, option_map, IfSome};
 ghost use Rattle.std.specs.List.{list_all};
-ghost use Rattle.smithy_json.specs.JsonView.{view, entries, entry_of};
+ghost use Rattle.smithy_json.specs.views.JsonView.{view, entries, entry_of};
 ghost use Rattle.serde_json.specs.Find.{get};
 ghost use Rattle.smithy_schema.specs.Nodes.{no_traits as without_traits};
 ghost use Rattle.smithy_schema.specs.DescribedTraits.{traits_described};
-ghost use Rattle.smithy_model.specs.Json.{provided};
-ghost use Rattle.smithy_model.specs.Traits.{is_text_trait, is_namespace, time_format, time_format_in, has_form, is_fit_trait, namespace_in, with_trait, is_named_trait, with_traits, code_at, http_in};
+ghost use Rattle.smithy_model.specs.Traits.{is_text_trait, is_namespace, time_format, time_format_in, has_form, is_fit_trait, namespace_in, is_named_trait, fit_among, code_at, http_in};
 ghost use Rattle.smithy_model.specs.GivenTraits.{fit_traits, traits_of};
-ghost use Rattle.smithy_model.specs.ModelView.{traits_view};
+ghost use Rattle.smithy_model.specs.views.ModelView.{traits_view, AddsTrait};
 
 use crate::json_value::{members_of, text_of};
 use crate::name::is_full_name;
@@ -105,8 +104,7 @@ fn namespace_of<'t>(value: &JsonValue<'t>) -> Option<XmlNamespaceTrait<'t>>
 // Adds a trait where it has a field of its own, and tells whether it has one.
 #[tactic(auto, unfolding(crate::specs::Traits::with_trait, crate::specs::Traits::is_named_trait))]
 fn add_trait<'t>(traits: &mut Traits<'t>, id: &str, value: &JsonValue<'t>) -> bool
-    ensures added { traits_described traits.new
-        ≡ with_trait (traits_described traits.old) id.now (view value.now) }
+    ensures added { AddsTrait id.now value.now traits.old traits.new }
     ensures named { result ≡ is_named_trait id.now }
 {
     match id {
@@ -144,9 +142,7 @@ pub fn is_named_trait(id: &str) -> bool
 
 // The traits with a field of their own among an object's members, and whether all have one. None where one isn't fit.
 fn plain_traits<'t>(members: &[(&'t str, JsonValue<'t>)]) -> Option<(Traits<'t>, bool)>
-    ensures plain { option_map (λ p. traits_described p.0) result
-        ≡ provided (list_all is_fit_trait (entries members.now))
-        (Some (with_traits without_traits (entries members.now))) }
+    ensures plain { option_map (λ p. traits_described p.0) result ≡ fit_among (entries members.now) }
     ensures named { IfSome result (λ p. p.1 ≡ list_all (λ e. is_named_trait e.0) (entries members.now)) }
 {
     let mut traits = Traits::NONE;

@@ -17,7 +17,7 @@ use Rattle.smithy_types.specs.Texts.{same_text}
 use Rattle.smithy_types.proofs.MapLemmas.{IsOrdered-pairs_of}
 use Rattle.smithy_ids.specs.ShapeIds.{has_hash}
 use Rattle.smithy_registry.specs.Registries.{by_name, first_named, has_shape_name, shape_name_in}
-use Rattle.smithy_registry.specs.Kept.{Names, kept_name, is_not_above, least_of, entries_kept, AreNames, least_name, IsKept}
+use Rattle.smithy_registry.specs.views.Kept.{Names, kept_name, is_not_above, least_of, entries_kept, AreNames, least_name, IsKept}
 
 -- one more name is kept, unless a lesser one of its shape name is
 abbrev KeepsLeast : Names → List ℕ → Names → Type 0

@@ -24,3 +24,7 @@ Reified (Err _) result = result ≡ Ok None
 abbrev pub Reifies : {R A E : Type 0} → (R → Held → Result A SerdeError → Type 0) → Option R → AtHand → AtHand → Result (Option A) E → Type 0
 Reifies gives None old new result = (result ≡ Ok None) × (new ≡ old)
 Reifies {R} {A} {E} gives (Some reader) old new result = (answer : Result A SerdeError) × ReadsBy (gives reader) old new answer × Reified answer result
+
+-- the error of the code is read by what the registries have for it
+abbrev pub ReifiesError : {R A E D : Type 0} {g : _} → (R → Held → Result A SerdeError → Type 0) → (D → AtHand) → ComposedRegistry R g → List ℕ → D → D → Result (Option A) E → Type 0
+ReifiesError gives at registry code old new result = Reifies gives (error_reader_for code registry) (at old) (at new) result

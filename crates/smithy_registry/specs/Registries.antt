@@ -1,8 +1,9 @@
 -- A registry: a finite map from full names of shapes to what is registered under them, in byte order of the names.
-use Rattle.std.specs.Prelude.{ℕ, Bool, List, [], ◌∷◌, Option, option_map, refl}
+use Rattle.std.specs.Prelude.{◌≡◌, ℕ, Bool, List, [], ◌∷◌, Option, option_map, refl}
 use Rattle.std.specs.Coded.{Coded, code_by, coded×, coded_ℕ, coded_option}
 use Rattle.std.specs.List.{find, before_first, after_first}
 use Rattle.std.specs.Map.{lookup}
+use Rattle.std.specs.Option.{option_or}
 use Rattle.smithy_types.specs.Maps.{with_value}
 use Rattle.smithy_types.specs.Texts.{same_text}
 use Rattle.smithy_ids.specs.ShapeIds.{is_hash, is_dollar}
@@ -38,6 +39,10 @@ module _ {X : Type 0} where
   -- what is registered under the least full name whose shape name is that of the error code
   abbrev pub by_code : List ℕ → List (List ℕ × X) → Option X
   by_code code entries = option_map (λ e. e.1) (first_named (sanitized code) entries)
+
+  -- each name has what the second registry has under it, else what the first one has
+  abbrev pub IsUnion : List (List ℕ × X) → List (List ℕ × X) → List (List ℕ × X) → Type 0
+  IsUnion first second whole = (name : List ℕ) → by_name name whole ≡ option_or (by_name name second) (by_name name first)
 
   -- the entries of both registries; under a name of both stands what the second has
   abbrev pub composed : List (List ℕ × X) → List (List ℕ × X) → List (List ℕ × X)

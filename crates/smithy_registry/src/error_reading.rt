@@ -1,5 +1,5 @@
 // Errors, read by what is registered for their codes.
-ghost use Rattle.smithy_registry.specs.Reading.{error_reader_for, Reifies};
+ghost use Rattle.smithy_registry.specs.Reading.{ReifiesError};
 
 use crate::composed::ComposedRegistry;
 use smithy_serde::{SerdeError, ShapeDeserializer, ShapeReader};
@@ -14,8 +14,7 @@ pub fn reify_error<R: ShapeReader + Drop, D: ShapeDeserializer>(
     error_code: &str,
     reader: &mut D,
 ) -> Result<Option<R::Output>, OutOfMemory>
-    ensures { Reifies R.gives (error_reader_for error_code.now registry.entry)
-        (D.at_hand reader.old) (D.at_hand reader.new) result }
+    ensures { ReifiesError R.gives D.at_hand registry.entry error_code.now reader.old reader.new result }
 {
     let Some(entry) = registry.entry_for_error_code(error_code) else {
         return Ok(None);

@@ -15,7 +15,7 @@ impl<'a, R: ShapeReader> Model for Iter<'a, R> {
     ghost use Rattle.std.specs.Prelude.{List, ℕ};
     ghost use Rattle.std.specs.Coded.{coded×, coded_ℕ, coded_list};
     ghost use Rattle.smithy_registry.specs.Registries.{Registered, registered_code};
-    ghost use Rattle.smithy_registry.specs.Kept.{entries_kept, AreNames};
+    ghost use Rattle.smithy_registry.specs.views.Kept.{entries_kept, AreNames};
 
     ghost Value = { List (List ℕ × Registered R) };
 
@@ -28,7 +28,7 @@ impl<'a, R: ShapeReader> Model for Iter<'a, R> {
 
 impl<'a, R: ShapeReader> Iter<'a, R> {
     ghost use Rattle.std.specs.Prelude.{◌≡◌};
-    ghost use Rattle.smithy_registry.specs.Kept.{entries_kept, AreNames};
+    ghost use Rattle.smithy_registry.specs.views.Kept.{entries_kept, AreNames};
 
     pub(crate) fn of(entries: btree_map::Iter<'a, String, RegistryEntry<R>>) -> Iter<'a, R>
         requires { AreNames (entries_kept entries) }

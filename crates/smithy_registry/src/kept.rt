@@ -2,9 +2,8 @@
 ghost use Rattle.std.specs.Prelude.{◌≡◌, true, false, IfOk, OnOk, OnErr, string_bytes};
 ghost use Rattle.std.specs.Option.{option_map_or};
 ghost use Rattle.smithy_ids.specs.ShapeIds.{has_hash};
-ghost use Rattle.smithy_types.specs.Maps.{with_value};
 ghost use Rattle.smithy_registry.specs.Registries.{shape_name_in};
-ghost use Rattle.smithy_registry.specs.Kept.{entries_kept, kept_name, is_not_above, IsKept, IsToKeep};
+ghost use Rattle.smithy_registry.specs.views.Kept.{entries_kept, entries_with, kept_name, is_not_above, IsKept, IsToKeep};
 
 use crate::entry::RegistryEntry;
 use smithy_ids::ShapeId;
@@ -67,8 +66,7 @@ pub(crate) fn put<R: ShapeReader + Drop>(
 ) -> Result<(), OutOfMemory>
     requires shape { has_hash (string_bytes name) ≡ true }
     requires kept { IsKept (entries_kept entries.old.entries) names.old }
-    ensures ok { OnOk result (entries_kept entries.new.entries
-        ≡ with_value (string_bytes name) entry (entries_kept entries.old.entries)) }
+    ensures ok { OnOk result (entries_kept entries.new.entries ≡ entries_with name entry entries.old.entries) }
     ensures err { OnErr result (entries_kept entries.new.entries ≡ entries_kept entries.old.entries) }
     ensures kept { IsKept (entries_kept entries.new.entries) names.new }
 {

@@ -27,7 +27,7 @@ impl<R: ShapeReader> Model for TypeRegistry<R> {
     ghost use Rattle.std.specs.Prelude.{List, ℕ};
     ghost use Rattle.std.specs.Coded.{coded×, coded_ℕ, coded_list};
     ghost use Rattle.smithy_registry.specs.Registries.{Registered, registered_code};
-    ghost use Rattle.smithy_registry.specs.Kept.{entries_kept, IsKept};
+    ghost use Rattle.smithy_registry.specs.views.Kept.{entries_kept, IsKept};
 
     ghost Value = { List (List ℕ × Registered R) };
 
@@ -40,12 +40,12 @@ impl<R: ShapeReader> Model for TypeRegistry<R> {
 
 impl<R: ShapeReader + Drop> TypeRegistry<R> {
     ghost use Rattle.std.specs.Prelude.{◌≡◌, ◌==◌, ℕ, List, [], true, length, string_bytes, option_map, IfOk, OnOk, OnErr};
-    ghost use Rattle.std.specs.Option.{option_copied, option_or};
+    ghost use Rattle.std.specs.Option.{option_copied};
     ghost use Rattle.smithy_ids.specs.ShapeIds.{has_hash};
     ghost use Rattle.smithy_ids.specs.ShapeIdParts.{parts_of};
     ghost use Rattle.smithy_types.specs.Maps.{with_value, IsOrdered};
     ghost use Rattle.smithy_schema.specs.Places.{place_of};
-    ghost use Rattle.smithy_registry.specs.Registries.{by_name, by_code, composed};
+    ghost use Rattle.smithy_registry.specs.Registries.{IsUnion, by_name, by_code, composed};
     ghost use Rattle.smithy_registry.specs.Layers.{primary_of, fallback_of};
 
     /// A registry to be filled. Takes no memory.
@@ -143,8 +143,7 @@ impl<R: ShapeReader + Drop> TypeRegistry<R> {
     /// The entries of both. Under a name of both stands the entry of `other`. After a refusal both are gone.
     pub fn compose(self, other: TypeRegistry<R>) -> Result<TypeRegistry<R>, OutOfMemory>
         ensures value { IfOk result (λ r. r ≡ composed self other) }
-        ensures union { IfOk result
-            (λ r. (name : List ℕ) → by_name name r ≡ option_or (by_name name other) (by_name name self)) }
+        ensures union { IfOk result (IsUnion self other) }
     {
         let mut whole = self;
         let TypeRegistry { entries, .. } = other;

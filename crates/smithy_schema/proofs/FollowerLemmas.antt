@@ -18,13 +18,13 @@ use Rattle.smithy_schema.specs.declared.parts.SchemaIndex.{SchemaIndex}
 use Rattle.smithy_schema.specs.declared.stored.FullDetails.{FullDetails}
 use Rattle.smithy_schema.specs.declared.stored.StoredNode.{StoredNode}
 use Rattle.smithy_schema.specs.declared.schema_ref.SchemaRef.{SchemaRef}
-use Rattle.smithy_schema.specs.References.{schema_of}
+use Rattle.smithy_schema.specs.views.References.{schema_of}
 use Rattle.smithy_schema.specs.Nodes.{Node, Table, Schema, at_place, has_name}
-use Rattle.smithy_schema.specs.Places.{places_of}
-use Rattle.smithy_schema.specs.Details.{Details}
-use Rattle.smithy_schema.specs.Stored.{node_stored, details_full, details_stored}
-use Rattle.smithy_schema.specs.MemberNames.{is_named_at, IsOfName, AreOfNames, IsFirstOfName}
-use Rattle.smithy_schema.specs.Kept.{KeepsNames, IsFollower}
+use Rattle.smithy_schema.specs.views.Places.{places_of}
+use Rattle.smithy_schema.specs.views.Details.{Details}
+use Rattle.smithy_schema.specs.views.Stored.{node_stored, details_full, details_stored}
+use Rattle.smithy_schema.specs.views.MemberNames.{is_named_at, IsOfName, AreOfNames, IsFirstOfName}
+use Rattle.smithy_schema.specs.views.Kept.{KeepsNames, IsFollower}
 
 -- each value of the map is some name's
 pub values_of_names : (m : BTreeMap (String Global) ℕ) → IsOrdered string_cmp m → AreOfNames m (values m)

@@ -13,14 +13,14 @@ use Rattle.smithy_ids.specs.declared.traits.TimestampFormat.{TimestampFormat}
 use Rattle.smithy_schema.specs.declared.error.SchemaError.{SchemaError}
 use Rattle.smithy_schema.specs.declared.error.SchemaError.TheVariants as refusal
 use Rattle.smithy_schema.specs.Nodes.{Node, Table, node_at, position_of_name}
-use Rattle.smithy_schema.specs.Places.{places_of}
+use Rattle.smithy_schema.specs.views.Places.{places_of}
 use Rattle.smithy_schema.specs.Outlines.{outline_of}
-use Rattle.smithy_schema.specs.Details.{Details}
-use Rattle.smithy_schema.specs.MemberNames.{is_named_at, HasPositions}
-use Rattle.smithy_schema.specs.Stored.{node_stored, details_full, details_stored, table_stored}
+use Rattle.smithy_schema.specs.views.Details.{Details}
+use Rattle.smithy_schema.specs.views.MemberNames.{is_named_at, HasPositions}
+use Rattle.smithy_schema.specs.views.Stored.{node_stored, details_full, details_stored, table_stored}
 use Rattle.smithy_schema.specs.Defining.{citing_fault, define_fault, declared_more}
 use Rattle.smithy_schema.specs.WellMade.{is_whole}
-use Rattle.smithy_schema.specs.Kept.{IsKept, HasNames, kept_at}
+use Rattle.smithy_schema.specs.views.Kept.{IsKept, HasNames, kept_at}
 use Rattle.smithy_schema.proofs.NamedLemmas.{HasPositions-same}
 use Rattle.smithy_schema.proofs.TableLemmas.{length-table_stored, node_at-table_stored, table_stored-push}
 use Rattle.smithy_schema.proofs.SoundLemmas.{no_fault, no_fault-in_place, kept_members, node_at-declared_more, node_at-set_same, node_at-set_other, define_fault-past, define_fault-defined, define_fault-hole, define_fault-fresh, IsSound-declared_more, IsSound-set, outline-no_fault}

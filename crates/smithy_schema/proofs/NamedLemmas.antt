@@ -1,40 +1,21 @@
 -- The first position of each name, found by going along the members.
-use Rattle.std.proofs.Common.{◌≡◌, refl, sym, ap, ◌∙◌, ℕ, suc, ◌+◌, ◌<◌, nat_lt, arith, Bool, true, false, not, cond, List, [], ◌∷◌, ◌++◌, length, take, string_bytes, String, option_map, Option, Some, None}
+use Rattle.std.proofs.Common.{◌≡◌, refl, sym, ap, ◌∙◌, ℕ, suc, ◌+◌, ◌<◌, arith, Bool, true, false, cond, List, [], ◌∷◌, ◌++◌, length, take, string_bytes, String, option_map, Option, Some, None}
 use Rattle.std.specs.Global.{Global}
-use Rattle.std.specs.List.{position, position_or_len, slice_get}
+use Rattle.std.specs.List.{position, slice_get}
 use Rattle.std.specs.Option.{option_map_or, option_or, unwrap_or}
 use Rattle.std.specs.Str.{bytes_eq}
 use Rattle.std.specs.String.{string_cmp}
 use Rattle.std.specs.BTreeMap.{BTreeMap, Updates, get_by_text}
-use Rattle.std.proofs.lemmas.Bool.{lt-ltb, le-ltb, ltb-true, ltb-false}
 use Rattle.std.proofs.lemmas.List.{get_or-map, length-map, take_more, length-take-le}
 use Rattle.std.proofs.lemmas.Slice.Eq.{bytes_eq-Decides}
 use Rattle.std.proofs.lemmas.Map.Text.{btree_map_updates_text}
 use Rattle.smithy_types.specs.Texts.{same_text}
+use Rattle.smithy_types.proofs.Positions.{one_more, position-cons}
 use Rattle.smithy_schema.specs.declared.parts.SchemaIndex.{SchemaIndex}
 use Rattle.smithy_schema.specs.Nodes.{Node, Table, node_at, has_name}
-use Rattle.smithy_schema.specs.Places.{places_of}
-use Rattle.smithy_schema.specs.MemberNames.{is_named_at, name_held, position_if, position_for, HasPositions, HasOneMore}
+use Rattle.smithy_schema.specs.views.Places.{places_of}
+use Rattle.smithy_schema.specs.views.MemberNames.{is_named_at, name_held, position_if, position_for, HasPositions, HasOneMore}
 use Rattle.smithy_schema.proofs.PlaceLemmas.{place_at}
-
-abbrev one_more : ℕ → ℕ
-one_more k = 1 + k
-
--- the position in a list by its first element
-position-cons : {X : Type 0} (p : X → Bool) (x : X) (xs : List X) → position p (x ∷ xs) ≡ cond (p x) (Some 0) (option_map one_more (position p xs))
-position-cons p x xs = go (p x)
-  where
-    behind : (b : Bool) → nat_lt (position_or_len p xs) (length xs) ≡ b → cond (nat_lt (1 + position_or_len p xs) (suc (length xs))) (Some (1 + position_or_len p xs)) None ≡ option_map one_more (cond b (Some (position_or_len p xs)) None)
-    behind true e =
-        let below : position_or_len p xs < length xs = ltb-true _ _ e in
-        ap (λ b. cond b (Some (1 + position_or_len p xs)) None) (lt-ltb (1 + position_or_len p xs) (suc (length xs)) (omega arith))
-    behind false e =
-        let past = ltb-false _ _ e in
-        ap (λ b. cond b (Some (1 + position_or_len p xs)) None) (le-ltb (1 + position_or_len p xs) (suc (length xs)) (omega arith))
-
-    go : (b : Bool) → cond (nat_lt (cond (not b) (1 + position_or_len p xs) 0) (suc (length xs))) (Some (cond (not b) (1 + position_or_len p xs) 0)) None ≡ cond b (Some 0) (option_map one_more (position p xs))
-    go true = ap (λ b. cond b (Some 0) None) (lt-ltb 0 (suc (length xs)) (omega arith))
-    go false = behind (nat_lt (position_or_len p xs) (length xs)) refl
 
 -- one more element at the end
 position-push : {X : Type 0} (p : X → Bool) (xs : List X) (y : X) → position p (xs ++ y ∷ []) ≡ option_or (position p xs) (position_if (p y) (length xs))

@@ -5,7 +5,7 @@ use Rattle.std.specs.Option.{option_or, is_some}
 use Rattle.std.proofs.lemmas.Bool.{lt-ltb, le-ltb}
 use Rattle.smithy_schema.specs.declared.parts.SchemaIndex.{SchemaIndex}
 use Rattle.smithy_schema.specs.declared.error.SchemaError.{SchemaError}
-use Rattle.smithy_schema.specs.Places.{places_of}
+use Rattle.smithy_schema.specs.views.Places.{places_of}
 use Rattle.smithy_schema.specs.Nodes.{Table}
 use Rattle.smithy_schema.specs.Defining.{member_fault, members_fault}
 

@@ -7,7 +7,7 @@ use Rattle.std.proofs.lemmas.Option.{slice_get-map}
 use Rattle.smithy_schema.specs.declared.stored.StoredNode.{StoredNode}
 use Rattle.smithy_ids.specs.ShapeIds.{has_hash, parts_in}
 use Rattle.smithy_schema.specs.Nodes.{Node, Table, node_at}
-use Rattle.smithy_schema.specs.Stored.{node_stored, table_stored}
+use Rattle.smithy_schema.specs.views.Stored.{node_stored, table_stored}
 use Rattle.smithy_schema.specs.Defining.{IsSound}
 use Rattle.smithy_schema.specs.WellMade.{has_utf8_texts, is_whole}
 

@@ -11,8 +11,8 @@ use Rattle.std.proofs.lemmas.Slice.Eq.{bytes_eq-Decides}
 use Rattle.smithy_types.specs.Maps.{with_value}
 use Rattle.smithy_types.specs.Texts.{same_text}
 use Rattle.smithy_schema.specs.declared.owned_trait.Trait.{Trait}
-use Rattle.smithy_schema.specs.OwnedTraits.{name_of, value_of, entry_of}
-use Rattle.smithy_schema.specs.TraitMaps.{entry_named, entries_kept, AreUnderTheirNames}
+use Rattle.smithy_schema.specs.views.OwnedTraits.{name_of, value_of, entry_of}
+use Rattle.smithy_schema.specs.views.TraitMaps.{entry_named, entries_kept, AreUnderTheirNames}
 
 abbrev Entry : Type 0
 Entry = String Global × Trait

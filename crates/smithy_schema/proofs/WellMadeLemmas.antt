@@ -11,7 +11,7 @@ use Rattle.smithy_schema.specs.declared.schema_ref.Spot.TheVariants as spot
 use Rattle.smithy_ids.specs.declared.shape_type.ShapeType.{ShapeType}
 use Rattle.smithy_schema.specs.Nodes.{Node, Table, Schema, node_at, at_place}
 use Rattle.smithy_schema.specs.Defining.{is_member, IsSound}
-use Rattle.smithy_schema.specs.References.{schema_in, schema_of}
+use Rattle.smithy_schema.specs.views.References.{schema_in, schema_of}
 use Rattle.smithy_schema.specs.WellMade.{is_whole, are_in_place, is_node_well_made, is_table_well_made, is_well_made}
 
 both_true : (x y : Bool) → x ≡ true → y ≡ true → (x && y) ≡ true

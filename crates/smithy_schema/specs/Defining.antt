@@ -1,10 +1,10 @@
 -- Which nodes a table takes, and what it then keeps.
-use Rattle.std.specs.Prelude.{◌≡◌, ℕ, ◌+◌, Bool, true, false, ◌&&◌, ◌==◌, nat_lt, List, [], ◌∷◌, ◌++◌, length, slice_get, is_some, is_none, Option, Some, None}
+use Rattle.std.specs.Prelude.{◌≡◌, ℕ, ◌+◌, Bool, true, false, ◌&&◌, ◌==◌, nat_lt, List, [], ◌∷◌, ◌++◌, length, slice_get, is_some, is_none, Option, Some, None, Result, Err, MatchOption, IsOkUnless}
 use Rattle.std.specs.List.{list_all}
 use Rattle.std.specs.Option.{option_map_or, option_or}
 use Rattle.smithy_types.specs.Results.{first_of_all, unless}
 use Rattle.smithy_schema.specs.declared.error.SchemaError.{SchemaError}
-use Rattle.smithy_schema.specs.declared.error.SchemaError.TheVariants.{Order, NotMember, Unknown, Defined}
+use Rattle.smithy_schema.specs.declared.error.SchemaError.TheVariants.{Order, NotMember, Unknown, Defined, OutOfMemory}
 use Rattle.smithy_schema.specs.Nodes.{Node, Table, Schema, node_at}
 use Rattle.smithy_schema.specs.WellMade.{is_whole}
 
@@ -47,6 +47,10 @@ define_fault table index node =
     ∷ unless (is_none (node_at table index)) Defined
     ∷ citing_fault table (length table) node
     ∷ [])
+
+-- refused with this fault, or else for want of memory alone
+abbrev pub RefusesBy : {A : Type 0} → Option SchemaError → Result A SchemaError → Type 0
+RefusesBy fault result = MatchOption fault (IsOkUnless result OutOfMemory) (λ f. result ≡ Err f)
 
 -- the table with one more place, which is only declared
 abbrev pub declared_more : Table → Table

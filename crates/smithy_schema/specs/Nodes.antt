@@ -111,6 +111,10 @@ pub record Schema : Type 0 where
   pub table : Table
   pub node : Node
 
+-- the format of its timestamps
+abbrev pub time_format : Schema → Option TimestampFormat
+time_format schema = schema.node.traits.timestamp_format
+
 -- the node at a place; a hole counts as none
 abbrev pub node_at : Table → ℕ → Option Node
 node_at table place = option_flatten (slice_get table place)

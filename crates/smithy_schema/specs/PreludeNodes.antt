@@ -52,6 +52,9 @@ prelude_kinds =
 abbrev pub prelude_nodes : List Node
 prelude_nodes = map prelude_node prelude_kinds
 
+abbrev pub prelude_len : ℕ
+prelude_len = 14
+
 -- fewer than the fourteen nodes of the prelude, the first ones, stand behind the table
 abbrev pub HasFirstNodes : Table → Table → Type 0
-HasFirstNodes old new = (n : ℕ) × (n < 14) × (new ≡ old ++ map Some (take n prelude_nodes))
+HasFirstNodes old new = (n : ℕ) × (n < prelude_len) × (new ≡ old ++ map Some (take n prelude_nodes))

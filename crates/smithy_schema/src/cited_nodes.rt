@@ -1,8 +1,8 @@
 // The nodes that a node cites, and what kind it is. A getter takes no memory.
 ghost use Rattle.std.specs.Prelude.{◌≡◌, ◌↔◌, IsTrue, option_map};
 ghost use Rattle.smithy_schema.specs.Nodes.{cited, element_of, key_of, value_of, element_or_value_of, holds_node, cites_nodes, has_name, member_at, member_named};
-ghost use Rattle.smithy_schema.specs.Places.{place_of};
-ghost use Rattle.smithy_schema.specs.References.{schema_of};
+ghost use Rattle.smithy_schema.specs.views.Places.{place_of};
+ghost use Rattle.smithy_schema.specs.views.References.{schema_of};
 
 use crate::parts::{NO_PLACES, Places, SchemaIndex};
 use crate::schema_ref::{SchemaRef, Spot};

@@ -2,9 +2,9 @@
 ghost use Rattle.std.specs.Prelude.{◌≡◌, ◌+◌, nat_lt, option_map};
 ghost use Rattle.std.specs.List.{list_all};
 ghost use Rattle.smithy_schema.specs.Nodes.{node_at};
-ghost use Rattle.smithy_schema.specs.Places.{place_of, places_of};
-ghost use Rattle.smithy_schema.specs.Stored.{node_stored, table_stored};
-ghost use Rattle.smithy_schema.specs.Kept.{kept_at};
+ghost use Rattle.smithy_schema.specs.views.Places.{place_of, places_of};
+ghost use Rattle.smithy_schema.specs.views.Stored.{node_stored, table_stored};
+ghost use Rattle.smithy_schema.specs.views.Kept.{kept_at};
 ghost use Rattle.smithy_schema.specs.Defining.{is_declared, has_declared_places, index_at, member_fault, members_fault, citing_fault};
 
 use crate::error::SchemaError;

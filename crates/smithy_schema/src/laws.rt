@@ -1,6 +1,6 @@
 //! Laws of schemas, each the contract of a function that only looks at one.
 ghost use Rattle.std.specs.Prelude.{IsTrue};
-ghost use Rattle.smithy_schema.specs.References.{schema_of};
+ghost use Rattle.smithy_schema.specs.views.References.{schema_of};
 ghost use Rattle.smithy_schema.specs.WellMade.{is_well_made};
 
 use crate::schema_ref::{SchemaRef, Spot};

@@ -1,9 +1,9 @@
 // The names of a node's members, each with its first position, and the order of these.
 ghost use Rattle.std.specs.Prelude.{◌≡◌, slice_set, Some, IfOk, OnOk, option_map};
 ghost use Rattle.smithy_schema.specs.Nodes.{node_at};
-ghost use Rattle.smithy_schema.specs.Places.{places_of};
-ghost use Rattle.smithy_schema.specs.Stored.{table_stored};
-ghost use Rattle.smithy_schema.specs.MemberNames.{AreOfNames, HasOneMore, HasPositions, name_held};
+ghost use Rattle.smithy_schema.specs.views.Places.{places_of};
+ghost use Rattle.smithy_schema.specs.views.Stored.{table_stored};
+ghost use Rattle.smithy_schema.specs.views.MemberNames.{AreOfNames, HasOneMore, HasPositions, name_held};
 
 use crate::defining::stored_at;
 use crate::parts::SchemaIndex;

@@ -1,10 +1,11 @@
 // What is left of a node without what it cites.
 ghost use Rattle.std.specs.Prelude.{◌≡◌, ◌++◌, ◌∷◌, [], true, Some, IfOk, OnOk, OnErr, length};
 ghost use Rattle.smithy_schema.specs.declared.stored.StoredDetails.TheVariants as details;
+ghost use Rattle.smithy_schema.specs.Nodes.{time_format};
 ghost use Rattle.smithy_schema.specs.WellMade.{is_whole};
 ghost use Rattle.smithy_schema.specs.Outlines.{outline_of, named_part};
-ghost use Rattle.smithy_schema.specs.References.{schema_of};
-ghost use Rattle.smithy_schema.specs.Stored.{head_stored, node_stored};
+ghost use Rattle.smithy_schema.specs.views.References.{schema_of};
+ghost use Rattle.smithy_schema.specs.views.Stored.{head_stored, node_stored};
 
 use crate::parts::SchemaIndex;
 use crate::schema_ref::SchemaRef;
@@ -21,7 +22,7 @@ const FIRST_NODES: usize = 16;
 impl<'t> SchemaRef<'t> {
     // The format of timestamps.
     fn time_format(&self) -> Option<TimestampFormat>
-        ensures { result ≡ (schema_of self.now).node.traits.timestamp_format }
+        ensures { result ≡ time_format (schema_of self.now) }
     {
         match self.timestamp_format() {
             Some(format) => Some(format.format()),
@@ -51,8 +52,7 @@ fn head_of(alloc: Global, schema: SchemaRef<'_>) -> Result<Arc<Head>, OutOfMemor
 fn outlined_node(alloc: Global, schema: SchemaRef<'_>) -> Result<StoredNode, OutOfMemory>
     ensures node { IfOk result (λ n. node_stored n ≡ outline_of (schema_of schema.entry).node) }
     ensures whole { IfOk result (λ n. is_whole (node_stored n) ≡ true) }
-    ensures details { IfOk result (λ n.
-        n.details ≡ details.Outline (schema_of schema.entry).node.traits.timestamp_format) }
+    ensures details { IfOk result (λ n. n.details ≡ details.Outline (time_format (schema_of schema.entry))) }
 {
     Ok(StoredNode {
         head: head_of(alloc, schema)?,

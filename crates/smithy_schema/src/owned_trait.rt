@@ -3,7 +3,7 @@ ghost use Rattle.std.specs.Prelude.{◌≡◌, IfOk, Some};
 ghost use Rattle.smithy_ids.specs.ShapeIds.{parts_in};
 ghost use Rattle.smithy_ids.specs.ShapeIdParts.{parts_of};
 ghost use Rattle.smithy_types.specs.DocumentView.{view};
-ghost use Rattle.smithy_schema.specs.OwnedTraits.{name_of};
+ghost use Rattle.smithy_schema.specs.views.OwnedTraits.{name_of};
 
 use crate::shape_id_buf::ShapeIdBuf;
 use smithy_ids::ShapeId;

@@ -1,7 +1,7 @@
 // The shapes of `smithy.api` that models cite (Smithy, prelude).
 ghost use Rattle.std.specs.Prelude.{◌≡◌, ◌≤◌, ◌-◌, ◌++◌, ◌∷◌, [], map, Some, IfOk, OnOk, OnErr, IsOkUnless, length};
-ghost use Rattle.smithy_schema.specs.PreludeNodes.{prelude_node, prelude_nodes, HasFirstNodes};
-ghost use Rattle.smithy_schema.specs.PreludePlaces.{IsInOrderFrom};
+ghost use Rattle.smithy_schema.specs.PreludeNodes.{prelude_node, prelude_nodes, prelude_len, HasFirstNodes};
+ghost use Rattle.smithy_schema.specs.views.PreludePlaces.{IsInOrderFrom};
 
 use crate::error::SchemaError;
 use crate::parts::SchemaIndex;
@@ -29,8 +29,11 @@ pub struct Prelude {
     pub unit: SchemaIndex,
 }
 
+// How many nodes the prelude has.
+const PRELUDE_LEN: usize = 14;
+
 // The kinds of the nodes, in order. The last is that of the unit structure.
-const KINDS: [ShapeType; 14] = [
+const KINDS: [ShapeType; PRELUDE_LEN] = [
     ShapeType::String,
     ShapeType::Boolean,
     ShapeType::Byte,
@@ -85,10 +88,10 @@ fn insert_each(table: &mut Schemas) -> Result<(), SchemaError>
 
 // The places of fourteen nodes, the last of which stands before this place.
 fn ending_at(end: usize) -> Prelude
-    requires { 14 ≤ end }
-    ensures { IsInOrderFrom (end - 14) result }
+    requires { prelude_len ≤ end }
+    ensures { IsInOrderFrom (end - prelude_len) result }
 {
-    let first = end - 14;
+    let first = end - PRELUDE_LEN;
     Prelude {
         string: SchemaIndex(first),
         boolean: SchemaIndex(first + 1),

@@ -1,9 +1,9 @@
 // Where a member of a request stands (Smithy, HTTP protocol bindings).
 ghost use Rattle.std.specs.Prelude.{◌≡◌};
 ghost use Rattle.smithy_schema.specs.Nodes.{binding_of};
-ghost use Rattle.smithy_schema.specs.References.{schema_of};
-ghost use Rattle.smithy_schema.specs.Stored.{traits_stored};
-ghost use Rattle.smithy_schema.specs.ShownBindings.{binding_by, binding_shown};
+ghost use Rattle.smithy_schema.specs.views.References.{schema_of};
+ghost use Rattle.smithy_schema.specs.views.Stored.{traits_stored};
+ghost use Rattle.smithy_schema.specs.views.ShownBindings.{binding_by, binding_shown};
 
 use crate::schema_ref::SchemaRef;
 use crate::stored::StoredTraits;

@@ -39,17 +39,17 @@ impl<'a> Model for Schema<'a> {
 
     ghost coded = { Prim.hlevel (codes, coded_document) };
 
-    ghost use Rattle.smithy_schema.specs.Described.{node_described};
+    ghost use Rattle.smithy_schema.specs.views.Described.{node_described};
 
     ghost view = { node_described };
 }
 
 impl<'a> Schema<'a> {
-    ghost use Rattle.std.specs.Prelude.{◌≡◌, [], true, Some, None, option_map};
-    ghost use Rattle.smithy_schema.specs.Described.{bare_by};
-    ghost use Rattle.smithy_schema.specs.Nodes.{Node, Namespace};
-    ghost use Rattle.smithy_schema.specs.DescribedTraits.{traits_described, with_plain};
-    ghost use Rattle.smithy_schema.specs.Places.{places_of};
+    ghost use Rattle.std.specs.Prelude.{◌≡◌, true, Some};
+    ghost use Rattle.smithy_schema.specs.views.Described.{bare_by, member_by, with_list, with_map};
+    ghost use Rattle.smithy_schema.specs.Nodes.{Node};
+    ghost use Rattle.smithy_schema.specs.views.DescribedTraits.{traits_described, with_plain, with_namespace, with_prefix_headers, with_time_format};
+    ghost use Rattle.smithy_schema.specs.views.Places.{places_of};
 
     /// A node of this kind that cites nothing.
     pub const fn new(id: ShapeId<'a>, shape_type: ShapeType) -> Self
@@ -115,11 +115,7 @@ impl<'a> Schema<'a> {
         member_name: &'a str,
         member_index: usize,
     ) -> Self
-        ensures { result
-            ≡ record (bare_by id.entry shape_type) {
-              member_name = Some member_name.now;
-              member_index = Some member_index;
-            } }
+        ensures { result ≡ member_by id.entry shape_type member_name.now member_index }
     {
         let mut schema = Schema::new(id, shape_type);
         schema.membership = Membership::Indexed(member_name, member_index);
@@ -145,8 +141,7 @@ impl<'a> Schema<'a> {
 
     /// The same with keys and values in the place of members, element, key and value.
     pub fn with_map_members(mut self, key: SchemaIndex, value: SchemaIndex) -> Self
-        ensures { result
-            ≡ record self.entry { members = []; element = None; key = Some key.0; value = Some value.0 } }
+        ensures { result ≡ with_map key.0 value.0 self.entry }
     {
         self.members = &[];
         self.places = Places {
@@ -160,8 +155,7 @@ impl<'a> Schema<'a> {
 
     /// The same with elements in the place of members, element, key and value.
     pub fn with_list_member(mut self, member: SchemaIndex) -> Self
-        ensures { result
-            ≡ record self.entry { members = []; element = Some member.0; key = None; value = None } }
+        ensures { result ≡ with_list member.0 self.entry }
     {
         self.members = &[];
         self.places = Places {
@@ -202,8 +196,7 @@ impl<'a> Schema<'a> {
 
     /// The same with a format of timestamps (Smithy, timestampFormat trait).
     pub fn with_timestamp_format(mut self, format: TimestampFormat) -> Self
-        ensures { result
-            ≡ record self.entry { traits = record self.entry.traits { timestamp_format = Some format } } }
+        ensures { result ≡ with_time_format format self.entry }
     {
         self.traits = Traits {
             timestamp_format: Some(format),
@@ -234,15 +227,7 @@ impl<'a> Schema<'a> {
 
     /// The same with a namespace in XML (Smithy, XML bindings, xmlNamespace trait).
     pub fn with_xml_namespace(mut self, uri: &'a str, prefix: Option<&'a str>) -> Self
-        ensures { result
-            ≡ record self.entry {
-              traits = record self.entry.traits {
-                xml_namespace = Some (record {
-                  uri = uri.now;
-                  prefix = option_map (λ p. p.now) prefix.entry;
-                });
-              };
-            } }
+        ensures { result ≡ with_namespace uri.now prefix.entry self.entry }
     {
         self.traits = Traits {
             xml_namespace: Some(XmlNamespaceTrait::new(uri, prefix)),
@@ -297,10 +282,7 @@ impl<'a> Schema<'a> {
 
     /// The same with the trait `httpPrefixHeaders`.
     pub fn with_http_prefix_headers(mut self, value: &'a str) -> Self
-        ensures { result
-            ≡ record self.entry {
-              traits = record self.entry.traits { http_prefix_headers = Some value.now };
-            } }
+        ensures { result ≡ with_prefix_headers value.now self.entry }
     {
         self.traits = Traits {
             http_prefix_headers: Some(value),

@@ -36,14 +36,14 @@ pub struct SchemaRef<'t> {
 }
 
 impl<'t> TableRef<'t> {
-    ghost use Rattle.smithy_schema.specs.Stored.{node_stored};
+    ghost use Rattle.smithy_schema.specs.views.Stored.{node_stored};
     ghost use Rattle.std.specs.Prelude.{IfSome};
-    ghost use Rattle.smithy_schema.specs.References.{node_in, schema_at, schema_of};
-    ghost use Rattle.smithy_schema.specs.MemberNames.{IsFirstOfName};
+    ghost use Rattle.smithy_schema.specs.views.References.{node_in, schema_at, schema_of};
+    ghost use Rattle.smithy_schema.specs.views.MemberNames.{IsFirstOfName};
     ghost use Rattle.smithy_schema.specs.Defining.{HasMembersInPlace, IsSound};
     ghost use Rattle.smithy_schema.specs.WellMade.{is_whole};
-    ghost use Rattle.smithy_schema.specs.Kept.{HasNames};
-    ghost use Rattle.smithy_schema.specs.Places.{places_of};
+    ghost use Rattle.smithy_schema.specs.views.Kept.{HasNames};
+    ghost use Rattle.smithy_schema.specs.views.Places.{places_of};
     ghost use Rattle.smithy_schema.specs.Nodes.{position_of_name};
 
     pub(crate) fn stored(self) -> &'t StoredNode
@@ -110,14 +110,13 @@ impl<'t> SchemaRef<'t> {
     ghost use Rattle.smithy_ids.specs.ShapeIds.{has_hash, parts_in};
     ghost use Rattle.smithy_ids.specs.ShapeIdParts.{parts_of};
     ghost use Rattle.smithy_schema.specs.Nodes.{at_place, position_of_name};
-    ghost use Rattle.smithy_schema.specs.MemberNames.{IsFirstOfName};
-    ghost use Rattle.smithy_schema.specs.Places.{place_of, places_of};
-    ghost use Rattle.smithy_schema.specs.PreludeNodes.{prelude_node, IsBare};
+    ghost use Rattle.smithy_schema.specs.views.MemberNames.{IsFirstOfName};
+    ghost use Rattle.smithy_schema.specs.views.Places.{place_of, places_of};
+    ghost use Rattle.smithy_schema.specs.PreludeNodes.{prelude_node};
     ghost use Rattle.smithy_schema.specs.Defining.{HasMembersInPlace, IsSound};
     ghost use Rattle.smithy_schema.specs.WellMade.{is_whole};
-    ghost use Rattle.smithy_schema.specs.References.{schema_of, index_of};
-    ghost use Rattle.smithy_schema.specs.Details.{details_of, outlined};
-    ghost use Rattle.smithy_schema.specs.Stored.{node_stored, details_full};
+    ghost use Rattle.smithy_schema.specs.views.References.{schema_of, index_of};
+    ghost use Rattle.smithy_schema.specs.views.Stored.{node_stored, ShowsDetails, ShowsNode};
 
     // The node at a place of a table.
     pub(crate) fn at(table: &'t Schemas, index: SchemaIndex) -> Option<SchemaRef<'t>>
@@ -134,8 +133,7 @@ impl<'t> SchemaRef<'t> {
 
     // The node as the table keeps it, None for the prelude's.
     pub(crate) fn stored(&self) -> Option<&'t StoredNode>
-        ensures node { MatchOption result (IsBare (schema_of self.now).node)
-            (λ n. (schema_of self.now).node ≡ node_stored n.now) }
+        ensures node { ShowsNode (schema_of self.now).node result }
         ensures whole { IfSome result (λ n. is_whole (node_stored n.now) ≡ true) }
     {
         match self.spot {
@@ -146,10 +144,7 @@ impl<'t> SchemaRef<'t> {
 
     // What the table keeps of the node in full, None where the node has a time format at most.
     pub(crate) fn details(&self) -> Option<&'t FullDetails>
-        ensures { MatchOption result
-            (details_of (schema_of self.now).node
-            ≡ outlined (schema_of self.now).node.traits.timestamp_format)
-            (λ d. details_of (schema_of self.now).node ≡ details_full d.now) }
+        ensures { ShowsDetails (schema_of self.now).node result }
     {
         match &self.stored()?.details {
             StoredDetails::Outline(_) => None,

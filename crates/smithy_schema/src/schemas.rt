@@ -30,8 +30,8 @@ impl Model for Schemas {
 
     ghost coded = { Prim.hlevel (codes, coded_document) };
 
-    ghost use Rattle.smithy_schema.specs.Stored.{table_stored};
-    ghost use Rattle.smithy_schema.specs.Kept.{IsKept};
+    ghost use Rattle.smithy_schema.specs.views.Stored.{table_stored};
+    ghost use Rattle.smithy_schema.specs.views.Kept.{IsKept};
 
     ghost view = { λ a. table_stored a.nodes.items };
 
@@ -39,10 +39,10 @@ impl Model for Schemas {
 }
 
 impl Schemas {
-    ghost use Rattle.std.specs.Prelude.{◌≡◌, ◌++◌, ◌∷◌, [], length, slice_set, Some, None, Ok, Err, IfOk, OnOk, OnErr, IsOkUnless, MatchOption, IfSome, IsTrue, option_map};
+    ghost use Rattle.std.specs.Prelude.{◌≡◌, ◌++◌, ◌∷◌, [], length, slice_set, Some, None, Ok, Err, IfOk, OnOk, OnErr, IsOkUnless, IfSome, IsTrue, option_map};
     ghost use Rattle.smithy_schema.specs.Nodes.{at_place};
-    ghost use Rattle.smithy_schema.specs.Defining.{IsSound, citing_fault, define_fault, declared_more};
-    ghost use Rattle.smithy_schema.specs.References.{schema_of, index_of};
+    ghost use Rattle.smithy_schema.specs.Defining.{IsSound, RefusesBy, citing_fault, define_fault, declared_more};
+    ghost use Rattle.smithy_schema.specs.views.References.{schema_of, index_of};
     ghost use Rattle.smithy_schema.specs.WellMade.{is_well_made};
 
     /// A table without places.
@@ -90,8 +90,7 @@ impl Schemas {
     /// declared, and for each member in order `NotMember` where it has no member index, `Order` where its index isn't its
     /// position; then want of memory. After a refusal the table is unchanged.
     pub fn define(&mut self, index: SchemaIndex, schema: Schema<'_>) -> Result<(), SchemaError>
-        ensures fault { MatchOption (define_fault self.old index.0 schema.entry)
-            (IsOkUnless result SchemaError.OutOfMemory) (λ fault. result ≡ Err fault) }
+        ensures fault { RefusesBy (define_fault self.old index.0 schema.entry) result }
         ensures ok { OnOk result (self.new ≡ slice_set self.old index.0 (Some schema.entry)) }
         ensures err { OnErr result (self.new ≡ self.old) }
     {
@@ -108,8 +107,7 @@ impl Schemas {
     /// linear in the description up to the logarithm of the map from the members' names to their positions. After a refusal
     /// the table is unchanged.
     pub fn insert(&mut self, schema: Schema<'_>) -> Result<SchemaIndex, SchemaError>
-        ensures fault { MatchOption (define_fault (declared_more self.old) (length self.old) schema.entry)
-            (IsOkUnless result SchemaError.OutOfMemory) (λ fault. result ≡ Err fault) }
+        ensures fault { RefusesBy (define_fault (declared_more self.old) (length self.old) schema.entry) result }
         ensures place { IfOk result (λ i. i.0 ≡ length self.old) }
         ensures ok { OnOk result (self.new ≡ self.old ++ Some schema.entry ∷ []) }
         ensures err { OnErr result (self.new ≡ self.old) }

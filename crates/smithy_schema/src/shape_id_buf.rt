@@ -1,6 +1,7 @@
 // Identifiers that own their name.
-ghost use Rattle.std.specs.Prelude.{◌≡◌, IfOk, option_map};
+ghost use Rattle.std.specs.Prelude.{◌≡◌, IfOk};
 ghost use Rattle.smithy_ids.specs.ShapeIds.{joined_name};
+ghost use Rattle.smithy_schema.specs.views.DescribedTraits.{text_of};
 
 use smithy_ids::ShapeId;
 use smithy_types::{OutOfMemory, Text};
@@ -26,7 +27,7 @@ impl Model for ShapeIdBuf {
 
 impl ShapeIdBuf {
     ghost use Rattle.std.specs.Prelude.{◌≡◌, false, Some, None, IfOk};
-    ghost use Rattle.smithy_ids.specs.ShapeIds.{has_hash, has_dollar, joined_name, parts_in, Parts};
+    ghost use Rattle.smithy_ids.specs.ShapeIds.{has_hash, has_dollar, joined_name, parts_in, HasParts};
     ghost use Rattle.smithy_ids.specs.ShapeIdParts.{parts_of};
 
     /// The identifier `namespace#shape_name` of a shape.
@@ -34,12 +35,7 @@ impl ShapeIdBuf {
         requires no_hash { has_hash namespace.now ≡ false }
         requires no_dollar { has_dollar shape_name.now ≡ false }
         ensures name { IfOk result (λ id. id ≡ joined_name namespace.now shape_name.now None) }
-        ensures parts { IfOk result (λ id. parts_in id ≡ Some (record {
-          full_name = id;
-          namespace = namespace.now;
-          shape_name = shape_name.now;
-          member_name = None;
-        })) }
+        ensures parts { IfOk result (HasParts namespace.now shape_name.now None) }
     {
         let name = joined(alloc, namespace, shape_name, None)?;
         Ok(ShapeIdBuf { name })
@@ -56,12 +52,7 @@ impl ShapeIdBuf {
         requires no_dollar { has_dollar shape_name.now ≡ false }
         ensures name { IfOk result
             (λ id. id ≡ joined_name namespace.now shape_name.now (Some member_name.now)) }
-        ensures parts { IfOk result (λ id. parts_in id ≡ Some (record {
-          full_name = id;
-          namespace = namespace.now;
-          shape_name = shape_name.now;
-          member_name = Some member_name.now;
-        })) }
+        ensures parts { IfOk result (HasParts namespace.now shape_name.now (Some member_name.now)) }
     {
         let name = joined(alloc, namespace, shape_name, Some(member_name))?;
         Ok(ShapeIdBuf { name })
@@ -100,8 +91,7 @@ fn joined(
     shape_name: &str,
     member_name: Option<&str>,
 ) -> Result<Text, OutOfMemory>
-    ensures { IfOk result (λ name.
-        name ≡ joined_name namespace.now shape_name.now (option_map (λ t. t.now) member_name.entry)) }
+    ensures { IfOk result (λ n. n ≡ joined_name namespace.now shape_name.now (text_of member_name.entry)) }
 {
     let mut name = Text::from_str(alloc, namespace)?;
     name.push_str("#")?;

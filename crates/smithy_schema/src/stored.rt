@@ -1,12 +1,12 @@
 // A node as a table keeps it: with texts of its own.
 ghost use Rattle.std.specs.Prelude.{◌≡◌, true, IfOk, IfSome, IsTrue, option_map};
 ghost use Rattle.std.specs.Str.{is_utf8};
-ghost use Rattle.smithy_schema.specs.Details.{details_of};
-ghost use Rattle.smithy_schema.specs.Stored.{http_stored, namespace_stored, name_stored, index_stored, node_stored, table_stored, traits_stored, details_full};
-ghost use Rattle.smithy_schema.specs.Kept.{HasNames, IsFollower, KeepsNames};
-ghost use Rattle.smithy_schema.specs.Described.{name_in, index_in};
-ghost use Rattle.smithy_schema.specs.DescribedTraits.{traits_described};
-ghost use Rattle.smithy_schema.specs.MarksOf.{marks_of};
+ghost use Rattle.smithy_schema.specs.views.Details.{details_of};
+ghost use Rattle.smithy_schema.specs.views.Stored.{http_stored, namespace_stored, name_stored, index_stored, node_stored, table_stored, traits_stored, details_full};
+ghost use Rattle.smithy_schema.specs.views.Kept.{HasNames, IsFollower, KeepsNames};
+ghost use Rattle.smithy_schema.specs.views.Described.{name_in, index_in};
+ghost use Rattle.smithy_schema.specs.views.DescribedTraits.{traits_described, traits_with};
+ghost use Rattle.smithy_schema.specs.views.MarksOf.{marks_of};
 ghost use Rattle.smithy_schema.specs.WellMade.{has_utf8, has_utf8_traits, is_whole};
 
 use crate::member_names::{Positions, first_positions, followers};
@@ -199,8 +199,7 @@ fn copied_traits(
     traits: &Traits<'_>,
     others: Option<TraitMap>,
 ) -> Result<StoredTraits, OutOfMemory>
-    ensures traits { IfOk result (λ t.
-        traits_stored t ≡ record (traits_described traits.now) { others = others }) }
+    ensures traits { IfOk result (λ t. traits_stored t ≡ traits_with traits.now others) }
     ensures utf8 { IfOk result (λ t. IsTrue (has_utf8_traits (traits_stored t))) }
 {
     Ok(StoredTraits {

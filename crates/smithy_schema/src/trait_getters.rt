@@ -1,11 +1,10 @@
 // The traits of a node. A getter gives the trait by value, None where the node doesn't have it, and takes no memory.
-ghost use Rattle.std.specs.Prelude.{◌≡◌, MatchOption, option_map};
+ghost use Rattle.std.specs.Prelude.{◌≡◌, option_map};
 ghost use Rattle.std.specs.Option.{is_some};
-ghost use Rattle.smithy_schema.specs.Details.{outlined};
 ghost use Rattle.smithy_schema.specs.Nodes.{is_response_bound};
-ghost use Rattle.smithy_schema.specs.References.{schema_of};
-ghost use Rattle.smithy_schema.specs.Stored.{traits_stored};
-ghost use Rattle.smithy_schema.specs.MarksOf.{marks_of};
+ghost use Rattle.smithy_schema.specs.views.References.{schema_of};
+ghost use Rattle.smithy_schema.specs.views.Stored.{ShowsTraits};
+ghost use Rattle.smithy_schema.specs.views.MarksOf.{marks_of};
 
 use crate::parts::{Marks, NO_MARKS};
 use crate::schema_ref::{SchemaRef, as_str};
@@ -21,10 +20,7 @@ use smithy_ids::{
 impl<'t> SchemaRef<'t> {
     // The traits as the table keeps them, None where the node has a time format at most.
     pub(crate) fn traits_kept(&self) -> Option<&'t StoredTraits>
-        ensures { MatchOption result
-            ((schema_of self.now).node.traits
-            ≡ (outlined (schema_of self.now).node.traits.timestamp_format).traits)
-            (λ t. (schema_of self.now).node.traits ≡ traits_stored t.now) }
+        ensures { ShowsTraits (schema_of self.now).node result }
     {
         match self.details() {
             Some(details) => Some(&details.traits),
@@ -36,10 +32,7 @@ impl<'t> SchemaRef<'t> {
     pub fn traits(&self) -> Option<&'t TraitMap>
         ensures { option_map (λ m. m.now) result ≡ (schema_of self.now).node.traits.others }
     {
-        match &self.traits_kept()?.others {
-            Some(traits) => Some(traits),
-            None => None,
-        }
+        self.traits_kept()?.others.as_ref()
     }
 
     fn marks(&self) -> Marks

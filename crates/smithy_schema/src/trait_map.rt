@@ -24,7 +24,7 @@ impl Model for TraitMap {
 
     ghost coded = { Prim.hlevel (codes, coded_document) };
 
-    ghost use Rattle.smithy_schema.specs.TraitMaps.{entries_kept, AreUnderTheirNames};
+    ghost use Rattle.smithy_schema.specs.views.TraitMaps.{entries_kept, AreUnderTheirNames};
 
     ghost view = { λ m. entries_kept m.entries.entries };
 
@@ -35,8 +35,8 @@ impl TraitMap {
     ghost use Rattle.std.specs.Prelude.{◌≡◌, ◌==◌, [], length, is_some, option_map, OnOk, OnErr};
     ghost use Rattle.smithy_ids.specs.ShapeIdParts.{parts_of};
     ghost use Rattle.smithy_types.specs.Maps.{with_value, IsOrdered};
-    ghost use Rattle.smithy_schema.specs.OwnedTraits.{name_of, value_of, entry_of};
-    ghost use Rattle.smithy_schema.specs.TraitMaps.{entry_named};
+    ghost use Rattle.smithy_schema.specs.views.OwnedTraits.{name_of, value_of, entry_of};
+    ghost use Rattle.smithy_schema.specs.views.TraitMaps.{entry_named};
 
     /// No traits. Takes no memory.
     pub fn new(alloc: Global) -> TraitMap

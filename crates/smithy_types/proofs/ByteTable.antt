@@ -6,7 +6,7 @@ use Rattle.std.proofs.lemmas.List.FromFn.{get_or-map-range_with_len}
 use Rattle.smithy_types.specs.declared.grammar.ByteClass.{ByteClass}
 use Rattle.smithy_types.specs.declared.grammar.ByteClass.TheVariants.{Token, HeaderValue, Path, Query, Authority}
 use Rattle.smithy_types.specs.declared.grammar.TheConstants.{CLASSES}
-use Rattle.smithy_types.specs.ByteClasses.{bytes_of, flag_of}
+use Rattle.smithy_types.specs.views.ByteClasses.{bytes_of, flag_of}
 
 abbrev has_flag : ByteClass → ℕ → Bool
 has_flag class flags = not (nat_eq (bit_and flags (flag_of class)) 0)

@@ -1,5 +1,5 @@
 -- What stands at a place or at a key.
-use Rattle.std.proofs.Common.{◌≡◌, ℕ, Bool, true, false, cond, List, [], ◌∷◌, map, length, Option, Some, None, option_map, Bor, refl, sym, ap, subst, ◌∙◌, string_cmp, String, Global, string_bytes, nat_cmp}
+use Rattle.std.proofs.Common.{◌≡◌, ℕ, List, [], ◌∷◌, map, length, Option, Some, None, option_map, Bor, refl, sym, ap, subst, ◌∙◌, string_cmp, String, Global, string_bytes, nat_cmp}
 use Rattle.std.specs.Cmp.Lexicographic.{slice_cmp}
 use Rattle.std.proofs.lemmas.Iterator.{YieldsList}
 use Rattle.std.specs.List.{slice_get}
@@ -14,7 +14,7 @@ use Rattle.smithy_types.specs.declared.document.Documents.{Documents, out-Docume
 use Rattle.smithy_types.specs.declared.document.Members.{Members, out-Members}
 use Rattle.smithy_types.specs.Documents as doc
 use Rattle.smithy_types.specs.Documents.{items_of, list_of_items, list_of_members}
-use Rattle.smithy_types.specs.DocumentView.{view, pair_view, items_view, members_view}
+use Rattle.smithy_types.specs.views.DocumentView.{view, pair_view, items_view, members_view}
 use Rattle.smithy_types.specs.Texts.{same_text}
 use Rattle.smithy_types.proofs.MapLemmas.{lookup-pairs_of, IsOrdered-pairs_of}
 use Rattle.smithy_types.specs.Maps.{IsOrdered}

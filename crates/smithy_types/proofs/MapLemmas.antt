@@ -7,7 +7,7 @@ use Rattle.std.specs.List.Sorted.{IsStrictlySortedBy}
 use Rattle.std.specs.Map.{keys_of, lookup}
 use Rattle.std.specs.Ordering.{match_ordering}
 use Rattle.std.proofs.lemmas.Map.Text.{is_eq-slice_cmp}
-use Rattle.smithy_types.specs.MapViews.{pair_of}
+use Rattle.smithy_types.specs.views.MapViews.{pair_of}
 use Rattle.smithy_types.specs.Maps.{with_value, IsOrdered}
 use Rattle.smithy_types.specs.Texts.{same_text}
 

@@ -5,7 +5,7 @@ use Rattle.std.specs.BTreeMap.{insert_entry}
 use Rattle.smithy_types.specs.Documents as doc
 use Rattle.smithy_types.specs.Documents.{put, items_of}
 use Rattle.smithy_types.specs.Documents.{items_snoc}
-use Rattle.smithy_types.specs.DocumentView.{view, items_view, members_view, members_of}
+use Rattle.smithy_types.specs.views.DocumentView.{view, items_view, members_view, members_of}
 use Rattle.smithy_types.specs.declared.document.Document.{Document, the_lemmas}
 use Rattle.smithy_types.specs.declared.document.Document.TheViews.{roll-Documents, roll-Members}
 use Rattle.smithy_types.specs.declared.document.Documents.{Documents, out-Documents}

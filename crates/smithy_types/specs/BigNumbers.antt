@@ -3,12 +3,13 @@ use Rattle.std.specs.Prelude.{ℕ, ◌+◌, ◌^◌, drop, nat_le, nat_lt, nat_e
 use Rattle.std.specs.List.{list_all, starts_with, before_first, after_first, position_or_len}
 use Rattle.std.specs.Str.Parse.{digits_value}
 use Rattle.smithy_types.specs.Grammars.{is_between}
+use Rattle.smithy_types.specs.Texts.{plus_sign, hyphen, full_stop}
 
 abbrev pub is_digit : ℕ → Bool
 is_digit b = is_between 48 57 b
 
 abbrev pub is_sign : ℕ → Bool
-is_sign b = (b == 43) || (b == 45)
+is_sign b = (b == plus_sign) || (b == hyphen)
 
 -- without one sign at its start
 abbrev pub unsigned : List ℕ → List ℕ
@@ -33,8 +34,8 @@ is_exponent (mark ∷ text) = is_exponent_mark mark && is_signed_digits text
 -- digits with an optional point in or behind them, or a point and digits
 abbrev pub is_mantissa : List ℕ → Bool
 is_mantissa text =
-    let whole = before_first (λ b. b == 46) text in
-    let part = after_first (λ b. b == 46) text in
+    let whole = before_first (λ b. b == full_stop) text in
+    let part = after_first (λ b. b == full_stop) text in
     list_all is_digit whole && list_all is_digit part && not (length whole + length part == 0)
 
 -- what stands behind the sign and before an exponent
@@ -51,7 +52,7 @@ is_big_decimal text = is_mantissa (mantissa_of text) && is_exponent (exponent_of
 
 -- the number of a mantissa's digits
 abbrev pub coefficient_in : List ℕ → ℕ
-coefficient_in mantissa = digits_value 10 (before_first (λ b. b == 46) mantissa ++ after_first (λ b. b == 46) mantissa)
+coefficient_in mantissa = digits_value 10 (before_first (λ b. b == full_stop) mantissa ++ after_first (λ b. b == full_stop) mantissa)
 
 abbrev pub coefficient : List ℕ → ℕ
 coefficient text = coefficient_in (mantissa_of text)

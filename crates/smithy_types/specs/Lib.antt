@@ -1,14 +1,13 @@
 pub mod BigNumbers
-pub mod ByteClasses
 pub mod Calendar
-pub mod DocumentCode
-pub mod DocumentView
 pub mod Documents
 pub mod Grammars
-pub mod MapViews
 pub mod Maps
 pub mod Results
 pub mod Settings
 pub mod Texts
 pub mod TimestampReading
 pub mod Timestamps
+pub mod views
+pub use Rattle.smithy_types.specs.views.DocumentCode
+pub use Rattle.smithy_types.specs.views.DocumentView

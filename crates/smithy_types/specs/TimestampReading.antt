@@ -7,7 +7,7 @@ use Rattle.std.specs.Str.Parse.{digits_value, signed_digits_value, starts_with_m
 use Rattle.jiff_core.specs.Calendar.{days_in_month, days_from_civil}
 use Rattle.smithy_types.specs.declared.date_time.Format.{Format}
 use Rattle.smithy_types.specs.declared.date_time.Format.TheVariants.{EpochSeconds, DateTime, HttpDate}
-use Rattle.smithy_types.specs.Texts.{same_text, is_one_of}
+use Rattle.smithy_types.specs.Texts.{same_text, is_one_of, full_stop}
 use Rattle.smithy_types.specs.Grammars.{is_between}
 use Rattle.smithy_types.specs.BigNumbers.{is_digit, are_digits}
 use Rattle.smithy_types.specs.Timestamps.{weekday_names, month_names, timestamp_text}
@@ -68,7 +68,7 @@ clock_of text =
 -- nothing, or a point and one or more zeros
 abbrev pub is_zero_fraction : List ℕ → Bool
 is_zero_fraction [] = true
-is_zero_fraction (point ∷ zeros) = (point == 46) && not (length zeros == 0) && list_all (λ b. b == 48) zeros
+is_zero_fraction (point ∷ zeros) = (point == full_stop) && not (length zeros == 0) && list_all (λ b. b == 48) zeros
 
 -- a fraction of zeros and the zone
 unfoldable pub is_zone : List ℕ → List ℕ → Bool

@@ -54,7 +54,7 @@ impl BigInteger {
         ensures text { IfOk result (λ n. n ≡ text.now) }
         ensures malformed { IsErrOf result TypesError.Malformed ↔ (grammar text.now ≡ false) }
         ensures too_wide { IsErrOf result TypesError.TooWide
-            ↔ ((grammar text.now ≡ true) × (narrow text.now ≡ false)) }
+            ↔ (grammar text.now ≡ true) × (narrow text.now ≡ false) }
         ensures refusals { IfErr result (λ e. e ≢ TypesError.DateRange) }
     {
         let bytes = text.as_bytes();
@@ -127,7 +127,7 @@ impl BigDecimal {
         ensures text { IfOk result (λ n. n ≡ text.now) }
         ensures malformed { IsErrOf result TypesError.Malformed ↔ (grammar text.now ≡ false) }
         ensures too_wide { IsErrOf result TypesError.TooWide
-            ↔ ((grammar text.now ≡ true) × (narrow text.now ≡ false)) }
+            ↔ (grammar text.now ≡ true) × (narrow text.now ≡ false) }
         ensures refusals { IfErr result (λ e. e ≢ TypesError.DateRange) }
     {
         let bytes = text.as_bytes();

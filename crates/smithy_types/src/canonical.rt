@@ -1,7 +1,7 @@
 // Documents in which each number has one form.
 ghost use Rattle.std.specs.Prelude.{◌≡◌};
 ghost use Rattle.smithy_types.specs.Documents.{is_canonical, are_canonical_items, are_canonical_members};
-ghost use Rattle.smithy_types.specs.DocumentView.{view, items_view, members_view};
+ghost use Rattle.smithy_types.specs.views.DocumentView.{view, items_view, members_view};
 
 use crate::document::{Document, Documents, Members};
 use crate::number::Number;

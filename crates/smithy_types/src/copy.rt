@@ -1,6 +1,6 @@
 // Equal documents.
 ghost use Rattle.std.specs.Prelude.{◌≡◌, IfOk};
-ghost use Rattle.smithy_types.specs.DocumentView.{view, items_view, members_view};
+ghost use Rattle.smithy_types.specs.views.DocumentView.{view, items_view, members_view};
 
 use crate::document::{Document, Documents, Members};
 use crate::error::OutOfMemory;

@@ -3,7 +3,7 @@ ghost use Rattle.std.specs.Prelude.{◌≡◌, ◌<◌, ◌≤◌, ◌++◌, ◌
 ghost use Rattle.std.specs.Int.{IsInRange};
 ghost use Rattle.smithy_types.specs.Timestamps.{clock_text, full_date_text, short_date_text, date_time_text, http_date_text, weekday_name, month_name};
 
-use crate::calendar::{CalendarDate, date_on};
+use crate::calendar::date_on;
 use std::alloc::{AllocError, Global};
 
 const SECONDS_IN_DAY: u64 = 86_400;
@@ -61,21 +61,18 @@ fn push_clock(text: &mut String, seconds: u32) -> Result<(), AllocError>
 }
 
 /// Adds a date as `YYYY-MM-DD`.
-fn push_date(text: &mut String, date: &CalendarDate) -> Result<(), AllocError>
-    ensures { OnOk result (string_bytes text.new ≡ string_bytes text.old
-        ++ full_date_text date.now.year date.now.month date.now.day) }
+fn push_date(text: &mut String, year: u16, month: u8, day: u8) -> Result<(), AllocError>
+    ensures { OnOk result (string_bytes text.new ≡ string_bytes text.old ++ full_date_text year month day) }
 {
-    let (year, month, day) = (date.year, date.month, date.day);
     write!(text, "{year:04}-{month:02}-{day:02}")
 }
 
 /// Adds a date as `09 Jan 2018`.
-fn push_short_date(text: &mut String, date: &CalendarDate) -> Result<(), AllocError>
-    requires { IsInRange 1 12 date.now.month }
-    ensures { OnOk result (string_bytes text.new ≡ string_bytes text.old
-        ++ short_date_text date.now.year date.now.month date.now.day) }
+fn push_short_date(text: &mut String, year: u16, month: u8, day: u8) -> Result<(), AllocError>
+    requires { IsInRange 1 12 month }
+    ensures { OnOk result (string_bytes text.new ≡ string_bytes text.old ++ short_date_text year month day) }
 {
-    let (year, month, day) = (date.year, month_name(date.month), date.day);
+    let month = month_name(month);
     write!(text, "{day:02} {month} {year:04}")
 }
 
@@ -86,7 +83,7 @@ pub(crate) fn date_time_text(alloc: Global, seconds: u64) -> Result<String, Allo
 {
     let date = date_on((seconds / SECONDS_IN_DAY) as u32);
     let mut text = String::with_capacity(alloc, DATE_TIME_LEN)?;
-    push_date(&mut text, &date)?;
+    push_date(&mut text, date.year, date.month, date.day)?;
     text.push_str("T")?;
     push_clock(&mut text, (seconds % SECONDS_IN_DAY) as u32)?;
     text.push_str("Z")?;
@@ -99,10 +96,11 @@ pub(crate) fn http_date_text(alloc: Global, seconds: u64) -> Result<String, Allo
     ensures { IfOk result (λ t. string_bytes t ≡ http_date_text seconds) }
 {
     let day = (seconds / SECONDS_IN_DAY) as u32;
+    let date = date_on(day);
     let mut text = String::with_capacity(alloc, HTTP_DATE_LEN)?;
     text.push_str(weekday_name(day))?;
     text.push_str(", ")?;
-    push_short_date(&mut text, &date_on(day))?;
+    push_short_date(&mut text, date.year, date.month, date.day)?;
     text.push_str(" ")?;
     push_clock(&mut text, (seconds % SECONDS_IN_DAY) as u32)?;
     text.push_str(" GMT")?;

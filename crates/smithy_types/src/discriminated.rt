@@ -17,8 +17,8 @@ impl<S: DocumentSettings> Model for DiscriminatedDocument<S> {
     ghost use Rattle.std.specs.Coded.{code_by, coded×, coded_ℕ, coded_list, coded_option};
     ghost use Rattle.smithy_types.specs.Settings.{Discriminated};
     ghost use Rattle.smithy_types.specs.Documents.{Document as Tree};
-    ghost use Rattle.smithy_types.specs.DocumentCode.{coded_document};
-    ghost use Rattle.smithy_types.specs.DocumentView.{view as document_view};
+    ghost use Rattle.smithy_types.specs.views.DocumentCode.{coded_document};
+    ghost use Rattle.smithy_types.specs.views.DocumentView.{view as document_view};
 
     ghost Value = { Discriminated S };
 
@@ -33,7 +33,7 @@ impl<S: DocumentSettings> Model for DiscriminatedDocument<S> {
 
 impl<S: DocumentSettings> DiscriminatedDocument<S> {
     ghost use Rattle.std.specs.Prelude.{◌≡◌, Some, None, option_map};
-    ghost use Rattle.smithy_types.specs.DocumentView.{view as document_view};
+    ghost use Rattle.smithy_types.specs.views.DocumentView.{view as document_view};
 
     /// The document with these settings, and without a discriminator.
     pub fn new(document: Document, settings: S) -> Self

@@ -2,7 +2,7 @@
 ghost use Rattle.std.specs.Prelude.{◌≡◌, OnOk, OnErr, length, slice_get, map, option_map};
 ghost use Rattle.smithy_types.specs.Documents as doc;
 ghost use Rattle.smithy_types.specs.Documents.{put, items_snoc, items_of, boolean_in, number_in, string_in, array_in, object_in, list_of_items, list_of_members};
-ghost use Rattle.smithy_types.specs.DocumentView.{view, number_view, items_view, members_view};
+ghost use Rattle.smithy_types.specs.views.DocumentView.{view, number_view, items_view, members_view, pairs_in};
 ghost use Rattle.smithy_types.specs.Maps.{IsOrdered};
 ghost use Rattle.smithy_types.specs.Texts.{same_text};
 ghost use Rattle.std.specs.Map.{lookup};
@@ -166,7 +166,7 @@ impl Members {
     /// The document at a key.
     pub fn get(&self, key: &str) -> Option<&Document>
         ensures { option_map (λ d. view d.now) result
-            ≡ lookup (same_text key.now) (list_of_members (members_view self.now)) }
+            ≡ lookup (same_text key.now) (pairs_in self.now) }
     {
         self.entries.get(key)
     }
@@ -174,7 +174,7 @@ impl Members {
     /// The key at a place in byte order, counted from 0; none behind the last. It walks to the place: to go over all members, use `iter`.
     pub fn key_at(&self, place: usize) -> Option<&str>
         ensures { option_map (λ k. k.now) result
-            ≡ option_map (λ m. m.0) (slice_get (list_of_members (members_view self.now)) place) }
+            ≡ option_map (λ m. m.0) (slice_get (pairs_in self.now) place) }
     {
         match self.entries.keys().nth(place) {
             Some(key) => Some(key.as_str()),
@@ -185,7 +185,7 @@ impl Members {
     /// The document at a place in byte order of the keys, counted from 0; none behind the last. It walks to the place, as `key_at` does.
     pub fn value_at(&self, place: usize) -> Option<&Document>
         ensures { option_map (λ d. view d.now) result
-            ≡ option_map (λ m. m.1) (slice_get (list_of_members (members_view self.now)) place) }
+            ≡ option_map (λ m. m.1) (slice_get (pairs_in self.now) place) }
     {
         self.entries.values().nth(place)
     }
@@ -211,8 +211,8 @@ impl<'m> Model for MemberPairs<'m> {
     ghost use Rattle.std.specs.Prelude.{List, ℕ, map};
     ghost use Rattle.std.specs.Coded.{coded×, coded_ℕ, coded_list};
     ghost use Rattle.smithy_types.specs.Documents as doc;
-    ghost use Rattle.smithy_types.specs.DocumentCode.{coded_document};
-    ghost use Rattle.smithy_types.specs.DocumentView.{pair_view};
+    ghost use Rattle.smithy_types.specs.views.DocumentCode.{coded_document};
+    ghost use Rattle.smithy_types.specs.views.DocumentView.{pair_view};
 
     ghost Value = { List (List ℕ × doc.Document) };
 
@@ -223,7 +223,7 @@ impl<'m> Model for MemberPairs<'m> {
 
 impl<'m> Iterator for MemberPairs<'m> {
     ghost use Rattle.std.specs.Iterator.{YieldsFirstBy, item_count};
-    ghost use Rattle.smithy_types.specs.DocumentView.{view};
+    ghost use Rattle.smithy_types.specs.views.DocumentView.{view};
 
     type Item = (&'m str, &'m Document);
 

@@ -1,7 +1,7 @@
 // The byte grammars of header names, header values and request targets.
 ghost use Rattle.std.specs.Prelude.{◌≡◌, ◌≤◌, ◌+◌, ◌==◌, drop, length, position};
 ghost use Rattle.std.specs.List.{list_all, before_first, after_first, position_or_len};
-ghost use Rattle.smithy_types.specs.ByteClasses.{bytes_of, flag_of};
+ghost use Rattle.smithy_types.specs.views.ByteClasses.{bytes_of, flag_of};
 ghost use Rattle.smithy_types.specs.Grammars.{is_token, is_header_value, is_path, before_query, scheme_len, is_authority_and_path, is_stem, is_target, is_legal_target};
 
 /// The most bytes that a request target may have.

@@ -15,7 +15,7 @@ pub struct TextMap {
 
 impl Model for TextMap {
     ghost use Rattle.std.specs.Prelude.{List, ℕ, map};
-    ghost use Rattle.smithy_types.specs.MapViews.{pair_of};
+    ghost use Rattle.smithy_types.specs.views.MapViews.{pair_of};
 
     ghost Value = { List (List ℕ × List ℕ) };
 
@@ -104,7 +104,7 @@ pub struct TextPairs<'m> {
 
 impl<'m> Model for TextPairs<'m> {
     ghost use Rattle.std.specs.Prelude.{List, ℕ, map};
-    ghost use Rattle.smithy_types.specs.MapViews.{pair_of};
+    ghost use Rattle.smithy_types.specs.views.MapViews.{pair_of};
 
     ghost Value = { List (List ℕ × List ℕ) };
 

@@ -10,7 +10,7 @@ pub enum Number {
 }
 
 impl Number {
-    ghost use Rattle.smithy_types.specs.DocumentView.{number_view};
+    ghost use Rattle.smithy_types.specs.views.DocumentView.{number_view};
 
     /// The number, as `PosInt` where it is not negative.
     pub fn from_i64(value: i64) -> Number

@@ -126,8 +126,7 @@ fn coefficient(mantissa: &[u8]) -> Option<u128>
 // The number that the digits write behind those of a number, if it fits.
 fn read_on(start: u128, digits: &[u8]) -> Option<u128>
     requires { IsTrue (list_all is_digit digits.now) }
-    ensures { SomeIff result (digits_value_after 10 start digits.now < 2 ^ 128)
-        (digits_value_after 10 start digits.now) }
+    ensures { let n = digits_value_after 10 start digits.now in SomeIff result (n < 2 ^ 128) n }
 {
     let mut value = start;
     for b in digits {

@@ -3,7 +3,7 @@ ghost use Rattle.std.specs.Prelude.{◌≡◌, ◌⊎◌, List, ℕ, ℤ, Result
 ghost use Rattle.smithy_types.specs.declared.error.DocumentError.{DocumentError as Refusal};
 ghost use Rattle.smithy_types.specs.declared.error.DocumentError.TheVariants as refusal;
 ghost use Rattle.smithy_types.specs.Documents.{Number as Whole};
-ghost use Rattle.smithy_types.specs.DocumentView.{number_view};
+ghost use Rattle.smithy_types.specs.views.DocumentView.{number_view};
 
 use crate::blob::Blob;
 use crate::date_time::{DateTime, Format};

@@ -1,5 +1,5 @@
 use Rattle.std.proofs.Common.{◌≡◌, map, take}
-use Rattle.smithy_http.specs.Pairs.{pair_of}
+use Rattle.smithy_http.specs.views.Pairs.{pair_of}
 use Rattle.smithy_http.proofs.headers.headers_of.Given as goal
 
 abbrev pub invariant-loop-pair : goal.invariant-loop-pair

@@ -1,5 +1,5 @@
 use Rattle.std.proofs.Common.{◌≡◌, ◌≢◌, false, ap, ◌∙◌, option_map, string_bytes}
-use Rattle.smithy_http.specs.ItemReading.{with_text}
+use Rattle.smithy_http.specs.views.ItemReading.{with_text}
 use Rattle.smithy_http.specs.ListTexts.{quoted_text}
 use Rattle.smithy_http.proofs.ItemLemmas.{push-char}
 use Rattle.smithy_http.proofs.list_items.push_char.Goals as goal

@@ -1,6 +1,6 @@
 use Rattle.std.proofs.Common.{◌≡◌, false, length, option_map, string_bytes}
 use Rattle.std.specs.Str.Iter.{chars_rest}
-use Rattle.smithy_http.specs.ItemReading.{with_text}
+use Rattle.smithy_http.specs.views.ItemReading.{with_text}
 use Rattle.smithy_http.specs.ListTexts.{quoted_text}
 use Rattle.smithy_http.proofs.list_items.read_quoted.Given as goal
 

@@ -1,5 +1,5 @@
 use Rattle.std.proofs.Common.{map, take}
-use Rattle.smithy_http.specs.Pairs.{name_of, IsIndex}
+use Rattle.smithy_http.specs.views.Pairs.{name_of, IsIndex}
 use Rattle.smithy_http.proofs.pairs.indexed.Given as goal
 
 abbrev pub invariant-loop-place : goal.invariant-loop-place

@@ -1,6 +1,6 @@
 use Rattle.std.proofs.Common.{map}
 use Rattle.std.proofs.lemmas.List.{length-map}
-use Rattle.smithy_http.specs.Pairs.{name_of}
+use Rattle.smithy_http.specs.views.Pairs.{name_of}
 use Rattle.smithy_http.proofs.PlaceLemmas.{IsIndex-push}
 use Rattle.smithy_http.proofs.pairs.insert_place.Goals as goal
 

@@ -2,7 +2,7 @@ use Rattle.std.proofs.Common.{◌≡◌, ◌+◌, ◌∷◌, map, get_or, sym, a
 use Rattle.std.specs.Str.{str_to_ascii_lowercase}
 use Rattle.std.proofs.lemmas.List.{take_rest}
 use Rattle.smithy_http.specs.Facts.{values_at}
-use Rattle.smithy_http.specs.Pairs.{pair_of}
+use Rattle.smithy_http.specs.views.Pairs.{pair_of}
 use Rattle.smithy_http.proofs.ValueLemmas.{values_none, values_found}
 use Rattle.smithy_http.proofs.pairs.next_value.Goals as goal
 

@@ -1,6 +1,6 @@
 use Rattle.std.proofs.Common.{◌∙◌}
 use Rattle.smithy_types.specs.Texts.{same_text}
-use Rattle.smithy_http.specs.Pairs.{name_of}
+use Rattle.smithy_http.specs.views.Pairs.{name_of}
 use Rattle.smithy_http.proofs.PlaceLemmas.{position-map}
 use Rattle.smithy_http.proofs.pairs.place_of.Goals as goal
 

@@ -1,6 +1,6 @@
 use Rattle.std.proofs.Common.{◌≡◌, sym, subst, map, set}
 use Rattle.smithy_http.specs.Headers.{put}
-use Rattle.smithy_http.specs.Pairs.{pair_of}
+use Rattle.smithy_http.specs.views.Pairs.{pair_of}
 use Rattle.smithy_http.specs.declared.pairs.Pair.{Pair}
 use Rattle.smithy_http.proofs.PlaceLemmas.{put-set, with_value}
 use Rattle.smithy_http.proofs.pairs.set_value.Goals as goal

@@ -1,5 +1,5 @@
 use Rattle.std.proofs.Common.{◌≡◌, drop, option_map}
-use Rattle.smithy_json.specs.JsonView.{items_view, members_view}
+use Rattle.smithy_json.specs.views.JsonView.{items_view, members_view}
 use Rattle.smithy_types.specs.Documents.{members_of}
 use Rattle.smithy_types.specs.DocumentView.{items_view as documents_view, members_view as fields_view}
 use Rattle.smithy_json.specs.FromData.{items_of_data, pairs_of_data}

@@ -1,7 +1,7 @@
 use Rattle.std.proofs.Common.{◌≡◌, Err, [], ◌∷◌, ◌++◌, length, sym, ap, subst, ◌∙◌}
 use Rattle.serde_json.specs.Data.{no_members, put}
 use Rattle.smithy_types.specs.Maps.{IsOrdered}
-use Rattle.smithy_json.specs.JsonView.{Member, view, members_view, entries}
+use Rattle.smithy_json.specs.views.JsonView.{Member, view, members_view, entries}
 use Rattle.smithy_json.specs.PutMembers.{put_all, place_of}
 use Rattle.smithy_json.proofs.OrderLemmas.{put_as_they_stand, pushed_in_order}
 use Rattle.smithy_json.proofs.ReadingLemmas.{one_put}

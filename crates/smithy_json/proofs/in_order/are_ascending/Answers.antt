@@ -1,5 +1,6 @@
 use Rattle.std.proofs.Common.{refl}
-use Rattle.smithy_json.proofs.OrderLemmas.{up_at_end, ordered_up, up_ordered, out_of_order}
+use Rattle.smithy_json.proofs.OrderLemmas.{up_at_end, out_of_order}
+use Rattle.smithy_json.proofs.OrderedPairs.{ordered_up, up_ordered}
 use Rattle.smithy_json.proofs.in_order.are_ascending.Goals as goal
 
 pub returns-then-ge : goal.returns-then-ge

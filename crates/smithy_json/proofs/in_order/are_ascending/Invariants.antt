@@ -1,6 +1,6 @@
 use Rattle.std.proofs.Common.{drop, MatchOption, ◌↔◌}
-use Rattle.smithy_json.specs.JsonView.{entries}
-use Rattle.smithy_json.proofs.OrderLemmas.{Behind, Ascends}
+use Rattle.smithy_json.specs.views.JsonView.{entries}
+use Rattle.smithy_json.proofs.OrderedPairs.{Behind, Ascends}
 use Rattle.smithy_json.proofs.in_order.are_ascending.Given as goal
 
 -- the names ascend where those that are left do, behind the one before

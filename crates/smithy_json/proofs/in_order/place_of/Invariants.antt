@@ -1,5 +1,5 @@
 use Rattle.std.proofs.Common.{◌≡◌, drop}
-use Rattle.smithy_json.specs.JsonView.{entries}
+use Rattle.smithy_json.specs.views.JsonView.{entries}
 use Rattle.smithy_json.specs.PutMembers.{place_of}
 use Rattle.smithy_json.proofs.OrderLemmas.{past}
 use Rattle.smithy_json.proofs.in_order.place_of.Given as goal

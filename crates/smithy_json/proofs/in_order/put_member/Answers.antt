@@ -1,5 +1,5 @@
 use Rattle.std.proofs.Common.{◌≡◌, Ok, Err, sym, ap, ◌∙◌, arith}
-use Rattle.smithy_json.specs.JsonView.{view, members_view, entries}
+use Rattle.smithy_json.specs.views.JsonView.{view, members_view, entries}
 use Rattle.smithy_json.specs.PutMembers.{place_of}
 use Rattle.smithy_json.proofs.OrderLemmas.{place_within, place_by_end, put_over, put_between, put_ordered}
 use Rattle.smithy_json.proofs.in_order.put_member.Goals as goal

@@ -1,5 +1,5 @@
 use Rattle.std.proofs.Common.{◌≡◌, ◌∷◌, ap, ◌∙◌, rules}
-use Rattle.smithy_json.specs.JsonView.{members_view}
+use Rattle.smithy_json.specs.views.JsonView.{members_view}
 use Rattle.smithy_json.proofs.OrderLemmas.{one_fed, entry_put}
 use Rattle.smithy_json.proofs.in_order.sorted.Goals as goal
 

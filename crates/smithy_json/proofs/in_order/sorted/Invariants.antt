@@ -1,6 +1,6 @@
 use Rattle.std.proofs.Common.{◌≡◌}
 use Rattle.serde_json.specs.Data.{no_members}
-use Rattle.smithy_json.specs.JsonView.{members_view, entries}
+use Rattle.smithy_json.specs.views.JsonView.{members_view, entries}
 use Rattle.smithy_json.specs.PutMembers.{put_all}
 use Rattle.smithy_json.proofs.in_order.sorted.Given as goal
 

@@ -5,11 +5,11 @@ use Rattle.json.proofs.Grammar.{value_is, read_key-shorter}
 use Rattle.serde_json.specs.Data.{Data, array, object, no_members}
 use Rattle.serde_json.specs.Read.{of_json, converted}
 use Rattle.smithy_types.specs.Maps.{IsOrdered}
-use Rattle.smithy_json.specs.JsonView.{Member, view, items_view, members_view, entries}
+use Rattle.smithy_json.specs.views.JsonView.{Member, view, items_view, members_view, entries}
 use Rattle.smithy_json.specs.PutMembers.{put_all}
 use Rattle.smithy_json.specs.Tokens.{value_at, items_at, members_at}
 use Rattle.smithy_json.specs.declared.value.JsonValue.{JsonValue}
-use Rattle.smithy_json.proofs.OrderLemmas.{ordered_up}
+use Rattle.smithy_json.proofs.OrderedPairs.{ordered_up}
 use Rattle.smithy_json.proofs.TokenSteps.{items_over, no_items_left, item_lost, item_read, members_over, no_name, member_lost, member_read}
 use Rattle.smithy_json.proofs.ReadingLemmas.{view-Array, view-Object, refused, passed_on, null_first, truth_first, text_first, number_first, no_number, array_first, object_first, array_too_deep, object_too_deep, nothing_first, joined, joined_none, from_start, one_further, one_seen}
 use Rattle.smithy_json.proofs.reading.+value.Goals as goal

@@ -2,7 +2,7 @@ use Rattle.std.proofs.Common.{◌≡◌, IsTrue, ◌+◌, ◌*◌, ◌≤◌, le
 use Rattle.json.specs.Json.{parse_map}
 use Rattle.serde_json.specs.Data.{no_members}
 use Rattle.smithy_types.specs.Maps.{IsOrdered}
-use Rattle.smithy_json.specs.JsonView.{items_view, entries}
+use Rattle.smithy_json.specs.views.JsonView.{items_view, entries}
 use Rattle.smithy_json.specs.PutMembers.{put_all}
 use Rattle.smithy_json.specs.Tokens.{items_at, members_at}
 use Rattle.smithy_json.proofs.ReadingLemmas.{joined}

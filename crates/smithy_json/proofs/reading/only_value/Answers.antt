@@ -1,5 +1,5 @@
 use Rattle.std.proofs.Common.{sym, ◌∙◌}
-use Rattle.smithy_json.specs.JsonView.{view}
+use Rattle.smithy_json.specs.views.JsonView.{view}
 use Rattle.smithy_json.proofs.ReadingLemmas.{no_tokens}
 use Rattle.smithy_json.proofs.reading.only_value.Goals as goal
 

@@ -1,6 +1,6 @@
 use Rattle.std.proofs.Common.{sym, ap, ◌∙◌, subst}
 use Rattle.serde_json.specs.Read.{read}
-use Rattle.smithy_json.specs.JsonView.{view}
+use Rattle.smithy_json.specs.views.JsonView.{view}
 use Rattle.smithy_json.specs.Reads.{Reads}
 use Rattle.smithy_json.proofs.OrderedData.{reading_ordered}
 use Rattle.smithy_json.proofs.TextDocuments.{text_read, not_read}

@@ -1,6 +1,6 @@
 use Rattle.std.proofs.Common.{◌≡◌, drop}
 use Rattle.serde_json.specs.Find.{get_member}
-use Rattle.smithy_json.specs.JsonView.{members_view}
+use Rattle.smithy_json.specs.views.JsonView.{members_view}
 use Rattle.smithy_json.proofs.value.value_named.Given as goal
 
 abbrev pub invariant-loop-member : goal.invariant-loop-member

@@ -1,5 +1,5 @@
 use Rattle.std.proofs.Common.{◌≡◌, drop, []}
-use Rattle.smithy_json.specs.JsonView.{entries}
+use Rattle.smithy_json.specs.views.JsonView.{entries}
 use Rattle.smithy_model.specs.Further.{further_in}
 use Rattle.smithy_model.proofs.further.further_in.Given as goal
 

@@ -1,7 +1,7 @@
 use Rattle.std.proofs.Common.{refl}
-use Rattle.smithy_json.specs.JsonView.{view}
+use Rattle.smithy_json.specs.views.JsonView.{view}
 use Rattle.smithy_model.specs.Models.{errors_in, errors_in_model}
-use Rattle.smithy_model.specs.PlaceView.{texts}
+use Rattle.smithy_model.specs.views.NameView.{texts}
 use Rattle.smithy_model.proofs.NoShapes.{nothing_asked}
 use Rattle.smithy_model.proofs.model.errors_of_operation.Goals as goal
 

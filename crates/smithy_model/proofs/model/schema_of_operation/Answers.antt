@@ -1,7 +1,7 @@
 use Rattle.std.proofs.Common.{refl}
-use Rattle.smithy_json.specs.JsonView.{view}
+use Rattle.smithy_json.specs.views.JsonView.{view}
 use Rattle.smithy_model.specs.Models.{schema_in, schema_in_model}
-use Rattle.smithy_model.specs.ModelView.{asked_view}
+use Rattle.smithy_model.specs.views.ModelView.{asked_view}
 use Rattle.smithy_model.proofs.NoShapes.{nothing_asked}
 use Rattle.smithy_model.proofs.model.schema_of_operation.Goals as goal
 

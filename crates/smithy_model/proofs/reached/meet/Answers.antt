@@ -1,5 +1,5 @@
 use Rattle.std.proofs.Common.{◌≡◌, ◌∙◌, subst, OnOk}
-use Rattle.smithy_model.specs.PlaceView.{texts}
+use Rattle.smithy_model.specs.views.NameView.{texts}
 use Rattle.smithy_model.proofs.ReachedLemmas.{met_already, absent, met_now}
 use Rattle.smithy_model.proofs.reached.meet.Goals as goal
 

@@ -1,11 +1,11 @@
 use Rattle.std.proofs.Common.{◌≡◌, ◌∙◌, refl, sym, ap, subst, rules, arith, ◌+◌, ◌-◌, [], ◌∷◌, length, map, Some}
 use Rattle.std.proofs.lemmas.List.{map-append, length-map}
-use Rattle.smithy_json.specs.JsonView.{entry_of, entries}
+use Rattle.smithy_json.specs.views.JsonView.{entry_of, entries}
 use Rattle.smithy_model.specs.Reached.{reached, with_names, with_targets}
 use Rattle.smithy_model.specs.Prelude.{prelude_kinds}
 use Rattle.smithy_model.specs.Shapes.{shape_at}
-use Rattle.smithy_model.specs.ModelView.{shape_view, member_view, shapes_view}
-use Rattle.smithy_model.specs.PlaceView.{texts, ArePlaces}
+use Rattle.smithy_model.specs.views.ModelView.{shape_view, member_view, shapes_view}
+use Rattle.smithy_model.specs.views.NameView.{texts, ArePositions}
 use Rattle.smithy_model.specs.declared.reached.Reached.{Reached}
 use Rattle.smithy_model.proofs.Items.{next_name}
 use Rattle.smithy_model.proofs.Views.{members_in_view}
@@ -22,7 +22,7 @@ walk-init c =
     c.in_ok-rest.ensures ∙ ap (λ n. n + length prelude_kinds) (sym (length-map shapes.members.now entry_of)) in
     record {
       so_far = walked-start (shapes_view shapes) (entries shapes.members.now) (texts c.args.roots.now) _ (map shape_view c.new-found.result.items) _ (members_in_view (shapes_view shapes) (Some shapes.members) refl) steps (ap (map shape_view) c.new-found.ensures.items) names;
-      located = c.in_ok-meet_names.ensures.places;
+      located = c.in_ok-meet_names.ensures.positions;
     }
 
 pub returns-in_err-shape-clause-shapes : goal.returns-in_err-shape-clause-shapes
@@ -46,7 +46,7 @@ walk-preserved c =
     let names = c.in_ok-meet_targets.ensures.names ∙ ap (λ ms. with_targets (texts c.walk.names.items) (map member_view ms)) c.as_slice-in-Some.ensures.value in
     record {
       so_far = walked-more _ _ c.walk.rest (c.walk.rest - 1) _ _ _ (shape_view c.in_ok-shape.shape) _ _ at c.in_ok-shape.ensures (omega (arith, c.if-rest-eq0.false)) found names c.walk.invariant.so_far;
-      located = c.in_ok-meet_targets.ensures.places;
+      located = c.in_ok-meet_targets.ensures.positions;
     }
 
 pub returns-clause-shapes : goal.returns-clause-shapes
@@ -58,6 +58,6 @@ pub returns-clause-whole : goal.returns-clause-whole
 returns-clause-whole c =
     let at = rw c.in_default.is at (next_name c.walk.names.items _ c.walk.found.items _ c.get.result c.as_slice.ensures.value c.as_slice-in-walk.ensures.value c.get.ensures.lookup) in
     record {
-      located = subst (ArePlaces c.walk.places) (front-end _ _ c.walk.invariant.so_far.front at) c.walk.invariant.located;
+      located = subst (ArePositions c.walk.positions) (front-end _ _ c.walk.invariant.so_far.front at) c.walk.invariant.located;
       named = c.walk.invariant.so_far.named;
     }

@@ -3,7 +3,7 @@ use Rattle.smithy_types.specs.Results.{each}
 use Rattle.smithy_model.specs.Reads.{Reads}
 use Rattle.smithy_model.specs.Json.{members_in}
 use Rattle.smithy_model.specs.Shapes.{member_in, Member}
-use Rattle.smithy_model.specs.ModelView.{member_view}
+use Rattle.smithy_model.specs.views.ModelView.{member_view}
 use Rattle.smithy_model.proofs.shapes.members_at.Goals as goal
 
 pub returns-in-Some-members_of : goal.returns-in-Some-members_of

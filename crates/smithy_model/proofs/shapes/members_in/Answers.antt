@@ -1,8 +1,8 @@
 use Rattle.std.proofs.Common.{◌∙◌, sym, map}
 use Rattle.std.proofs.lemmas.List.{map-append}
-use Rattle.smithy_json.specs.JsonView.{entry_of}
+use Rattle.smithy_json.specs.views.JsonView.{entry_of}
 use Rattle.smithy_model.specs.Shapes.{member_in}
-use Rattle.smithy_model.specs.ModelView.{member_view}
+use Rattle.smithy_model.specs.views.ModelView.{member_view}
 use Rattle.smithy_model.proofs.Each.{each_item}
 use Rattle.smithy_model.proofs.shapes.members_in.Goals as goal
 

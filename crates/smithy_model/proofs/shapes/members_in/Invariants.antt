@@ -1,8 +1,8 @@
 use Rattle.std.proofs.Common.{◌≡◌, map, drop}
 use Rattle.smithy_types.specs.Results.{each}
-use Rattle.smithy_json.specs.JsonView.{entries}
+use Rattle.smithy_json.specs.views.JsonView.{entries}
 use Rattle.smithy_model.specs.Shapes.{member_in}
-use Rattle.smithy_model.specs.ModelView.{member_view}
+use Rattle.smithy_model.specs.views.ModelView.{member_view}
 use Rattle.smithy_model.proofs.Each.{and_rest}
 use Rattle.smithy_model.proofs.shapes.members_in.Given as goal
 

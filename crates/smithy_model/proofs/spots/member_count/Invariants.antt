@@ -1,5 +1,5 @@
 use Rattle.std.proofs.Common.{◌≡◌, ◌+◌, map, drop}
-use Rattle.smithy_model.specs.ModelView.{shape_view}
+use Rattle.smithy_model.specs.views.ModelView.{shape_view}
 use Rattle.smithy_model.specs.Nodes.{member_count}
 use Rattle.smithy_model.proofs.spots.member_count.Given as goal
 

@@ -1,5 +1,5 @@
 use Rattle.std.proofs.Common.{◌≡◌, map, drop}
-use Rattle.smithy_model.specs.ModelView.{member_view}
+use Rattle.smithy_model.specs.views.ModelView.{member_view}
 use Rattle.smithy_model.specs.Nodes.{are_outside}
 use Rattle.smithy_model.proofs.structure.are_outside.Given as goal
 

@@ -1,7 +1,7 @@
 use Rattle.std.proofs.Common.{◌≡◌, map, drop}
-use Rattle.smithy_model.specs.ModelView.{member_view}
+use Rattle.smithy_model.specs.views.ModelView.{member_view}
 use Rattle.smithy_model.specs.Nodes.{hint_of}
-use Rattle.smithy_model.specs.NodeView.{spots_of}
+use Rattle.smithy_model.specs.views.NodeView.{spots_of}
 use Rattle.smithy_model.proofs.structure.hint_of.Given as goal
 
 abbrev pub invariant-loop-member : goal.invariant-loop-member

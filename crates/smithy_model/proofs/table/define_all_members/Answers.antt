@@ -1,8 +1,8 @@
 use Rattle.std.proofs.Common.{sym, ◌∙◌}
 use Rattle.std.proofs.lemmas.List.Folds.{list_all-map}
 use Rattle.smithy_ids.specs.ShapeIds.{has_hash}
-use Rattle.smithy_model.specs.ModelView.{shape_view}
-use Rattle.smithy_model.specs.NodeView.{spots_of}
+use Rattle.smithy_model.specs.views.ModelView.{shape_view}
+use Rattle.smithy_model.specs.views.NodeView.{spots_of}
 use Rattle.smithy_model.proofs.SpotLemmas.{pass-at}
 use Rattle.smithy_model.proofs.NodeLemmas.{shape-more}
 use Rattle.smithy_model.proofs.table.define_all_members.Goals as goal

@@ -1,7 +1,7 @@
 use Rattle.std.proofs.Common.{map, drop}
-use Rattle.smithy_model.specs.ModelView.{shape_view}
+use Rattle.smithy_model.specs.views.ModelView.{shape_view}
 use Rattle.smithy_model.specs.Nodes.{member_nodes}
-use Rattle.smithy_model.specs.NodeView.{spots_of}
+use Rattle.smithy_model.specs.views.NodeView.{spots_of}
 use Rattle.smithy_model.proofs.FilledLemmas.{Filled}
 use Rattle.smithy_model.proofs.table.define_all_members.Given as goal
 

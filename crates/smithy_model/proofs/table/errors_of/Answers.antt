@@ -1,10 +1,10 @@
 use Rattle.std.proofs.Common.{rules, map}
 use Rattle.smithy_types.specs.Results.{each}
 use Rattle.smithy_schema.specs.Places.{places_of}
-use Rattle.smithy_model.specs.Nodes.{place_named, errors_of}
-use Rattle.smithy_model.specs.ModelView.{shape_view}
-use Rattle.smithy_model.specs.NodeView.{spots_of}
-use Rattle.smithy_model.specs.PlaceView.{texts}
+use Rattle.smithy_model.specs.Nodes.{index_named, errors_of}
+use Rattle.smithy_model.specs.views.ModelView.{shape_view}
+use Rattle.smithy_model.specs.views.NodeView.{spots_of}
+use Rattle.smithy_model.specs.views.NameView.{texts}
 use Rattle.smithy_model.proofs.TableLemmas.{made-so, first-absent, second-absent, errors-refused, are-there, errors-are, stand-there}
 use Rattle.smithy_model.proofs.table.errors_of.Goals as goal
 
@@ -14,7 +14,7 @@ returns-in_err-operation c =
     let operation = texts c.args.operation.now in
     let service = texts c.args.service.now in
     let made = made-so xs 0 c.in_ok-table.table c.in_ok-table.ensures in
-    errors-refused (each (place_named (spots_of c.in_ok-spots.spots)) operation) (errors_of xs operation service) c.in_err-operation.field-0.0 c.from_residual-in_err-operation.result (search rules)
+    errors-refused (each (index_named (spots_of c.in_ok-spots.spots)) operation) (errors_of xs operation service) c.in_err-operation.field-0.0 c.from_residual-in_err-operation.result (search rules)
     (λ none. first-absent xs made.nodes operation service made.of (rw c.in_ok-spots.ensures.are at none)) c.in_err-operation.ensures
 
 pub returns-in_err-service : goal.returns-in_err-service
@@ -23,7 +23,7 @@ returns-in_err-service c =
     let operation = texts c.args.operation.now in
     let service = texts c.args.service.now in
     let made = made-so xs 0 c.in_ok-table.table c.in_ok-table.ensures in
-    errors-refused (each (place_named (spots_of c.in_ok-spots.spots)) service) (errors_of xs operation service) c.in_err-service.field-0.0 c.from_residual-in_err-service.result (search rules)
+    errors-refused (each (index_named (spots_of c.in_ok-spots.spots)) service) (errors_of xs operation service) c.in_err-service.field-0.0 c.from_residual-in_err-service.result (search rules)
     (λ none. second-absent xs made.nodes operation service made.of (rw c.in_ok-spots.ensures.are at none)) c.in_err-service.ensures
 
 pub returns : goal.returns

@@ -1,9 +1,9 @@
 use Rattle.std.proofs.Common.{◌≡◌, ◌+◌, ◌∙◌, refl, sym, ap, length, map}
 use Rattle.std.proofs.lemmas.List.{length-map}
 use Rattle.smithy_model.specs.Nodes.{member_count}
-use Rattle.smithy_model.specs.ModelView.{shape_view}
-use Rattle.smithy_model.specs.SpotView.{spot_view}
-use Rattle.smithy_model.specs.NodeView.{spots_of}
+use Rattle.smithy_model.specs.views.ModelView.{shape_view}
+use Rattle.smithy_model.specs.views.SpotView.{spot_view}
+use Rattle.smithy_model.specs.views.NodeView.{spots_of}
 use Rattle.smithy_model.proofs.TableLemmas.{schema-placed}
 use Rattle.smithy_model.proofs.table.table_of.Goals as goal
 

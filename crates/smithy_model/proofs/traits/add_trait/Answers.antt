@@ -1,6 +1,6 @@
 use Rattle.std.proofs.Common.{is_some, sym, ap}
 use Rattle.std.specs.Option.{option_map_or}
-use Rattle.smithy_json.specs.JsonView.{view}
+use Rattle.smithy_json.specs.views.JsonView.{view}
 use Rattle.smithy_schema.specs.DescribedTraits.{traits_described}
 use Rattle.smithy_model.specs.Traits.{fields, with_trait, is_named_trait}
 use Rattle.smithy_model.proofs.NameLemmas.{none_named}

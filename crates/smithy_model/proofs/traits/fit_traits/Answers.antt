@@ -1,9 +1,9 @@
-use Rattle.std.proofs.Common.{◌≡◌, true, None, sym, ap, ◌∙◌}
+use Rattle.std.proofs.Common.{◌≡◌, true, sym, ap, ◌∙◌}
 use Rattle.std.specs.List.{list_all}
-use Rattle.smithy_json.specs.JsonView.{view, entries}
+use Rattle.smithy_json.specs.views.JsonView.{view, entries}
 use Rattle.smithy_schema.specs.DescribedTraits.{traits_described}
 use Rattle.smithy_model.specs.Further.{further_traits}
-use Rattle.smithy_model.specs.ModelView.{further_given}
+use Rattle.smithy_model.specs.views.ModelView.{further_given}
 use Rattle.smithy_model.specs.Traits.{is_named_trait}
 use Rattle.smithy_model.proofs.FurtherLemmas.{none_without_field, fit_known}
 use Rattle.smithy_model.proofs.traits.fit_traits.Goals as goal

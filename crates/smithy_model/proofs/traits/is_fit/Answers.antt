@@ -1,5 +1,5 @@
 use Rattle.std.proofs.Common.{◌≡◌, ◌&&◌, true, false, sym, ap, ◌∙◌}
-use Rattle.smithy_json.specs.JsonView.{view}
+use Rattle.smithy_json.specs.views.JsonView.{view}
 use Rattle.smithy_model.specs.Names.{is_full_name}
 use Rattle.smithy_model.specs.Traits.{has_form}
 use Rattle.smithy_model.proofs.TraitNames.{named_full}

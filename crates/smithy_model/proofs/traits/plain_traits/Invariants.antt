@@ -1,6 +1,6 @@
 use Rattle.std.proofs.Common.{◌≡◌, ◌&&◌, drop}
 use Rattle.std.specs.List.{list_all}
-use Rattle.smithy_json.specs.JsonView.{entries}
+use Rattle.smithy_json.specs.views.JsonView.{entries}
 use Rattle.smithy_schema.specs.Nodes.{no_traits}
 use Rattle.smithy_schema.specs.DescribedTraits.{traits_described}
 use Rattle.smithy_model.specs.Traits.{is_fit_trait, is_named_trait, with_traits}

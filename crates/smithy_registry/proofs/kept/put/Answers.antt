@@ -1,6 +1,6 @@
 use Rattle.std.proofs.Common.{◌∙◌, sym, ap, subst, string_bytes}
 use Rattle.smithy_registry.specs.Registries.{shape_name_in}
-use Rattle.smithy_registry.specs.Kept.{entries_kept, IsToKeep, IsKept}
+use Rattle.smithy_registry.specs.views.Kept.{entries_kept, IsToKeep, IsKept}
 use Rattle.smithy_registry.proofs.KeptLemmas.{put_entry, put_kept, stays_least, becomes_least, undone, IsKept-same}
 use Rattle.smithy_registry.proofs.kept.put.Goals as goal
 

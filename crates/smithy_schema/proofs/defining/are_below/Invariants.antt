@@ -1,6 +1,6 @@
 use Rattle.std.proofs.Common.{◌≡◌, nat_lt, drop}
 use Rattle.std.specs.List.{list_all}
-use Rattle.smithy_schema.specs.Places.{places_of}
+use Rattle.smithy_schema.specs.views.Places.{places_of}
 use Rattle.smithy_schema.proofs.defining.are_below.Given as goal
 
 abbrev pub invariant-loop-place : goal.invariant-loop-place

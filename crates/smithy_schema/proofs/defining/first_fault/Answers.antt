@@ -1,5 +1,5 @@
 use Rattle.std.proofs.Common.{sym, ◌∙◌}
-use Rattle.smithy_schema.specs.Stored.{table_stored}
+use Rattle.smithy_schema.specs.views.Stored.{table_stored}
 use Rattle.smithy_schema.proofs.PlaceLemmas.{fault_here, fault_later}
 use Rattle.smithy_schema.proofs.defining.first_fault.Goals as goal
 

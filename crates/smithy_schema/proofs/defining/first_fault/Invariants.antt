@@ -1,6 +1,6 @@
 use Rattle.std.proofs.Common.{◌≡◌, drop}
-use Rattle.smithy_schema.specs.Places.{places_of}
-use Rattle.smithy_schema.specs.Stored.{table_stored}
+use Rattle.smithy_schema.specs.views.Places.{places_of}
+use Rattle.smithy_schema.specs.views.Stored.{table_stored}
 use Rattle.smithy_schema.specs.Defining.{members_fault}
 use Rattle.smithy_schema.proofs.defining.first_fault.Given as goal
 

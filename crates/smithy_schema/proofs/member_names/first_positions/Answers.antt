@@ -1,4 +1,4 @@
-use Rattle.smithy_schema.specs.Stored.{table_stored}
+use Rattle.smithy_schema.specs.views.Stored.{table_stored}
 use Rattle.smithy_schema.proofs.NamedLemmas.{one_more_named}
 use Rattle.smithy_schema.proofs.member_names.first_positions.Goals as goal
 

@@ -1,6 +1,6 @@
 use Rattle.std.proofs.Common.{sym, ◌∙◌}
 use Rattle.std.proofs.lemmas.List.Elements.{All-replicate, All-set}
-use Rattle.smithy_schema.specs.MemberNames.{IsOfName}
+use Rattle.smithy_schema.specs.views.MemberNames.{IsOfName}
 use Rattle.smithy_schema.proofs.FollowerLemmas.{values_of_names, head_of_names, left_of_names}
 use Rattle.smithy_schema.proofs.member_names.followers.Goals as goal
 

@@ -1,4 +1,4 @@
-use Rattle.smithy_schema.specs.MemberNames.{AreOfNames}
+use Rattle.smithy_schema.specs.views.MemberNames.{AreOfNames}
 use Rattle.smithy_schema.proofs.member_names.followers.Given as goal
 
 -- the followers so far, and the positions that are left

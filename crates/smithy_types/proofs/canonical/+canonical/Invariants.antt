@@ -1,6 +1,6 @@
 use Rattle.std.proofs.Common.{◌≡◌, map, drop}
 use Rattle.smithy_types.specs.Documents.{items_of, are_canonical_items, are_canonical_members}
-use Rattle.smithy_types.specs.DocumentView.{view, items_view, members_view}
+use Rattle.smithy_types.specs.views.DocumentView.{view, items_view, members_view}
 use Rattle.smithy_types.proofs.Views.{entries_view}
 use Rattle.smithy_types.proofs.canonical.+canonical.Given as goal
 

@@ -5,6 +5,5 @@ use Rattle.smithy_types.proofs.date_text.push_short_date.Goals as goal
 
 pub returns : goal.returns
 returns c =
-    let d = c.args.date.now in
     let written = rw (c.laid_out.ensures, c.laid_out-2.ensures, c.month_name-month.ensures) at c.write.ensures.bytes in
-    on_ok_weaker c.write.result (λ e. e ∙ ap (λ t. string_bytes c.args.text.now ++ t) (short_date_text-joined d.year d.month d.day)) written
+    on_ok_weaker c.write.result (λ e. e ∙ ap (λ t. string_bytes c.args.text.now ++ t) (short_date_text-joined c.args.year c.args.month c.args.day)) written

@@ -1,6 +1,6 @@
 use Rattle.std.proofs.Common.{map, sym, ap, ap₂, ◌∙◌}
 use Rattle.smithy_types.specs.Documents.{put_all}
-use Rattle.smithy_types.specs.DocumentView.{pair_view, members_view}
+use Rattle.smithy_types.specs.views.DocumentView.{pair_view, members_view}
 use Rattle.smithy_types.proofs.Lookups.{list_of_members_view, members_ordered}
 use Rattle.smithy_types.proofs.MembersAgain.{again}
 use Rattle.smithy_types.proofs.document.+copied.Goals as goal

@@ -1,6 +1,6 @@
 use Rattle.std.proofs.Common.{◌≡◌, take, map}
 use Rattle.smithy_types.specs.Documents.{put_all}
-use Rattle.smithy_types.specs.DocumentView.{view, pair_view, members_view}
+use Rattle.smithy_types.specs.views.DocumentView.{view, pair_view, members_view}
 use Rattle.smithy_types.proofs.document.+copied.Given as goal
 
 abbrev pub invariant-Documents::copy-loop-item : goal.invariant-Documents::copy-loop-item

@@ -1,4 +1,4 @@
-use Rattle.smithy_ids.specs.ShapeIdParts.{parts_of}
+use Rattle.smithy_ids.specs.views.ShapeIdParts.{parts_of}
 use Rattle.smithy_ids.proofs.PartsLemmas.{parts_in-joined}
 use Rattle.smithy_ids.proofs.shape_id.ShapeId.as_str.Goals as goal
 

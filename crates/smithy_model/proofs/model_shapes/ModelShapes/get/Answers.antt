@@ -8,7 +8,7 @@ pub returns-in-Ok : goal.returns-in-Ok
 returns-in-Ok c =
     let name = c.args.name.now in
     let by_name = c.in-Ok.ensures.position (λ m. slice_cmp nat_cmp m.0.now name) (always_returns_same _ _ _ (λ a r f called. (search rules, search rules))) in
-    searched c.args.self.now.members.now name (Ok c.in-Ok.place) (c.args.self.now.ordered c.if-not-self.false) c.in-Ok.ensures.bound by_name c.index-self-place.result
+    searched c.args.self.now.members.now name (Ok c.in-Ok.position) (c.args.self.now.ordered c.if-not-self.false) c.in-Ok.ensures.bound by_name c.index-self-position.result
 
 pub returns-in-Err : goal.returns-in-Err
 returns-in-Err c =

@@ -2,7 +2,7 @@ use Rattle.std.proofs.Common.{◌∙◌, sym, ap, subst, refl}
 use Rattle.smithy_types.specs.Maps.{IsOrdered}
 use Rattle.smithy_types.proofs.MapLemmas.{IsOrdered-pairs_of}
 use Rattle.smithy_registry.specs.Registries.{by_name, composed}
-use Rattle.smithy_registry.specs.Kept.{entries_kept, AreNames}
+use Rattle.smithy_registry.specs.views.Kept.{entries_kept, AreNames}
 use Rattle.smithy_registry.proofs.UnionLemmas.{union}
 use Rattle.smithy_registry.proofs.type_registry.TypeRegistry.compose.Goals as goal
 

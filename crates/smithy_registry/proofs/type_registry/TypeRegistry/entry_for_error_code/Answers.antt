@@ -2,7 +2,7 @@ use Rattle.std.proofs.Common.{rules, ◌≡◌, ap, ◌∙◌, sym, option_map, 
 use Rattle.std.specs.Option.{option_copied}
 use Rattle.smithy_registry.specs.ErrorCodes.{sanitized}
 use Rattle.smithy_registry.specs.Registries.{by_name, by_code}
-use Rattle.smithy_registry.specs.Kept.{entries_kept, kept_name}
+use Rattle.smithy_registry.specs.views.Kept.{entries_kept, kept_name}
 use Rattle.smithy_registry.proofs.KeptLemmas.{found_kept, at_least, none_least}
 use Rattle.smithy_registry.proofs.type_registry.TypeRegistry.entry_for_error_code.Goals as goal
 

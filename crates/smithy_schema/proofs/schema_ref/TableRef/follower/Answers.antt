@@ -1,6 +1,6 @@
 use Rattle.std.proofs.Common.{ap}
-use Rattle.smithy_schema.specs.Stored.{details_stored}
-use Rattle.smithy_schema.specs.References.{node_in}
+use Rattle.smithy_schema.specs.views.Stored.{details_stored}
+use Rattle.smithy_schema.specs.views.References.{node_in}
 use Rattle.smithy_schema.proofs.FollowerLemmas.{first_given}
 use Rattle.smithy_schema.proofs.schema_ref.TableRef.follower.Goals as goal
 

@@ -1,8 +1,8 @@
 use Rattle.std.proofs.Common.{ap, ◌∙◌}
 use Rattle.std.specs.BTreeMap.{get_by_text}
 use Rattle.smithy_schema.specs.declared.stored.FullDetails.{FullDetails}
-use Rattle.smithy_schema.specs.Stored.{details_stored}
-use Rattle.smithy_schema.specs.References.{node_in}
+use Rattle.smithy_schema.specs.views.Stored.{details_stored}
+use Rattle.smithy_schema.specs.views.References.{node_in}
 use Rattle.smithy_schema.proofs.KeptLemmas.{position_kept}
 use Rattle.smithy_schema.proofs.schema_ref.TableRef.position_of.Goals as goal
 

@@ -1,7 +1,7 @@
 use Rattle.std.proofs.Common.{ap, ◌∙◌}
 use Rattle.smithy_schema.specs.declared.stored.Head.{Head}
 use Rattle.smithy_schema.proofs.TableLemmas.{whole-parts}
-use Rattle.smithy_schema.specs.Stored.{node_stored}
+use Rattle.smithy_schema.specs.views.Stored.{node_stored}
 use Rattle.smithy_schema.proofs.schema_ref.TableRef.shape_id.Goals as goal
 
 pub unreachable-requires : goal.unreachable-requires

@@ -1,6 +1,6 @@
 use Rattle.std.proofs.Common.{◌<◌, ap, ◌∙◌, set, length, rules, Some}
 use Rattle.smithy_schema.specs.Nodes.{Node}
-use Rattle.smithy_schema.specs.Stored.{table_stored}
+use Rattle.smithy_schema.specs.views.Stored.{table_stored}
 use Rattle.smithy_schema.proofs.KeptLemmas as kept
 use Rattle.smithy_schema.proofs.schemas.Schemas.fill.Goals as goal
 

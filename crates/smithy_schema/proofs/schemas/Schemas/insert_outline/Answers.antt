@@ -1,4 +1,4 @@
-use Rattle.smithy_schema.specs.References.{schema_of}
+use Rattle.smithy_schema.specs.views.References.{schema_of}
 use Rattle.smithy_schema.proofs.KeptLemmas as kept
 use Rattle.smithy_schema.proofs.schemas.Schemas.insert_outline.Goals as goal
 

@@ -1,5 +1,5 @@
 use Rattle.std.proofs.Common.{ap, ◌∙◌}
-use Rattle.smithy_schema.specs.TraitMaps.{entry_named}
+use Rattle.smithy_schema.specs.views.TraitMaps.{entry_named}
 use Rattle.smithy_schema.proofs.TraitMapLemmas.{lent_named}
 use Rattle.smithy_schema.proofs.trait_map.TraitMap.get_fqn.Goals as goal
 

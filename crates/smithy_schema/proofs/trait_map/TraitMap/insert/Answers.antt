@@ -1,5 +1,5 @@
 use Rattle.std.proofs.Common.{sym, ap, ◌∙◌}
-use Rattle.smithy_schema.specs.TraitMaps.{entries_kept}
+use Rattle.smithy_schema.specs.views.TraitMaps.{entries_kept}
 use Rattle.smithy_schema.proofs.TraitMapLemmas.{kept-insert_entry, put_under_its_name}
 use Rattle.smithy_schema.proofs.trait_map.TraitMap.insert.Goals as goal
 

@@ -1,6 +1,6 @@
 use Rattle.std.proofs.Common.{map, sym, ap, ◌∙◌}
 use Rattle.smithy_types.specs.Documents.{items_of}
-use Rattle.smithy_types.specs.DocumentView.{view}
+use Rattle.smithy_types.specs.views.DocumentView.{view}
 use Rattle.smithy_types.proofs.Views.{items_out}
 use Rattle.smithy_types.proofs.document.Documents.as_slice.Goals as goal
 

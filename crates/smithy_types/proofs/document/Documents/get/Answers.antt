@@ -1,6 +1,6 @@
 use Rattle.std.proofs.Common.{map, sym, ap, ◌∙◌}
 use Rattle.std.specs.List.{slice_get}
-use Rattle.smithy_types.specs.DocumentView.{view}
+use Rattle.smithy_types.specs.views.DocumentView.{view}
 use Rattle.smithy_types.proofs.Lookups.{seen_at, list_of_items_view}
 use Rattle.smithy_types.proofs.document.Documents.get.Goals as goal
 

@@ -1,7 +1,7 @@
 use Rattle.std.proofs.Common.{length, sym, ap, ◌∙◌}
 use Rattle.std.proofs.lemmas.List.{length-map}
 use Rattle.smithy_types.specs.declared.document.Documents.{out-Documents}
-use Rattle.smithy_types.specs.DocumentView.{view}
+use Rattle.smithy_types.specs.views.DocumentView.{view}
 use Rattle.smithy_types.proofs.Lookups.{list_of_items_view}
 use Rattle.smithy_types.proofs.document.Documents.len.Goals as goal
 

@@ -1,7 +1,7 @@
 use Rattle.std.proofs.Common.{map, sym, ap, ◌∙◌}
 use Rattle.smithy_types.specs.Documents.{items_of}
 use Rattle.smithy_types.specs.Documents.{items_snoc}
-use Rattle.smithy_types.specs.DocumentView.{view}
+use Rattle.smithy_types.specs.views.DocumentView.{view}
 use Rattle.smithy_types.proofs.Views.{items_rolled, items_out, items_pushed}
 use Rattle.smithy_types.proofs.document.Documents.push.Goals as goal
 

@@ -1,7 +1,7 @@
 use Rattle.std.proofs.Common.{sym, ap, ◌∙◌}
 use Rattle.smithy_types.specs.declared.document.Members.{out-Members}
 use Rattle.smithy_types.specs.Documents.{put}
-use Rattle.smithy_types.specs.DocumentView.{view}
+use Rattle.smithy_types.specs.views.DocumentView.{view}
 use Rattle.smithy_types.proofs.Views.{entries_view, members_rolled, members_out, entries_inserted}
 use Rattle.smithy_types.proofs.document.Members.insert.Goals as goal
 

@@ -1,5 +1,5 @@
 use Rattle.std.proofs.Common.{map, sym, ap, ◌∙◌}
-use Rattle.smithy_types.specs.DocumentView.{pair_view}
+use Rattle.smithy_types.specs.views.DocumentView.{pair_view}
 use Rattle.smithy_types.proofs.Lookups.{list_of_members_view, members_ordered}
 use Rattle.smithy_types.proofs.document.Members.iter.Goals as goal
 

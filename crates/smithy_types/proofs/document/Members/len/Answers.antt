@@ -1,7 +1,7 @@
 use Rattle.std.proofs.Common.{length, sym, ap, ◌∙◌}
 use Rattle.std.proofs.lemmas.List.{length-map}
 use Rattle.smithy_types.specs.declared.document.Members.{out-Members}
-use Rattle.smithy_types.specs.DocumentView.{pair_view}
+use Rattle.smithy_types.specs.views.DocumentView.{pair_view}
 use Rattle.smithy_types.proofs.Lookups.{list_of_members_view, members_ordered}
 use Rattle.smithy_types.proofs.document.Members.len.Goals as goal
 

@@ -1,5 +1,5 @@
 use Rattle.std.proofs.Common.{◌∙◌, ap, map}
-use Rattle.smithy_types.specs.MapViews.{pair_of}
+use Rattle.smithy_types.specs.views.MapViews.{pair_of}
 use Rattle.smithy_types.proofs.MapLemmas.{pairs-insert_entry}
 use Rattle.smithy_types.proofs.maps.TextMap.insert.Goals as goal
 

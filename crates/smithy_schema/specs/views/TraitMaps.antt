@@ -6,7 +6,7 @@ use Rattle.std.specs.Map.{lookup}
 use Rattle.smithy_types.specs.Texts.{same_text}
 use Rattle.smithy_schema.specs.declared.owned_trait.Trait.{Trait}
 use Rattle.smithy_schema.specs.Nodes.{TraitValue}
-use Rattle.smithy_schema.specs.OwnedTraits.{name_of, value_of}
+use Rattle.smithy_schema.specs.views.OwnedTraits.{name_of, value_of}
 
 -- the entry of this name, if one has it
 abbrev pub entry_named : List ℕ → List (List ℕ × TraitValue) → Option (List ℕ × TraitValue)

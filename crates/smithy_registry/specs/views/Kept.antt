@@ -7,6 +7,7 @@ use Rattle.std.specs.List.{AllByRecursion}
 use Rattle.std.specs.Option.{option_map_or}
 use Rattle.std.specs.Ordering.{is_le, nat_cmp}
 use Rattle.smithy_ids.specs.ShapeIds.{has_hash}
+use Rattle.smithy_types.specs.Maps.{with_value}
 use Rattle.smithy_registry.specs.Registries.{has_shape_name, shape_name_in}
 
 -- the least full name of each shape name
@@ -36,6 +37,10 @@ module _ {X : Type 0} where
   -- the entries of a map as a list of full names with what stands under them
   abbrev pub entries_kept : List (String Global × X) → List (List ℕ × X)
   entries_kept es = map (λ e. (string_bytes e.0, e.1)) es
+
+  -- with one more, in place of one under its name
+  abbrev pub entries_with : String Global → X → List (String Global × X) → List (List ℕ × X)
+  entries_with name entry es = with_value (string_bytes name) entry (entries_kept es)
 
   -- each name is that of a shape or of a member of one
   abbrev pub AreNames : List (List ℕ × X) → Type 0

@@ -7,10 +7,10 @@ use Rattle.smithy_schema.specs.declared.stored.StoredDetails.{StoredDetails}
 use Rattle.smithy_schema.specs.declared.stored.StoredDetails.TheVariants.{Outline, Full}
 use Rattle.smithy_schema.specs.declared.stored.StoredNode.{StoredNode}
 use Rattle.smithy_schema.specs.Nodes.{Table}
-use Rattle.smithy_schema.specs.Places.{places_of}
-use Rattle.smithy_schema.specs.Stored.{table_stored}
+use Rattle.smithy_schema.specs.views.Places.{places_of}
+use Rattle.smithy_schema.specs.views.Stored.{table_stored}
 use Rattle.smithy_schema.specs.Defining.{IsSound}
-use Rattle.smithy_schema.specs.MemberNames.{AreOfNames, HasPositions}
+use Rattle.smithy_schema.specs.views.MemberNames.{AreOfNames, HasPositions}
 
 -- the node that is kept at a place; a hole counts as none
 abbrev pub kept_at : List (Option StoredNode) → ℕ → Option StoredNode

@@ -1,13 +1,13 @@
 -- The node that a description is.
-use Rattle.std.specs.Prelude.{ℕ, List, Option, Some, None}
+use Rattle.std.specs.Prelude.{ℕ, List, [], Option, Some, None}
 use Rattle.smithy_ids.specs.declared.shape_id.ShapeId.{ShapeId}
 use Rattle.smithy_ids.specs.declared.shape_type.ShapeType.{ShapeType}
 use Rattle.smithy_ids.specs.ShapeIdParts.{parts_of}
 use Rattle.smithy_schema.specs.declared.schema.Schema.TheInside.{Inside}
 use Rattle.smithy_schema.specs.declared.schema.Membership.{Membership}
 use Rattle.smithy_schema.specs.declared.schema.Membership.TheVariants.{Shape, Named, Indexed}
-use Rattle.smithy_schema.specs.DescribedTraits.{text_of, traits_described}
-use Rattle.smithy_schema.specs.Places.{place_of, places_of}
+use Rattle.smithy_schema.specs.views.DescribedTraits.{text_of, traits_with}
+use Rattle.smithy_schema.specs.views.Places.{place_of, places_of}
 use Rattle.smithy_schema.specs.Nodes.{Node, bare_node}
 
 abbrev pub name_in : Membership → Option (List ℕ)
@@ -24,6 +24,18 @@ index_in (Indexed name index) = Some index
 abbrev pub bare_by : ShapeId → ShapeType → Node
 bare_by id kind = bare_node (parts_of id).full_name kind
 
+-- the member of this identifier, kind, name and index, with nothing else
+abbrev pub member_by : ShapeId → ShapeType → List ℕ → ℕ → Node
+member_by id kind name index = record (bare_by id kind) { member_name = Some name; member_index = Some index }
+
+-- keys and values in the place of members, element, key and value
+abbrev pub with_map : ℕ → ℕ → Node → Node
+with_map key value n = record n { members = []; element = None; key = Some key; value = Some value }
+
+-- elements in the place of members, element, key and value
+abbrev pub with_list : ℕ → Node → Node
+with_list element n = record n { members = []; element = Some element; key = None; value = None }
+
 abbrev pub node_described : Inside → Node
 node_described a = record {
   full_name = a.id.full_name.now;
@@ -36,7 +48,7 @@ node_described a = record {
   element = place_of a.places.element;
   key = place_of a.places.key;
   value = place_of a.places.value;
-  traits = record (traits_described a.traits) { others = a.others };
+  traits = traits_with a.traits a.others;
   has_no_body_members = a.no_body_members;
   hint = a.hint;
 }

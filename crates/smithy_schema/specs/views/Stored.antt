@@ -1,5 +1,6 @@
 -- The node that a stored one is.
-use Rattle.std.specs.Prelude.{ℕ, List, map, Option, Some, None, option_map}
+use Rattle.std.specs.Prelude.{◌≡◌, ℕ, List, map, Option, Some, None, option_map, MatchOption}
+use Rattle.std.specs.Borrow.{Bor}
 use Rattle.smithy_schema.specs.declared.stored.StoredMember.{StoredMember}
 use Rattle.smithy_schema.specs.declared.stored.StoredMember.TheVariants.{Shape, Named, Indexed}
 use Rattle.smithy_schema.specs.declared.stored.StoredHttp.{StoredHttp}
@@ -10,8 +11,9 @@ use Rattle.smithy_schema.specs.declared.stored.StoredDetails.{StoredDetails}
 use Rattle.smithy_schema.specs.declared.stored.StoredDetails.TheVariants.{Outline, Full}
 use Rattle.smithy_schema.specs.declared.stored.Head.{Head}
 use Rattle.smithy_schema.specs.declared.stored.StoredNode.{StoredNode}
-use Rattle.smithy_schema.specs.Details.{Details, outlined}
-use Rattle.smithy_schema.specs.Places.{place_of, places_of}
+use Rattle.smithy_schema.specs.views.Details.{Details, details_of, outlined}
+use Rattle.smithy_schema.specs.views.Places.{place_of, places_of}
+use Rattle.smithy_schema.specs.PreludeNodes.{IsBare}
 use Rattle.smithy_schema.specs.Nodes.{Http, Namespace, Traits, Node, bare_node, Table}
 
 abbrev pub name_stored : StoredMember → Option (List ℕ)
@@ -93,6 +95,18 @@ node_stored n = record {
   has_no_body_members = (details_stored n.details).has_no_body_members;
   hint = (details_stored n.details).hint;
 }
+
+-- the node as it is kept, or a bare one where it isn't
+abbrev pub ShowsNode : Node → Option (Bor StoredNode) → Type 0
+ShowsNode node kept = MatchOption kept (IsBare node) (λ k. node ≡ node_stored k.now)
+
+-- the node's details as they are kept in full, or a time format at most where they aren't
+abbrev pub ShowsDetails : Node → Option (Bor FullDetails) → Type 0
+ShowsDetails n kept = MatchOption kept (details_of n ≡ outlined n.traits.timestamp_format) (λ d. details_of n ≡ details_full d.now)
+
+-- and its traits
+abbrev pub ShowsTraits : Node → Option (Bor StoredTraits) → Type 0
+ShowsTraits n kept = MatchOption kept (n.traits ≡ (outlined n.traits.timestamp_format).traits) (λ t. n.traits ≡ traits_stored t.now)
 
 abbrev pub table_stored : List (Option StoredNode) → Table
 table_stored nodes = map (option_map node_stored) nodes

@@ -41,6 +41,10 @@ items_view = fold-Documents doc.Document doc.Items doc.Members document_step ite
 abbrev pub members_view : Members → doc.Members
 members_view = fold-Members doc.Document doc.Items doc.Members document_step items_step members_step
 
+-- the members in order, each a key and its document
+abbrev pub pairs_in : Members → List (List ℕ × doc.Document)
+pairs_in members = doc.list_of_members (members_view members)
+
 -- an entry of a map, seen
 abbrev pub pair_view : String Global × Document → List ℕ × doc.Document
 pair_view entry = (string_bytes entry.0, view entry.1)

@@ -1,15 +1,17 @@
 -- What the code's readings of a model stand for.
-use Rattle.std.specs.Prelude.{map, Option, option_and_then}
+use Rattle.std.specs.Prelude.{◌≡◌, ℕ, List, map, Option, option_and_then}
 use Rattle.std.specs.Borrow.{Bor}
 use Rattle.serde_json.specs.Data.{Data, object}
-use Rattle.smithy_json.specs.JsonView.{view, members_view}
+use Rattle.smithy_json.specs.views.JsonView.{view, members_view}
 use Rattle.smithy_json.specs.declared.value.JsonValue.{JsonValue}
 use Rattle.smithy_schema.specs.Nodes as nodes
 use Rattle.smithy_schema.specs.DescribedTraits.{traits_described}
+use Rattle.smithy_schema.specs.declared.traits.Traits as described
+use Rattle.smithy_model.specs.Traits.{with_trait}
 use Rattle.smithy_model.specs.Further.{Further, further_traits}
 use Rattle.smithy_model.specs.Shapes as shapes
 use Rattle.smithy_model.specs.Operations as operations
-use Rattle.smithy_model.specs.PlaceView.{texts}
+use Rattle.smithy_model.specs.views.NameView.{texts}
 use Rattle.smithy_model.specs.declared.model_shapes.ModelShapes.{ModelShapes}
 use Rattle.smithy_model.specs.declared.shape.ShapeTraits.{ShapeTraits}
 use Rattle.smithy_model.specs.declared.shape.Member.{Member}
@@ -29,6 +31,10 @@ further_given given = option_and_then (λ v. further_traits (view v.now)) given
 
 abbrev pub traits_view : ShapeTraits → nodes.Traits
 traits_view t = record (traits_described t.plain) { others = further_given t.given }
+
+-- the trait of this name is added to those that are described
+abbrev pub AddsTrait : List ℕ → JsonValue → described.Traits → described.Traits → Type 0
+AddsTrait id value before after = traits_described after ≡ with_trait (traits_described before) id (view value)
 
 abbrev pub member_view : Member → shapes.Member
 member_view m = record { name = m.name.now; target = m.target.now; traits = traits_view m.traits }

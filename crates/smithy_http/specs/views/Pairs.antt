@@ -1,9 +1,11 @@
 -- How headers are kept: as pairs, with the place of each name as long as each stands once.
-use Rattle.std.specs.Prelude.{◌≡◌, ℕ, Bool, not, List, [], ◌∷◌, Option, None, filter, position, String, string_bytes}
+use Rattle.std.specs.Prelude.{◌≡◌, ℕ, Bool, not, List, [], ◌∷◌, Option, None, filter, map, position, String, string_bytes, MatchOption}
+use Rattle.std.specs.Borrow.{Bor}
 use Rattle.std.specs.Global.{Global}
 use Rattle.std.specs.BTreeMap.{BTreeMap, get_by_text}
 use Rattle.smithy_types.specs.Texts.{same_text}
 use Rattle.smithy_http.specs.declared.pairs.Pair.{Pair}
+use Rattle.smithy_http.specs.Facts.{values_of_name}
 
 -- the name and the value
 abbrev pub pair_of : Pair → List ℕ × List ℕ
@@ -12,6 +14,19 @@ pair_of p = (string_bytes p.name, p.value)
 -- the name
 abbrev pub name_of : Pair → List ℕ
 name_of p = string_bytes p.name
+
+-- the pairs as a request has them
+abbrev pub shown : List Pair → List (List ℕ × List ℕ)
+shown pairs = map pair_of pairs
+
+-- the values of a name in any case
+abbrev pub values_among : List ℕ → List Pair → List (List ℕ)
+values_among name pairs = values_of_name name (shown pairs)
+
+-- the first value of a name and the pairs behind it, or none where it has no value
+abbrev pub TakesFirst : List ℕ → List Pair → Option (Bor (List ℕ) × Bor (List Pair)) → Type 0
+TakesFirst name pairs taken =
+    MatchOption taken (values_among name pairs ≡ []) (λ t. values_among name pairs ≡ t.0.now ∷ values_among name t.1.now)
 
 -- the pair has this name
 abbrev pub is_named : List ℕ → Pair → Bool

@@ -1,0 +1,4 @@
+pub mod Addresses
+pub mod ItemReading
+pub mod Lends
+pub mod Pairs

@@ -1,0 +1,6 @@
+pub mod ModelView
+pub mod NameView
+pub mod NodeView
+pub mod PlacedView
+pub mod ReachedView
+pub mod SpotView

@@ -1,0 +1,13 @@
+pub mod Described
+pub mod DescribedTraits
+pub mod Details
+pub mod Kept
+pub mod MarksOf
+pub mod MemberNames
+pub mod OwnedTraits
+pub mod Places
+pub mod PreludePlaces
+pub mod References
+pub mod ShownBindings
+pub mod Stored
+pub mod TraitMaps

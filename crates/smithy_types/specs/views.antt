@@ -1,0 +1,4 @@
+pub mod ByteClasses
+pub mod DocumentCode
+pub mod DocumentView
+pub mod MapViews
