@@ -1,20 +1,9 @@
 -- Texts read as big numbers.
-use Rattle.std.proofs.Common.{◌≡◌, ℕ, List, Bool, true, false, Some, None, Result, Ok, Err, inr, refl, sym, ◌∙◌, ap, subst, codes, IsTrue}
-use Rattle.smithy_types.specs.BigNumbers.{is_big_integer_in_range, is_big_decimal_in_range}
+use Rattle.smithy_document.proofs.Common.{◌≡◌, ℕ, List, Bool, true, false, Some, None, Result, Ok, Err, inr, refl, sym, ◌∙◌, ap, subst, codes, IsTrue, is_big_integer_in_range, is_big_decimal_in_range, then_give, Document, Number, string_in, number_in, whole_text, is_negative, big_integer_of_text, big_decimal_of_text, truncated, scalar_of_document, mismatch, SerdeError, OutOfMemory, Gives, IsRefusal, Scalar, big_integer, big_decimal, only_if, whole_part, too_large}
 use Rattle.smithy_ids.specs.declared.shape_type.ShapeType.TheVariants as kind
 use Rattle.std.specs.Option.{ok_or}
-use Rattle.smithy_types.specs.Results.{then_give}
 use Rattle.smithy_types.specs.Documents as doc
-use Rattle.smithy_types.specs.Documents.{Document, Number, string_in, number_in}
-use Rattle.smithy_serde.specs.DocumentReads.{whole_text, is_negative, big_integer_of_text, big_decimal_of_text, truncated, scalar_of_document, mismatch}
-use Rattle.smithy_serde.specs.declared.error.SerdeError.{SerdeError}
-use Rattle.smithy_serde.specs.declared.error.SerdeError.TheVariants.{OutOfMemory}
-use Rattle.smithy_serde.specs.ReadCalls.{Gives}
-use Rattle.smithy_serde.specs.Refusals.{IsRefusal}
-use Rattle.smithy_serde.specs.Values.{Scalar, big_integer, big_decimal}
-use Rattle.smithy_serde.specs.Writes.{only_if}
 use Rattle.smithy_document.specs.BigReads.{not_parsed}
-use Rattle.smithy_document.specs.Scaling.{whole_part, too_large}
 use Rattle.smithy_document.proofs.Truncations.{has_parts, truncated_from}
 
 pub gives_memory : {A : Type 0} (see : A → Scalar) (r : Result Scalar SerdeError) (e : SerdeError) → e ≡ OutOfMemory → Gives see (Some r) (Err e)

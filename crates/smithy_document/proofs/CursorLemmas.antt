@@ -1,30 +1,15 @@
 -- How a cursor moves, as a reader is seen.
-use Rattle.std.proofs.Common.{◌≡◌, ℕ, ◌+◌, ◌-◌, ◌<◌, Bool, true, false, List, [], ◌∷◌, ◌++◌, map, length, slice_get, Option, Some, None, option_map, Ok, Err, inl, inr, refl, sym, ap, ◌∙◌, subst, arith}
-use Rattle.std.specs.Prelude.{flat_map, IfSome}
-use Rattle.std.specs.Option.{option_map_or, unwrap_or}
+use Rattle.smithy_document.proofs.Common.{◌≡◌, ℕ, ◌+◌, ◌-◌, ◌<◌, Bool, true, false, List, [], ◌∷◌, ◌++◌, map, length, slice_get, Option, Some, None, option_map, Ok, Err, inl, inr, refl, sym, ap, ◌∙◌, subst, arith, flat_map, IfSome, option_map_or, unwrap_or, Document, list_of_items, nesting, Schema, mismatch, SerdeError, OutOfMemory, Group, Held, walked, elements, entries, fields, known, IsIn, NotOpened, IsRefused, IsRefusedAt, Hands, SettlesBy, Advanced, MemberAdvanced, Closed, Halted, NextElement, IsRefusal, only_if, Spot, spot_list, document_in, name_in, opened_in, seen, ClosesAt, StepsTo, Advances, ClosesBehind, StepsToMember, Part, nameless, parts_of, opens_as, kind_of_group, handed_out, told_out, frame_of, reading, Names, name_at, part_in, rest_in, step_in, at_path, opened_at, last_name}
 use Rattle.std.proofs.lemmas.List.Sums.{fold_push}
 use Rattle.smithy_types.specs.Documents as doc
-use Rattle.smithy_types.specs.Documents.{Document, list_of_items, nesting}
-use Rattle.smithy_schema.specs.Nodes.{Schema}
-use Rattle.smithy_serde.specs.DocumentReads.{mismatch}
-use Rattle.smithy_serde.specs.declared.error.SerdeError.{SerdeError}
-use Rattle.smithy_serde.specs.declared.error.SerdeError.TheVariants.{OutOfMemory}
-use Rattle.smithy_serde.specs.declared.scalar.Group.{Group}
 use Rattle.smithy_serde.specs.declared.scalar.Group.TheVariants as group
 use Rattle.smithy_serde.specs.Held as held
-use Rattle.smithy_serde.specs.Held.{Held, walked}
-use Rattle.smithy_serde.specs.HeldReads.{elements, entries, fields, known}
 use Rattle.smithy_serde.specs.Listings.{Slot, at_member, at_element, at_key, Listing, contents, contents_at, asked, listing_of}
-use Rattle.smithy_serde.specs.ReadCalls.{Frame, IsIn, Opened, NotOpened, IsRefused, IsRefusedAt, Hands, SettlesBy, Advanced, MemberAdvanced, Closed, Halted, NextElement}
-use Rattle.smithy_serde.specs.Refusals.{IsRefusal}
-use Rattle.smithy_serde.specs.Writes.{only_if}
-use Rattle.smithy_document.specs.declared.place.Place.{Place}
+use Rattle.smithy_serde.specs.ReadCalls.{Frame, Opened}
 use Rattle.smithy_document.specs.declared.cursor.Cursor.{Cursor}
-use Rattle.smithy_document.specs.CursorView.{place_list, document_in, name_in, opened_in, seen, ClosesAt, StepsTo, Advances, ClosesBehind, StepsToMember}
 use Rattle.smithy_document.specs.OpenDocuments as walk
-use Rattle.smithy_document.specs.OpenDocuments.{Part, nameless, parts_of, opens_as, kind_of_group, handed_out, told_out, frame_of, reading}
-use Rattle.smithy_document.specs.Paths.{Names, name_at, part_in, rest_in, step_in, at_path, opened_at, opened_along, last_name}
-use Rattle.smithy_document.proofs.PathLemmas.{rest_first, rest_none, part_within, last_place}
+use Rattle.smithy_document.specs.views.Paths.{opened_along}
+use Rattle.smithy_document.proofs.PathLemmas.{rest_first, rest_none, part_within, last_item}
 use Rattle.smithy_document.proofs.WayLemmas.{opened_last, last_is}
 
 -- ---- opening
@@ -63,14 +48,14 @@ opened_here tells g node d now os after opens is =
     }
 
 pub is_opened : (tells : Bool) (g : Group) (node : Schema) (root : Document) (old new : Cursor) (names : Names) → opens_as g (document_in root old) ≡ true
-    → rest_in (document_in root old) names 0 ≡ parts_of (document_in root old) → place_list new ≡ place_list old ++ record { form = g; names = names; next = 0 } ∷ []
+    → rest_in (document_in root old) names 0 ≡ parts_of (document_in root old) → spot_list new ≡ spot_list old ++ record { form = g; names = names; next = 0 } ∷ []
     → Opened g node (seen tells root old) (seen tells root new)
 is_opened tells g node root old new names opens all pushed =
-    let p : Place = record { form = g; names = names; next = 0 } in
+    let p : Spot = record { form = g; names = names; next = 0 } in
     let d = document_in root old in
     let whole : opened_at d p ≡ record { form = g; container = d; rest = parts_of d } = ap (λ rest. record { form = g; container = d; rest = rest }) all in
     opened_here tells g node d (document_in root new) (opened_in root old) (opened_in root new) opens
-    (ap (opened_along root) pushed ∙ opened_last step_in opened_at root (place_list old) p ∙ ap (λ x. x ∷ opened_along root (place_list old)) whole)
+    (ap (opened_along root) pushed ∙ opened_last step_in opened_at root (spot_list old) p ∙ ap (λ x. x ∷ opened_along root (spot_list old)) whole)
 
 refused_listing : (g : Group) (node : Schema) (d : Document) (e : SerdeError) → opens_as g d ≡ false → e ≡ mismatch (kind_of_group g) d → IsRefusedAt (contents g node (held.document d)) e
 unfolding elements entries fields
@@ -97,19 +82,19 @@ not_opened tells g node root c = refused_here tells g node (document_in root c) 
 pub starved_here : (tells : Bool) (g : Group) (node : Schema) (d now : Document) (os after : List walk.Opened) (e : SerdeError) → now ≡ d → after ≡ os → e ≡ OutOfMemory → NotOpened g node (reading tells d os) (reading tells now after) e
 starved_here tells g node d now os after e same kept memory = record { opened = ap (map (frame_of tells)) kept; levels = ap nesting same; refused = inl memory }
 
-pub starved : (tells : Bool) (g : Group) (node : Schema) (root : Document) (old new : Cursor) (e : SerdeError) → place_list new ≡ place_list old → e ≡ OutOfMemory → NotOpened g node (seen tells root old) (seen tells root new) e
+pub starved : (tells : Bool) (g : Group) (node : Schema) (root : Document) (old new : Cursor) (e : SerdeError) → spot_list new ≡ spot_list old → e ≡ OutOfMemory → NotOpened g node (seen tells root old) (seen tells root new) e
 starved tells g node root old new e same memory = record { opened = ap (λ ps. map (frame_of tells) (opened_along root ps)) same; levels = ap (λ ps. nesting (at_path root ps)) same; refused = inl memory }
 
 -- ---- a part
 
-last_of : (d : Document) (p : Place) (part : Document) → part_in d p.names p.next ≡ Some part → step_in d (record p { next = p.next + 1 }) ≡ part
+last_of : (d : Document) (p : Spot) (part : Document) → part_in d p.names p.next ≡ Some part → step_in d (record p { next = p.next + 1 }) ≡ part
 last_of d p part h =
     last_is (part_in d p.names) (p.next + 1) d (omega arith) ∙ ap (λ i. unwrap_or (part_in d p.names i) d) (let same : p.next + 1 - 1 ≡ p.next = omega arith in same) ∙ ap (λ o. unwrap_or o d) h
 
-pub steps : (root : Document) (ps : List Place) (p : Place) (part : Document) → part_in (at_path root ps) p.names p.next ≡ Some part
+pub steps : (root : Document) (ps : List Spot) (p : Spot) (part : Document) → part_in (at_path root ps) p.names p.next ≡ Some part
     → StepsTo (name_at p.names p.next) (opened_along root (ps ++ p ∷ [])) (at_path root (ps ++ record p { next = p.next + 1 } ∷ [])) (opened_along root (ps ++ record p { next = p.next + 1 } ∷ []))
 steps root ps p part h =
-    let q : Place = record p { next = p.next + 1 } in
+    let q : Spot = record p { next = p.next + 1 } in
     let d = at_path root ps in
     let more : List Part = rest_in d p.names (p.next + 1) in
     let comes : at_path root (ps ++ q ∷ []) ≡ part = fold_push step_in root ps q ∙ last_of d p part h in
@@ -123,12 +108,12 @@ steps root ps p part h =
       within = subst (λ x. nesting x < nesting d) (sym comes) (part_within d p.names p.next part h);
     }
 
-pub closes : (root : Document) (ps : List Place) (p : Place) → part_in (at_path root ps) p.names p.next ≡ None
+pub closes : (root : Document) (ps : List Spot) (p : Spot) → part_in (at_path root ps) p.names p.next ≡ None
     → ClosesAt (opened_along root (ps ++ p ∷ [])) (at_path root ps) (opened_along root ps)
 closes root ps p h =
     record { top = opened_at (at_path root ps) p; was = opened_last step_in opened_at root ps p; none_left = rest_none (at_path root ps) p.names p.next h; again = refl }
 
--- a place behind a part
+-- the position behind a part
 pub record Stepping (n next : ℕ) (o : Option Document) : Type 0 where
   pub part : Document
   pub there : o ≡ Some part
@@ -142,16 +127,16 @@ pub not_stepped : (n : ℕ) (o : Option Document) → option_map (λ d. n) o ≡
 not_stepped n None h = refl
 not_stepped n (Some d) h = absurd (cc h)
 
-pub named_last : (c : Cursor) (ps : List Place) (q : Place) (i : ℕ) → place_list c ≡ ps ++ q ∷ [] → q.next ≡ i + 1 → name_in c ≡ name_at q.names i
+pub named_last : (c : Cursor) (ps : List Spot) (q : Spot) (i : ℕ) → spot_list c ≡ ps ++ q ∷ [] → q.next ≡ i + 1 → name_in c ≡ name_at q.names i
 named_last c ps q i is next =
-    ap (λ xs. option_map_or last_name (slice_get xs (length xs - 1)) []) is ∙ ap (λ o. option_map_or last_name o []) (last_place ps q)
+    ap (λ xs. option_map_or last_name (slice_get xs (length xs - 1)) []) is ∙ ap (λ o. option_map_or last_name o []) (last_item ps q)
     ∙ ap (name_at q.names) (let e : q.next - 1 ≡ i = omega arith in e)
 
 -- ---- a reader
 
-pub open_place : (tells : Bool) (g : Group) (root d : Document) (ps : List Place) → IsIn g (reading tells d (opened_along root ps)) → 0 < length ps
-open_place tells g root d [] h = absurd h
-open_place tells g root d (p ∷ ps) h = omega arith
+pub open_spot : (tells : Bool) (g : Group) (root d : Document) (ps : List Spot) → IsIn g (reading tells d (opened_along root ps)) → 0 < length ps
+open_spot tells g root d [] h = absurd h
+open_spot tells g root d (p ∷ ps) h = omega arith
 
 pub in_told : (tells : Bool) (g : Group) (d : Document) (os : List walk.Opened) → IsIn g (reading tells d os) → IsIn g (reading true d os)
 in_told tells g d [] h = h

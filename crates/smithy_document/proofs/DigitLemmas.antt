@@ -1,19 +1,10 @@
 -- The numbers of digits of which some are cut off, or behind which zeros stand.
-use Rattle.std.proofs.Common.{◌≡◌, refl, sym, ap, ◌∙◌, subst, ℕ, zero, suc, ◌+◌, ◌-◌, ◌*◌, ◌/◌, ◌^◌, ◌<◌, ◌≤◌, ◌==◌, Bool, true, false, if◌then◌else◌, List, [], ◌∷◌, ◌++◌, length, take, drop, replicate, get_or, add-zero, ⊎_elim, min, nat_eq, codes, pos, neg_ℤ, arith}
-use Rattle.std.specs.Char.{digit_value}
-use Rattle.std.specs.List.{list_all, starts_with}
-use Rattle.std.specs.Str.Parse.{AllDigits, digits_value, digits_value_after, signed_digits_value}
+use Rattle.std.proofs.Common.{if◌then◌else◌}
+use Rattle.smithy_document.proofs.Common.{◌≡◌, refl, sym, ap, ◌∙◌, subst, ℕ, zero, suc, ◌+◌, ◌-◌, ◌*◌, ◌/◌, ◌^◌, ◌<◌, ◌≤◌, ◌==◌, Bool, true, false, List, [], ◌∷◌, ◌++◌, length, take, drop, replicate, get_or, add-zero, ⊎_elim, min, nat_eq, codes, pos, neg_ℤ, arith, digit_value, list_all, starts_with, AllDigits, digits_value, digits_value_after, signed_digits_value, false≢true, and_parts, and_from, eqb-true, eqb-false, eq-eqb, ne_eqb, cases_eq, take-append-drop, length-drop, take_more, digit_value_digit, is_digit, unsigned, is_digit-in_range, value_append, without_zeros, near}
 use Rattle.std.proofs.Math.Nat.{add-mul, mul_assoc, mul_comm, pow-suc, pow-succ', mul-one, le-mul_of_pos_right, add_assoc}
-use Rattle.std.proofs.lemmas.Bool.{false≢true, and_parts, and_from, eqb-true, eqb-false, eq-eqb, ne_eqb, cases_eq}
 use Rattle.std.proofs.lemmas.Int.Digits.{digits_value-lt}
-use Rattle.std.proofs.lemmas.List.{take-append-drop, length-drop, take_more}
 use Rattle.std.proofs.lemmas.Nat.{div-mul-add}
-use Rattle.std.proofs.lemmas.Str.{digit_value_digit}
 use Rattle.std.proofs.lemmas.Str.Parse.{digit_from_value}
-use Rattle.smithy_types.specs.BigNumbers.{is_digit, unsigned}
-use Rattle.smithy_types.proofs.Coefficients.{is_digit-in_range, value_append}
-use Rattle.smithy_serde.specs.DocumentReads.{without_zeros}
-use Rattle.smithy_document.specs.Scaling.{near}
 
 digit : (b : ℕ) → is_digit b ≡ true → digit_value b < 10
 digit b e = let r = is_digit-in_range b e in let d = digit_value_digit b r in omega (arith, r.1)

@@ -1,19 +1,8 @@
 -- The values of a structure by their names, in index order, are the values of its members in turn.
-use Rattle.std.proofs.Common.{◌≡◌, refl, sym, ap, ap₂, ◌∙◌, ℕ, suc, ◌≤◌, ◌<◌, arith, lt-ltb, le-ltb, Bool, true, false, cond, not, List, [], ◌∷◌, map, find, filter_map, Option, Some, None, option_map, option_and_then, unwrap_or, is_some}
-use Rattle.std.specs.List.{AllByRecursion, cons_option}
-use Rattle.std.specs.Option.{option_map_or, option_or}
+use Rattle.std.proofs.Common.{unwrap_or}
+use Rattle.smithy_document.proofs.Common.{◌≡◌, refl, sym, ap, ap₂, ◌∙◌, ℕ, suc, ◌≤◌, ◌<◌, arith, lt-ltb, le-ltb, Bool, true, false, cond, not, List, [], ◌∷◌, map, find, filter_map, Option, Some, None, option_map, option_and_then, is_some, AllByRecursion, cons_option, option_map_or, and_parts, or_parts, not-true, same_text, is_one_of, are_distinct, Schema, Value, Write, label_of, field_of, is_named, no_label, write_by, same_self, looked, all_put, look_ordered, Ascends, absent, up_tail}
 use Rattle.std.specs.Cmp.Lexicographic.{same_text as same_from_test}
-use Rattle.std.proofs.lemmas.Bool.{and_parts, or_parts, not-true}
-use Rattle.smithy_types.specs.Texts.{same_text, is_one_of, are_distinct}
-use Rattle.smithy_schema.specs.Nodes.{Schema}
-use Rattle.smithy_serde.specs.Values.{Value, Write, label_of}
 use Rattle.smithy_serde.specs.IndexOrder.{put_by, position_of, in_order}
-use Rattle.smithy_serde.specs.NormalBody.{last_named, field_of}
-use Rattle.smithy_serde.specs.Shaped.{is_named}
-use Rattle.smithy_serde.specs.StoredValues.{no_label}
-use Rattle.smithy_serde.specs.ValueRead.{write_by}
-use Rattle.smithy_document.proofs.OrderedPairs.{looked, last_of, all_put, look_ordered, Ascends, absent, up_tail}
-use Rattle.smithy_document.proofs.PathLemmas.{same_self}
 
 abbrev pub Named : Type 0
 Named = List ℕ × Value
@@ -144,10 +133,6 @@ fields_in_order ms (e ∷ es) stand distinct up named =
     go None is there = absurd (cc there)
     go (Some m) is there = put_field 0 e.0 e.1 es m ms stand distinct (absent e.0 es up) is
 
-pub last_is : (name : List ℕ) (fs : List Named) → last_named name fs ≡ last_of name fs
-last_is name [] = refl
-last_is name (f ∷ fs) = ap (λ o. option_or o (cond (same_text f.0 name) (Some f.1) None)) (last_is name fs)
-
 -- the values of a structure in the order of their names are the last ones
 pub last_in_order : (fs : List Named) (ms : List Schema) → filter_map (looked_field (all_put fs [])) ms ≡ filter_map (field_of fs) ms
-last_in_order fs ms i = filter_map (λ m. option_map (write_by m) (option_and_then (λ name. (look_ordered name fs ∙ sym (last_is name fs)) i) m.node.member_name)) ms
+last_in_order fs ms i = filter_map (λ m. option_map (write_by m) (option_and_then (λ name. look_ordered name fs i) m.node.member_name)) ms

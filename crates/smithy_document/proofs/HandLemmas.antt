@@ -1,27 +1,13 @@
 -- Readers of documents, as they are seen.
-use Rattle.std.proofs.Common.{◌≡◌, Bool, true, false, List, [], ◌∷◌, ◌++◌, map, Option, Some, None, Result, Ok, Err, inl, inr, refl, sym, ap}
-use Rattle.std.specs.Prelude.{IfSome, OnErr, is_none, option_map}
-use Rattle.smithy_types.specs.Documents.{Document}
-use Rattle.smithy_schema.specs.Nodes.{Schema}
-use Rattle.smithy_serde.specs.DocumentReads.{scalar_of_document}
-use Rattle.smithy_serde.specs.declared.error.SerdeError.{SerdeError}
-use Rattle.smithy_serde.specs.declared.scalar.Group.{Group}
+use Rattle.std.specs.Prelude.{option_map}
+use Rattle.smithy_document.proofs.Common.{◌≡◌, Bool, true, false, List, [], ◌∷◌, ◌++◌, map, Option, Some, None, Result, Ok, Err, inl, inr, refl, sym, ap, IfSome, OnErr, is_none, Document, Schema, scalar_of_document, SerdeError, Group, ReadScalar, Held, Answer, IsAnswer, is_null_document, is_null_held, read_scalar, elements, entries, fields, Gives, Answered, NotOpened, Reads, scalar_of_read, read_at, type_of, IsRefusal, only_if, spot_list, seen, refusing, Opened, frame_of, reading, at_path, Coercions, ReadsBy}
 use Rattle.smithy_serde.specs.declared.scalar.Group.TheVariants as group
 use Rattle.smithy_serde.specs.declared.read_scalar.ScalarKind.{ScalarKind}
-use Rattle.smithy_serde.specs.declared.read_scalar.ReadScalar.{ReadScalar}
 use Rattle.smithy_serde.specs.Held as held
-use Rattle.smithy_serde.specs.Held.{Held, Answer, IsAnswer, is_null_document, is_null_held}
-use Rattle.smithy_serde.specs.HeldReads.{read_scalar, elements, entries, fields}
-use Rattle.smithy_serde.specs.ReadCalls.{Frame, Gives, Answered, NotOpened, Reads, scalar_of_read, read_at, type_of}
-use Rattle.smithy_serde.specs.Refusals.{IsRefusal}
-use Rattle.smithy_serde.specs.Writes.{only_if}
+use Rattle.smithy_serde.specs.ReadCalls.{Frame}
 use Rattle.smithy_document.specs.declared.cursor.Cursor.{Cursor}
-use Rattle.smithy_document.specs.CursorView.{place_list, seen}
-use Rattle.smithy_document.specs.JsonHand.{refusing}
 use Rattle.smithy_document.specs.JsonHeld.{not_json}
-use Rattle.smithy_document.specs.OpenDocuments.{Opened, frame_of, reading}
-use Rattle.smithy_document.specs.Paths.{at_path, opened_along}
-use Rattle.smithy_document.specs.SettingsReads.{Coercions, ReadsBy}
+use Rattle.smithy_document.specs.views.Paths.{opened_along}
 
 pub read_gives : (k : ScalarKind) (node : Schema) (d : Document) (r : Result ReadScalar SerdeError)
     → Gives scalar_of_read (Some (scalar_of_document (type_of k) d)) r → Gives scalar_of_read (read_at k node (Some (held.document d))) r
@@ -41,7 +27,7 @@ pub left_alike : {A : Type 0} {P Q : Type 0} (r : Result A SerdeError) → (P �
 left_alike (Ok a) f p = tt
 left_alike (Err e) f p = f p
 
-pub plain_alike : (root : Document) (old new : Cursor) → place_list new ≡ place_list old → seen true root new ≡ seen true root old
+pub plain_alike : (root : Document) (old new : Cursor) → spot_list new ≡ spot_list old → seen true root new ≡ seen true root old
 plain_alike root old new same = ap (λ ps. reading true (at_path root ps) (opened_along root ps)) same
 
 settled_first : Frame → List Frame → Option (SerdeError → Answer)

@@ -1,26 +1,20 @@
 -- What a tree's nodes are seen as, one more at the end, in texts that grow.
-use Rattle.std.proofs.Common.{◌≡◌, refl, sym, ap, ap₂, ◌∙◌, ℕ, zero, suc, ◌+◌, ◌<◌, ◌≤◌, arith, rules, List, [], ◌∷◌, ◌++◌, map, drop, length, get_or, append_assoc, append-nil, Bool, IsTrue, Option, Some, None, option_map, Bor, Vec, Global}
-use Rattle.std.proofs.lemmas.Bool.{and_parts}
-use Rattle.std.proofs.lemmas.List.{drop_more}
-use Rattle.std.proofs.Math.ListN.{drop_of_length-le}
+use Rattle.std.proofs.Common.{append-nil}
+use Rattle.smithy_document.proofs.Common.{◌≡◌, refl, sym, ap, ap₂, ◌∙◌, ℕ, zero, suc, ◌+◌, ◌<◌, ◌≤◌, arith, rules, List, [], ◌∷◌, ◌++◌, map, drop, length, get_or, append_assoc, Bool, IsTrue, Option, Some, None, option_map, Bor, Vec, Global, and_parts, drop_more, drop_of_length-le, depth, items_depth, members_depth, Document, items_snoc, number_of_data, of_data, items_of_data, pairs_of_data, Member, node_view, nodes_view, fields_view, Grows, StaysIn, IsFound, Node, Null, Text as TheText, Array, Object, the_lemmas}
 use Rattle.serde_json.specs.Data as parsed
-use Rattle.serde_json.specs.Data.{depth, items_depth, members_depth}
 use Rattle.serde_json.specs.View.{number_view as json_number_view}
 use Rattle.serde_json.specs.declared.number.Number as numbers
 use Rattle.smithy_types.specs.Documents as doc
-use Rattle.smithy_types.specs.Documents.{Document, items_snoc}
 use Rattle.smithy_types.specs.DocumentView.{number_view}
 use Rattle.smithy_types.specs.declared.number.Number.{Number}
-use Rattle.smithy_json.specs.FromData.{number_of_data, of_data, items_of_data, pairs_of_data}
-use Rattle.smithy_json.specs.JsonView.{Member, view, items_view, members_view}
+use Rattle.smithy_json.specs.JsonView.{view, items_view, members_view}
 use Rattle.smithy_json.specs.Ordered.{is_ordered, are_items_ordered}
 use Rattle.smithy_json.specs.declared.value.JsonValue as json
 use Rattle.smithy_json.specs.declared.value.JsonValue.{JsonValue}
 use Rattle.smithy_json.proofs.DocumentLemmas.{and_items, items_start, items_more, items_end}
 use Rattle.smithy_json.proofs.OrderedData.{AreMembersOrdered, member_placed}
 use Rattle.smithy_json.proofs.ReadingLemmas.{view-Array as value_array, view-Object as value_object}
-use Rattle.smithy_document.specs.JsonTree.{node_view, nodes_view, fields_view, Grows, StaysIn, IsFound}
-use Rattle.smithy_document.specs.declared.json_tree.Node.{Node, Null, Bool as TheBool, Number as TheNumber, Text as TheText, Array, Object, the_lemmas}
+use Rattle.smithy_document.specs.declared.json_tree.Node.{Bool as TheBool, Number as TheNumber}
 use Rattle.smithy_document.proofs.NodeLemmas.{view-Text as node_text, view-Array as node_array, view-Object as node_object}
 use Rattle.smithy_document.proofs.OrderedMembers.{members_in_turn}
 use Rattle.smithy_document.proofs.TreeDocuments.{grows_on, stays, text_pushed, one_stays, field_view, field_stays, fields_from}
@@ -69,9 +63,9 @@ pub number_found : (value : JsonValue) (n : numbers.Number) (m : Number) (texts 
 number_found value n m texts is found =
     (doc.number (number_view m), same_value value _ _ is (value_number n) ∙ ap (option_map doc.number) (sym found), λ more. node_number (texts ++ more) m)
 
-pub text_found : (value : JsonValue) (text : Bor (List ℕ)) (place : ℕ) (old new : Texts) → value ≡ json.String text → new ≡ old ++ text.now ∷ [] → place ≡ length old → IsNodeOf value (TheText place) new
-text_found value text place old new is pushed at =
-    (doc.string text.now, same_value value _ _ is (value_text text), λ more. node_text (new ++ more) place ∙ ap doc.string (rw (pushed, at) (text_pushed old more text.now)))
+pub text_found : (value : JsonValue) (text : Bor (List ℕ)) (position : ℕ) (old new : Texts) → value ≡ json.String text → new ≡ old ++ text.now ∷ [] → position ≡ length old → IsNodeOf value (TheText position) new
+text_found value text position old new is pushed at =
+    (doc.string text.now, same_value value _ _ is (value_text text), λ more. node_text (new ++ more) position ∙ ap doc.string (rw (pushed, at) (text_pushed old more text.now)))
 
 pub array_found : (value : JsonValue) (items : Vec JsonValue Global) (v : Vec Node Global) (texts : Texts) → value ≡ json.Array items
     → IsFound (items_of_data (items_view items.items)) (λ ts. nodes_view ts v.items) texts → IsNodeOf value (Array v) texts
@@ -102,7 +96,7 @@ item_depth [] i v within is = absurd (omega (arith, within))
 item_depth (w ∷ vs) zero v within is = let same : depth (view v) ≡ depth (view w) = ap (λ u. depth (view u)) is in omega (arith, same)
 item_depth (w ∷ vs) (suc i) v within is = let inside : depth (view v) ≤ items_depth (items_view vs) = item_depth vs i v (omega (arith, within)) is in omega (arith, inside)
 
--- the items before a place are found, and what is left gives the rest
+-- the items before a position are found, and what is left gives the rest
 pub record ItemsFound (vs : List JsonValue) (i : ℕ) (ns : List Node) (texts : Texts) : Type 0 where
   pub items : doc.Items
   pub seen : StaysIn (λ ts. nodes_view ts ns) texts items
@@ -146,18 +140,18 @@ and_one : (ps : List Pair) (k : List ℕ) (d : Document) (o : Option (List Pair)
 and_one ps k d None = refl
 and_one ps k d (Some more) = ap (λ (qs : List Pair). Some qs) (append_assoc ps ((k, d) ∷ []) more)
 
--- the members before a place are found, and what is left gives the rest
+-- the members before a position are found, and what is left gives the rest
 pub record FieldsFound (ms : List Member) (i : ℕ) (fs : List (ℕ × Node)) (texts : Texts) : Type 0 where
   pub pairs : List Pair
   pub seen : StaysIn (λ ts. map (field_view ts) fs) texts pairs
   pub rest : and_pairs pairs (pairs_of_data (members_view (drop i ms))) ≡ pairs_of_data (members_view ms)
 
-pub one_field : (ms : List Member) (i : ℕ) (m : Member) (fs all : List (ℕ × Node)) (place : ℕ) (n : Node) (old mid new : Texts) → i < length ms → m ≡ get_or ms i m → all ≡ fs ++ (place, n) ∷ []
-    → mid ≡ old ++ m.0.now ∷ [] → place ≡ length old → Grows mid new → FieldsFound ms i fs old → IsNodeOf m.1 n new → FieldsFound ms (i + 1) all new
-one_field ms i m fs all place n old mid new within is pushed named at grows before found = record {
+pub one_field : (ms : List Member) (i : ℕ) (m : Member) (fs all : List (ℕ × Node)) (position : ℕ) (n : Node) (old mid new : Texts) → i < length ms → m ≡ get_or ms i m → all ≡ fs ++ (position, n) ∷ []
+    → mid ≡ old ++ m.0.now ∷ [] → position ≡ length old → Grows mid new → FieldsFound ms i fs old → IsNodeOf m.1 n new → FieldsFound ms (i + 1) all new
+one_field ms i m fs all position n old mid new within is pushed named at grows before found = record {
   pairs = before.pairs ++ (m.0.now, found.0) ∷ [];
   seen = λ more. ap (map (field_view (new ++ more))) pushed
-      ∙ one_stays field_view old new fs (place, n) before.pairs (m.0.now, found.0) before.seen (grows_on old mid new (m.0.now ∷ [], named) grows) (field_stays old mid new m.0.now place n found.0 named at grows found.2) more;
+      ∙ one_stays field_view old new fs (position, n) before.pairs (m.0.now, found.0) before.seen (grows_on old mid new (m.0.now ∷ [], named) grows) (field_stays old mid new m.0.now position n found.0 named at grows found.2) more;
   rest = and_one before.pairs m.0.now found.0 (pairs_of_data (members_view (drop (i + 1) ms))) ∙ (rw (drop_more ms i m within, ← is, found.1) at before.rest);
 }
 

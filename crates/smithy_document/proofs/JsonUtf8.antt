@@ -1,14 +1,7 @@
 -- The JSON text of a document is UTF-8.
-use Rattle.std.proofs.Common.{◌≡◌, ℕ, suc, ◌<◌, pos, negsuc, List, [], ◌∷◌, Bool, true, false, decimal, IsUtf8, refl, arith, lt-ltb}
-use Rattle.std.specs.Char.{digit_value}
-use Rattle.std.specs.Str.Parse.{AllDigits}
-use Rattle.std.proofs.lemmas.Fmt.{decimal_is_IsNumeral}
-use Rattle.std.proofs.lemmas.Str.{IsUtf8-append, IsUtf8-nil}
+use Rattle.smithy_document.proofs.Common.{◌≡◌, ℕ, suc, ◌<◌, pos, negsuc, List, [], ◌∷◌, Bool, true, false, decimal, IsUtf8, refl, arith, lt-ltb, digit_value, AllDigits, decimal_is_IsNumeral, IsUtf8-append, IsUtf8-nil, number_text, compact_text, items_text, members_text, comma_if, Document, Number, number_as_data, as_data, items_as_data, members_as_data, json_text}
 use Rattle.json.proofs.Printed.Utf8.{are_ascii, IsUtf8-are_ascii, IsUtf8-quoted, IsUtf8-boolean}
-use Rattle.serde_json.specs.Written.{number_text, compact_text, items_text, members_text, comma_if}
 use Rattle.smithy_types.specs.Documents as doc
-use Rattle.smithy_types.specs.Documents.{Document, Number}
-use Rattle.smithy_document.specs.JsonText.{number_as_data, as_data, items_as_data, members_as_data, json_text}
 use Rattle.smithy_document.proofs.SoundDocuments.{IsSoundNumber, IsSound, AreItemsSound, AreMembersSound}
 
 ascii_digit : (d : ℕ) → digit_value d < 10 → d < 128

@@ -1,23 +1,9 @@
 -- Names with their values beside names with their documents.
-use Rattle.std.proofs.Common.{◌≡◌, refl, sym, ap, subst, ◌∙◌, ℕ, true, ◌&&◌, List, [], ◌∷◌, Option, Some, None, unwrap_or, is_some, ok_or, Result, Ok, Err}
-use Rattle.std.specs.Ordering.{nat_cmp, match_ordering}
-use Rattle.std.specs.declared.cmp.Ordering.{Ordering}
-use Rattle.std.specs.declared.cmp.Ordering.TheVariants.{Less, Equal, Greater}
-use Rattle.std.specs.Cmp.Lexicographic.{slice_cmp}
-use Rattle.std.proofs.lemmas.Bool.{and_parts}
-use Rattle.smithy_types.specs.Maps.{with_value}
-use Rattle.smithy_types.specs.Results.{then_try, then_give}
+use Rattle.std.proofs.Common.{unwrap_or}
+use Rattle.smithy_document.proofs.Common.{◌≡◌, refl, sym, ap, subst, ◌∙◌, ℕ, true, ◌&&◌, List, [], ◌∷◌, Option, Some, None, is_some, ok_or, Result, Ok, Err, nat_cmp, match_ordering, Ordering, Less, Equal, Greater, slice_cmp, and_parts, with_value, then_try, then_give, Document, Members, items_of, put, put_all, members_of, list_of_items, list_of_members, Schema, Label, Scalar, Value, Write, Writes, scalar, list, structure, no_writes, write, list_of, writes_of, label_of, text_of_key, keys_of, is_in_range, fits, fits_in_range, DocumentFault, no_member_name, document_of, entries_of, entries_behind, fields_of, field_name, key_text, settled, settled_fields, settled_entries, settled_behind, in_key_order, is_shaped, are_fields_shaped, are_entries_shaped, are_values_shaped, named_member}
 use Rattle.smithy_types.specs.Documents as doc
-use Rattle.smithy_types.specs.Documents.{Document, Members, items_of, put, put_all, members_of, list_of_items, list_of_members}
 use Rattle.smithy_ids.specs.declared.shape_type.ShapeType.TheVariants as kind
-use Rattle.smithy_schema.specs.Nodes.{Schema}
 use Rattle.smithy_serde.specs.Values as value
-use Rattle.smithy_serde.specs.Values.{Label, Scalar, Value, Write, Writes, scalar, list, structure, no_writes, write, list_of, writes_of, label_of, text_of_key, keys_of}
-use Rattle.smithy_serde.specs.Ranges.{is_in_range}
-use Rattle.smithy_serde.specs.Fits.{fits, fits_in_range}
-use Rattle.smithy_serde.specs.DocumentOf.{DocumentFault, no_member_name, document_of, entries_of, entries_behind, fields_of, field_name, key_text}
-use Rattle.smithy_serde.specs.NormalBody.{settled, settled_fields, settled_entries, settled_behind, put_entry, put_entries, in_key_order}
-use Rattle.smithy_serde.specs.Shaped.{is_shaped, are_fields_shaped, are_entries_shaped, are_values_shaped, named_member}
 use Rattle.smithy_document.proofs.FieldOrder.{Named}
 use Rattle.smithy_document.proofs.OrderedPairs.{Pairs, all_put, Beside, Aligned}
 
@@ -38,16 +24,8 @@ give_gave (Err x) f y e = absurd (cc e)
 
 -- ---- the order of entries and members is that of pairs
 
-entries_put : (k : List ℕ) (v : Value) (es : List Named) → put_entry k v es ≡ with_value k v es
-entries_put k v [] = refl
-entries_put k v (e ∷ es) = ap (match_ordering (slice_cmp nat_cmp k e.0) ((k, v) ∷ e ∷ es) ((e.0, v) ∷ es)) (ap (λ rest. e ∷ rest) (entries_put k v es))
-
-entries_all : (fs es : List Named) → put_entries fs es ≡ all_put fs es
-entries_all [] es = refl
-entries_all (f ∷ fs) es = entries_all fs (put_entry f.0 f.1 es) ∙ ap (all_put fs) (entries_put f.0 f.1 es)
-
 pub entries_ordered : (fs : List Named) → in_key_order fs ≡ all_put fs []
-entries_ordered fs = entries_all fs []
+entries_ordered fs = refl
 
 members_put : (k : List ℕ) (d : Document) (ms : Members) → list_of_members (put k d ms) ≡ with_value k d (list_of_members ms)
 members_put k d doc.no_members = refl
@@ -60,7 +38,7 @@ members_put k d (doc.member l x ms) = go (slice_cmp nat_cmp k l) (members_put k 
     go Equal rest = refl
     go Greater rest = ap (λ ps. (l, x) ∷ ps) rest
 
-members_all : (ps : Pairs Document) (ms : Members) → list_of_members (put_all ps ms) ≡ all_put ps (list_of_members ms)
+pub members_all : (ps : Pairs Document) (ms : Members) → list_of_members (put_all ps ms) ≡ all_put ps (list_of_members ms)
 members_all [] ms = refl
 members_all (p ∷ ps) ms = members_all ps (put p.0 p.1 ms) ∙ ap (all_put ps) (members_put p.0 p.1 ms)
 

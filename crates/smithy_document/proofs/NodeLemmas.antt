@@ -1,19 +1,12 @@
 -- A tree of JSON beside the document that it is, a level at a time.
-use Rattle.std.proofs.Common.{◌≡◌, ℕ, min, List, [], ◌∷◌, length, map, slice_get, Option, Some, None, option_map, Vec, Global, refl, sym, ap, ◌∙◌, rules}
-use Rattle.std.specs.Option.{option_map_or}
-use Rattle.std.proofs.lemmas.List.{length-map}
-use Rattle.std.proofs.lemmas.Option.{slice_get-map}
+use Rattle.smithy_document.proofs.Common.{◌≡◌, ℕ, min, List, [], ◌∷◌, length, map, slice_get, Option, Some, None, option_map, Vec, Global, refl, sym, ap, ◌∙◌, rules, option_map_or, length-map, slice_get-map, Document, items_of, list_of_members, Node, the_lemmas, text_at, node_view, nodes_view, fields_view, part_name, Part, nameless, parts_of}
 use Rattle.smithy_types.specs.Documents as doc
-use Rattle.smithy_types.specs.Documents.{Document, items_of, list_of_members}
-use Rattle.smithy_document.specs.declared.json_tree.Node.{Node, the_lemmas}
 use Rattle.smithy_document.specs.declared.json_tree.Node.TheVariants.{Text, Array, Object}
-use Rattle.smithy_document.specs.JsonTree.{text_at, node_view, nodes_view, fields_view, part_name}
 use Rattle.smithy_document.specs.Sizes.{container_size}
-use Rattle.smithy_document.specs.OpenDocuments.{Part, nameless, parts_of}
 use Rattle.smithy_document.proofs.ValueLemmas.{map_twice}
 
-pub view-Text : (texts : List (List ℕ)) (place : ℕ) → node_view texts (Text place) ≡ doc.string (text_at texts place)
-view-Text texts place = search (rules, the_lemmas)
+pub view-Text : (texts : List (List ℕ)) (position : ℕ) → node_view texts (Text position) ≡ doc.string (text_at texts position)
+view-Text texts position = search (rules, the_lemmas)
 
 pub view-Array : (texts : List (List ℕ)) (v : Vec Node Global) → node_view texts (Array v) ≡ doc.array (nodes_view texts v.items)
 view-Array texts v = search (rules, the_lemmas)
@@ -54,11 +47,11 @@ sized-Object texts n v is =
     ap (λ l. Some (min l 10000)) (counted _ _ _ (object_parts texts (Object v) v refl) ∙ ap (λ d. length (parts_of d)) (view-Object texts v))
     ∙ ap container_size (sym (ap (node_view texts) is ∙ view-Object texts v))
 
--- the document of the part at a place
+-- the document of the part at a position
 pub part_seen : {X : Type 0} (see : X → Part) (xs : List X) (ps : List Part) (i : ℕ) → ps ≡ map see xs → slice_get (map (λ x. (see x).1) xs) i ≡ option_map (λ p. p.1) (slice_get ps i)
 part_seen see xs ps i is = ap (λ ys. slice_get ys i) (sym (map_twice see (λ p. p.1) xs)) ∙ slice_get-map (λ p. p.1) (map see xs) i ∙ ap (λ ys. option_map (λ p. p.1) (slice_get ys i)) (sym is)
 
--- the name of the part at a place
+-- the name of the part at a position
 pub name_seen : {X : Type 0} (see : X → Part) (xs : List X) (d : Document) (i : ℕ) → parts_of d ≡ map see xs → option_map_or (λ p. p.0) (slice_get (map see xs) i) [] ≡ part_name d i
 name_seen see xs d i is = ap (λ ys. option_map_or (λ p. p.0) (slice_get ys i) []) (sym is)
 

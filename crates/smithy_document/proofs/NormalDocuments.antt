@@ -1,26 +1,12 @@
 -- The normal form of a value that follows its node has the value's document.
-use Rattle.std.proofs.Common.{◌≡◌, refl, sym, ap, subst, ◌∙◌, ℕ, Bool, true, false, cond, ◌&&◌, List, [], ◌∷◌, find, filter_map, Option, Some, None, option_map, option_and_then, is_some, ok_or, Ok}
-use Rattle.std.specs.List.{cons_option}
-use Rattle.std.specs.Option.{option_map_or, option_or}
+use Rattle.smithy_document.proofs.Common.{◌≡◌, refl, sym, ap, subst, ◌∙◌, ℕ, Bool, true, false, cond, ◌&&◌, List, [], ◌∷◌, find, filter_map, Option, Some, None, option_map, option_and_then, is_some, ok_or, Ok, cons_option, option_map_or, option_or, and_parts, same_text, are_distinct, then_try, then_give, Document, Members, items_of, put, put_all, members_of, list_of_items, list_of_members, Schema, element_of, key_of, value_of, Label, Scalar, Value, Write, Writes, scalar, list, structure, no_writes, write, list_of, writes_of, label_of, text_of_key, keys_of, no_member_name, document_of, elements_of, entries_of, fields_of, field_name, settled, settled_elements, settled_fields, settled_entries, own_label, entry_writes, is_shaped, are_shaped, are_fields_shaped, are_entries_shaped, fits_at, fields_at, has_distinct_fields, named_member, is_named, is_kind, no_label, last_named, field_of, same_self, Pairs, last_of, all_put, look_ordered, all_ascend, last_ascending, known_by_names, or_none}
 use Rattle.std.specs.Cmp.Lexicographic.{same_text as same_from_test}
-use Rattle.std.proofs.lemmas.Bool.{and_parts}
-use Rattle.smithy_types.specs.Texts.{same_text, are_distinct}
-use Rattle.smithy_types.specs.Results.{then_try, then_give}
 use Rattle.smithy_types.specs.Documents as doc
-use Rattle.smithy_types.specs.Documents.{Document, Members, items_of, put, put_all, members_of, list_of_items, list_of_members}
 use Rattle.smithy_ids.specs.declared.shape_type.ShapeType.TheVariants as kind
-use Rattle.smithy_schema.specs.Nodes.{Schema, element_of, key_of, value_of}
 use Rattle.smithy_serde.specs.Values as value
-use Rattle.smithy_serde.specs.Values.{Label, Scalar, Value, Write, Writes, scalar, list, structure, no_writes, write, list_of, writes_of, label_of, text_of_key, keys_of}
-use Rattle.smithy_serde.specs.DocumentOf.{no_member_name, document_of, elements_of, entries_of, fields_of, field_name}
-use Rattle.smithy_serde.specs.NormalBody.{settled, settled_elements, settled_fields, settled_entries, own_label, entry_writes}
-use Rattle.smithy_serde.specs.Shaped.{is_shaped, are_shaped, are_fields_shaped, are_entries_shaped, fits_at, fields_at, has_distinct_fields, named_member, is_named, is_kind}
-use Rattle.smithy_serde.specs.StoredValues.{no_label}
-use Rattle.smithy_serde.specs.NormalBody.{last_named, field_of}
-use Rattle.smithy_document.proofs.FieldOrder.{Named, last_is}
+use Rattle.smithy_document.proofs.FieldOrder.{Named}
 use Rattle.smithy_document.proofs.NamedPairs.{try_gave, give_gave, entries_ordered, members_ordered, EntriesHave, BehindHave, entries_paired, FieldsHave, fields_paired}
-use Rattle.smithy_document.proofs.OrderedPairs.{Pairs, last_of, all_put, look_ordered, all_ascend, last_ascending, known_by_names, or_none, Beside, Aligned, all_aligned, Related, last_related}
-use Rattle.smithy_document.proofs.PathLemmas.{same_self}
+use Rattle.smithy_document.proofs.OrderedPairs.{Beside, Aligned, all_aligned, Related, last_related}
 
 -- ---- objects by their names
 
@@ -192,7 +178,7 @@ structure_keeps here ws keep d shaped e =
     let a = and_parts (fits_at here (structure ws) && has_distinct_fields here) (are_fields_shaped here ws) shaped in
     let g = give_gave (fields_of ws) (λ ps. doc.object (members_of ps)) d e in
     let paired = fields_paired (HasField nodes) Keeps here (λ name v x t there sh h. (t x sh h, there)) ws g.x keep a.1 g.first in
-    let related = λ (name : List ℕ). subst (λ o. Related (HasField nodes) name o (last_of name g.x)) (sym (last_is name fields)) (last_related (HasField nodes) name fields g.x paired) in
+    let related = λ (name : List ℕ). last_related (HasField nodes) name fields g.x paired in
     let kept = fields_kept nodes fields g.x related nodes in
     ap (λ r. then_give r λ ps. doc.object (members_of ps)) kept.is
     ∙ ap (λ ms. Ok (doc.object ms)) (by_names kept.qs g.x (λ name. kept.last name ∙ all_there nodes name (last_named name fields) (last_of name g.x) (related name))) ∙ g.rest

@@ -1,10 +1,7 @@
 -- The members of ordered data are an object's members as they stand.
-use Rattle.std.proofs.Common.{◌≡◌, ℕ, List, [], ◌∷◌, IsTrue, Option, None, Some, refl, sym, ap, ◌∙◌, subst}
-use Rattle.std.specs.Prelude.{IfSome}
+use Rattle.smithy_document.proofs.Common.{◌≡◌, ℕ, List, [], ◌∷◌, IsTrue, Option, None, Some, refl, sym, ap, ◌∙◌, subst, IfSome, Document, list_of_members, of_data, pairs_of_data}
 use Rattle.serde_json.specs.Data as parsed
 use Rattle.smithy_types.specs.Documents as doc
-use Rattle.smithy_types.specs.Documents.{Document, list_of_members}
-use Rattle.smithy_json.specs.FromData.{of_data, pairs_of_data}
 use Rattle.smithy_json.specs.Ordered.{is_before}
 use Rattle.smithy_json.proofs.OptionLemmas.{joined}
 use Rattle.smithy_json.proofs.OrderedData.{AreMembersOrdered, member_placed}

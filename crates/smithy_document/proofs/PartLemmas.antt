@@ -1,27 +1,17 @@
--- What holds of each part of a document holds of the one at a place.
-use Rattle.std.proofs.Common.{ℕ, suc, zero, ◌<◌, List, [], ◌∷◌, slice_get, ◌&&◌, IsTrue, Option, Some, None, option_map, option_and_then, arith}
-use Rattle.std.specs.Prelude.{IfSome}
-use Rattle.std.specs.List.{AllByRecursion}
-use Rattle.std.specs.Map.{lookup}
-use Rattle.std.proofs.lemmas.Bool.{and_parts}
+-- What holds of each part of a document holds of the one at a position.
+use Rattle.smithy_document.proofs.Common.{ℕ, suc, zero, ◌<◌, List, [], ◌∷◌, slice_get, ◌&&◌, IsTrue, Option, Some, None, option_map, option_and_then, arith, IfSome, AllByRecursion, lookup, and_parts, Document, nesting, items_nesting, members_nesting, list_of_items, list_of_members, is_canonical, are_canonical_items, are_canonical_members, same_text, is_before, is_in_order, are_items_in_order, are_members_in_order, Part, nameless, parts_of, Names, part_in}
 use Rattle.std.proofs.lemmas.List.Elements.{All-from_recursion}
 use Rattle.std.proofs.lemmas.Map.Entries.{All-lookup}
 use Rattle.smithy_types.specs.Documents as doc
-use Rattle.smithy_types.specs.Documents.{Document, nesting, items_nesting, members_nesting, list_of_items, list_of_members, is_canonical, are_canonical_items, are_canonical_members}
-use Rattle.smithy_types.specs.Texts.{same_text}
-use Rattle.smithy_serde.specs.Ranges.{is_before}
-use Rattle.smithy_document.specs.InOrder.{is_in_order, are_items_in_order, are_members_in_order}
-use Rattle.smithy_document.specs.OpenDocuments.{Part, nameless, parts_of}
-use Rattle.smithy_document.specs.Paths.{Names, part_in}
 
 -- it holds of the document of each part
 abbrev pub AllParts : (Document → Type 0) → List Part → Type 0
 AllParts Holds ps = AllByRecursion (λ (p : Part). Holds p.1) ps
 
-pub at_place : (Holds : Document → Type 0) (ps : List Part) (i : ℕ) → AllParts Holds ps → IfSome (option_map (λ (p : Part). p.1) (slice_get ps i)) Holds
-at_place Holds [] i all = tt
-at_place Holds (p ∷ ps) zero all = all.0
-at_place Holds (p ∷ ps) (suc i) all = at_place Holds ps i all.1
+pub at_position : (Holds : Document → Type 0) (ps : List Part) (i : ℕ) → AllParts Holds ps → IfSome (option_map (λ (p : Part). p.1) (slice_get ps i)) Holds
+at_position Holds [] i all = tt
+at_position Holds (p ∷ ps) zero all = all.0
+at_position Holds (p ∷ ps) (suc i) all = at_position Holds ps i all.1
 
 item_at : (Holds : Document → Type 0) (ds : doc.Items) (i : ℕ) → AllParts Holds (nameless ds) → IfSome (slice_get (list_of_items ds) i) Holds
 item_at Holds doc.no_items i all = tt
@@ -78,7 +68,7 @@ items_in_order : (ds : doc.Items) → IsTrue (are_items_in_order ds) → AllPart
 items_in_order doc.no_items h = tt
 items_in_order (doc.item d ds) h = let each = and_parts (is_in_order d) (are_items_in_order ds) h in (each.0, items_in_order ds each.1)
 
--- what a member's place in the order says
+-- what a member's position in the order says
 abbrev IsPlaced : List ℕ → Document → doc.Members → Type 0
 IsPlaced k d ms = IsTrue (is_before k ms) × IsInOrder d × IsTrue (are_members_in_order ms)
 

@@ -1,29 +1,16 @@
--- Paths, a place at a time.
-use Rattle.std.proofs.Common.{◌≡◌, ℕ, suc, zero, ◌+◌, ◌<◌, ◌≤◌, List, [], ◌∷◌, ◌++◌, length, drop, get_or, slice_get, Option, Some, None, true, false, ◌-◌, ◌&&◌, ◌⊎◌, inl, inr, Less, nat_cmp, eq-eqb, refl, sym, ap, ◌∙◌, subst, arith}
-use Rattle.std.specs.Prelude.{IfSome}
-use Rattle.std.specs.Option.{option_map_or, option_and_then, unwrap_or}
-use Rattle.std.specs.Ordering.{ordering_reverse, is_eq}
-use Rattle.std.specs.Cmp.Lexicographic.{slice_cmp}
+-- Paths, a position at a time.
+use Rattle.std.proofs.Common.{Less, nat_cmp}
+use Rattle.smithy_document.proofs.Common.{◌≡◌, ℕ, suc, zero, ◌+◌, ◌<◌, ◌≤◌, List, [], ◌∷◌, ◌++◌, length, drop, get_or, slice_get, Option, Some, None, false, ◌-◌, ◌⊎◌, inl, inr, refl, sym, ap, ◌∙◌, subst, arith, IfSome, option_map_or, unwrap_or, ordering_reverse, is_eq, slice_cmp, AllByRecursion, lookup, nat_list_cmp_total, drop_more, length-append, slice_get_within, get_or_from_slice_get, slice_get_cases, slice_get_past, drop_of_length-le, Document, nesting, list_of_items, list_of_members, object_in, IsOrdered, same_text, same_self, Spot, Part, nameless, parts_of, Names, name_at, part_in, named, rest_in, step_in, at_path}
+use Rattle.std.specs.Option.{option_and_then}
 use Rattle.std.specs.Global.{Vec}
-use Rattle.std.specs.List.{AllByRecursion}
 use Rattle.std.specs.List.Sorted.{IsStrictlySortedBy}
-use Rattle.std.specs.Map.{keys_of, lookup}
-use Rattle.std.proofs.lemmas.Cmp.{nat_list_cmp_total}
-use Rattle.std.proofs.lemmas.List.{drop_more, length-append}
+use Rattle.std.specs.Map.{keys_of}
 use Rattle.std.proofs.lemmas.Map.Text.{is_eq-slice_cmp}
-use Rattle.std.proofs.lemmas.Option.{slice_get_within, get_or_from_slice_get, slice_get_cases, slice_get_past}
-use Rattle.std.proofs.Math.ListN.{drop_of_length-le}
 use Rattle.smithy_types.specs.Documents as doc
-use Rattle.smithy_types.specs.Documents.{Document, nesting, list_of_items, list_of_members, object_in}
-use Rattle.smithy_types.specs.Maps.{IsOrdered}
-use Rattle.smithy_types.specs.Texts.{same_text}
-use Rattle.smithy_document.specs.declared.place.Place.{Place}
-use Rattle.smithy_document.specs.OpenDocuments.{Part, nameless, parts_of}
-use Rattle.smithy_document.specs.Paths.{Names, name_at, part_in, named, rest_in, step_in, at_path}
 use Rattle.smithy_document.proofs.PartLemmas.{IsCanonical, at_name, parts_nested, parts_canonical}
 use Rattle.smithy_document.proofs.WayLemmas.{end_keeps, last_keeps}
 
--- ---- the part at a place
+-- ---- the part at a position
 
 pub count_nameless : (ds : doc.Items) → length (nameless ds) ≡ length (list_of_items ds)
 count_nameless doc.no_items = refl
@@ -42,10 +29,10 @@ drop_none {X} xs i h = go (slice_get_cases xs i).1
 pub part_within : (c : Document) (names : Names) (i : ℕ) (d : Document) → part_in c names i ≡ Some d → nesting d < nesting c
 part_within c names i d h = subst (λ o. IfSome o (λ x. nesting x < nesting c)) h (at_name (λ x. nesting x < nesting c) c names i (parts_nested c))
 
-step_canonical : (d : Document) (p : Place) → IsCanonical d → IsCanonical (step_in d p)
+step_canonical : (d : Document) (p : Spot) → IsCanonical d → IsCanonical (step_in d p)
 step_canonical d p h = last_keeps IsCanonical (part_in d p.names) p.next d h (at_name IsCanonical d p.names (p.next - 1) (parts_canonical d h))
 
-pub path_canonical : (d : Document) (ps : List Place) → IsCanonical d → IsCanonical (at_path d ps)
+pub path_canonical : (d : Document) (ps : List Spot) → IsCanonical d → IsCanonical (at_path d ps)
 path_canonical = end_keeps IsCanonical step_in step_canonical
 
 -- ---- the parts that are left
@@ -93,10 +80,6 @@ named_past p ps [] h = refl
 named_past p ps (name ∷ names) h =
     rw (apart p.0 name h.0) (ap (λ rest. option_map_or (λ d. (name, d) ∷ rest) (lookup (same_text name) ps) []) (named_past p ps names h.1))
 
-pub same_self : (text : List ℕ) → same_text text text ≡ true
-same_self [] = refl
-same_self (b ∷ text) = λ i. eq-eqb b b refl i && same_self text i
-
 pub all_named : (ps : List Part) → IsOrdered ps → named ps (keys_of ps) ≡ ps
 unfolding IsStrictlySortedBy
 all_named [] h = refl
@@ -121,10 +104,10 @@ pub past_names : (d : Document) (names : Vec (List ℕ)) (i : ℕ) → length na
 past_names (doc.object ms) names i h = ap (option_and_then (λ name. lookup (same_text name) (list_of_members ms))) (slice_get_past names.items i h)
 past_names _ names i h = refl
 
--- ---- the last place
+-- ---- the last position
 
-pub last_place : {X : Type 0} (ps : List X) (p : X) → slice_get (ps ++ p ∷ []) (length (ps ++ p ∷ []) - 1) ≡ Some p
-last_place {X} ps p =
+pub last_item : {X : Type 0} (ps : List X) (p : X) → slice_get (ps ++ p ∷ []) (length (ps ++ p ∷ []) - 1) ≡ Some p
+last_item {X} ps p =
     let l : length (ps ++ p ∷ []) ≡ length ps + 1 = length-append ps (p ∷ []) in
     let i : length (ps ++ p ∷ []) - 1 ≡ length ps = omega arith in
     ap (slice_get (ps ++ p ∷ [])) i ∙ at_end ps

@@ -1,20 +1,10 @@
 -- The document of JSON's data is canonical, and has the names of each object in byte order.
-use Rattle.std.proofs.Common.{◌≡◌, ℕ, List, [], ◌∷◌, pos, negsuc, IsTrue, Option, Some, None, option_map, option_and_then, Ordering, Less, Equal, Greater, nat_cmp, refl, ap, ◌∙◌, subst}
-use Rattle.std.specs.Prelude.{IfSome}
-use Rattle.std.specs.Ordering.{match_ordering, ordering_reverse}
-use Rattle.std.specs.Cmp.Lexicographic.{slice_cmp}
-use Rattle.std.specs.List.{AllByRecursion}
-use Rattle.std.proofs.lemmas.Bool.{and_parts, and_from}
-use Rattle.std.proofs.lemmas.Cmp.{nat_list_cmp_total}
+use Rattle.std.proofs.Common.{Ordering, Less, Equal, Greater, nat_cmp}
+use Rattle.smithy_document.proofs.Common.{◌≡◌, ℕ, List, [], ◌∷◌, pos, negsuc, IsTrue, Option, Some, None, option_map, option_and_then, refl, ap, ◌∙◌, subst, IfSome, match_ordering, ordering_reverse, slice_cmp, AllByRecursion, and_parts, and_from, nat_list_cmp_total, Num, Data, Document, Items, Members, put, put_all, is_canonical, are_canonical_items, are_canonical_members, is_before, number_of_data, of_data, items_of_data, pairs_of_data, is_in_order, are_items_in_order, are_members_in_order, is_read}
 use Rattle.serde_json.specs.Data as parsed
-use Rattle.serde_json.specs.Data.{Num, Data}
 use Rattle.smithy_types.specs.Documents as doc
-use Rattle.smithy_types.specs.Documents.{Document, Items, Members, put, put_all, is_canonical, are_canonical_items, are_canonical_members}
-use Rattle.smithy_serde.specs.Ranges.{is_before}
-use Rattle.smithy_json.specs.FromData.{number_of_data, of_data, items_of_data, pairs_of_data}
 use Rattle.smithy_json.specs.FromText.{json_of, document_of_text}
 use Rattle.smithy_json.proofs.OptionLemmas.{mapped, joined}
-use Rattle.smithy_document.specs.InOrder.{is_in_order, are_items_in_order, are_members_in_order, is_read}
 use Rattle.smithy_document.proofs.PartLemmas.{IsCanonical, IsInOrder, member_ordered}
 
 -- canonical and in order

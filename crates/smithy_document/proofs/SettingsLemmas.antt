@@ -1,19 +1,11 @@
 -- What settings that answer as `NoSettings` read.
-use Rattle.std.proofs.Common.{◌≡◌, ℕ, ℤ, List, Some, Result, Ok, Err, inl, inr, subst}
+use Rattle.smithy_document.proofs.Common.{◌≡◌, ℕ, ℤ, List, Some, Result, Ok, Err, inl, inr, subst, Document, or_document_refusal, scalar_of_document, Gives, scalar_of_read, type_of, Scalar, SerdeError, OutOfMemory, ReadScalar, plain_coercions, Coerced, ReadsWith, ReadsPlainly}
 use Rattle.smithy_types.specs.Documents as doc
-use Rattle.smithy_types.specs.Documents.{Document}
 use Rattle.smithy_types.specs.Settings.{plain_blob, plain_number_timestamp, plain_text_timestamp}
 use Rattle.smithy_types.specs.declared.error.DocumentError.{DocumentError}
-use Rattle.smithy_serde.specs.DocumentReads.{or_document_refusal, scalar_of_document}
-use Rattle.smithy_serde.specs.ReadCalls.{Gives, scalar_of_read, type_of}
 use Rattle.smithy_serde.specs.Values as value
-use Rattle.smithy_serde.specs.Values.{Scalar}
-use Rattle.smithy_serde.specs.declared.error.SerdeError.{SerdeError}
-use Rattle.smithy_serde.specs.declared.error.SerdeError.TheVariants.{OutOfMemory}
-use Rattle.smithy_serde.specs.declared.read_scalar.ReadScalar.{ReadScalar}
 use Rattle.smithy_serde.specs.declared.read_scalar.ScalarKind.{ScalarKind}
 use Rattle.smithy_serde.specs.declared.read_scalar.ScalarKind.TheVariants as of
-use Rattle.smithy_document.specs.SettingsReads.{plain_coercions, Coerced, ReadsWith, ReadsPlainly}
 
 by_memory : {A : Type 0} (f : A → Scalar) (expected : Result Scalar SerdeError) (e : SerdeError) → e ≡ OutOfMemory → Gives f (Some expected) (Err e)
 by_memory f (Ok v) e memory = memory

@@ -1,20 +1,8 @@
 -- The document of a value that follows its node is canonical.
-use Rattle.std.proofs.Common.{◌≡◌, refl, sym, ap, subst, ◌∙◌, ℕ, true, ◌&&◌, List, [], ◌∷◌, Option, Some, option_and_then, is_some, Result, Ok, ℤ, pos, negsuc}
-use Rattle.std.specs.Ordering.{nat_cmp, match_ordering}
-use Rattle.std.specs.declared.cmp.Ordering.{Ordering}
-use Rattle.std.specs.declared.cmp.Ordering.TheVariants.{Less, Equal, Greater}
-use Rattle.std.specs.Cmp.Lexicographic.{slice_cmp}
-use Rattle.std.proofs.lemmas.Bool.{and_parts, and_from}
-use Rattle.smithy_types.specs.Texts.{are_distinct}
-use Rattle.smithy_types.specs.Results.{then_give}
+use Rattle.smithy_document.proofs.Common.{◌≡◌, refl, sym, ap, subst, ◌∙◌, ℕ, true, ◌&&◌, List, [], ◌∷◌, Option, Some, option_and_then, is_some, Result, Ok, ℤ, pos, negsuc, nat_cmp, match_ordering, Ordering, Less, Equal, Greater, slice_cmp, and_parts, and_from, are_distinct, then_give, Document, Members, items_of, put, put_all, members_of, number_of, is_canonical_number, is_canonical, are_canonical_items, are_canonical_members, Schema, element_of, key_of, value_of, Scalar, Value, Writes, scalar, list, structure, no_writes, write, keys_of, DocumentFault, document_of, elements_of, entries_of, fields_of, scalar_document, is_shaped, are_shaped, are_fields_shaped, are_entries_shaped, fits_at, has_distinct_fields, is_kind, named_member}
 use Rattle.smithy_types.specs.Documents as doc
-use Rattle.smithy_types.specs.Documents.{Document, Members, items_of, put, put_all, members_of, number_of, is_canonical_number, is_canonical, are_canonical_items, are_canonical_members}
 use Rattle.smithy_ids.specs.declared.shape_type.ShapeType.TheVariants as kind
-use Rattle.smithy_schema.specs.Nodes.{Schema, element_of, key_of, value_of}
 use Rattle.smithy_serde.specs.Values as value
-use Rattle.smithy_serde.specs.Values.{Scalar, Value, Writes, scalar, list, structure, no_writes, write, keys_of}
-use Rattle.smithy_serde.specs.DocumentOf.{DocumentFault, document_of, elements_of, entries_of, fields_of, scalar_document}
-use Rattle.smithy_serde.specs.Shaped.{is_shaped, are_shaped, are_fields_shaped, are_entries_shaped, fits_at, has_distinct_fields, is_kind, named_member}
 use Rattle.smithy_document.proofs.FieldOrder.{Named}
 use Rattle.smithy_document.proofs.NamedPairs.{try_gave, give_gave, EntriesHave, BehindHave, entries_paired, FieldsHave, fields_paired}
 use Rattle.smithy_document.proofs.OrderedPairs.{Pairs, Beside, Aligned}

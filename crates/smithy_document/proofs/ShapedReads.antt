@@ -1,32 +1,13 @@
 -- The document of a value that follows its node, read by the node, gives the value's normal form.
-use Rattle.std.proofs.Common.{◌≡◌, refl, sym, ap, ap₂, subst, ◌∙◌, ℕ, true, ◌&&◌, List, [], ◌∷◌, ◌++◌, map, find, Option, Some, None, option_and_then, is_some, Result, Ok}
-use Rattle.std.specs.Prelude.{flat_map}
-use Rattle.std.specs.List.{AllByRecursion}
-use Rattle.std.specs.Option.{option_map_or}
-use Rattle.std.specs.Result.{result_err}
-use Rattle.std.proofs.lemmas.Bool.{and_parts}
-use Rattle.smithy_types.specs.Texts.{are_distinct}
-use Rattle.smithy_types.specs.Results.{then_try, then_give}
+use Rattle.smithy_document.proofs.Common.{◌≡◌, refl, sym, ap, ap₂, subst, ◌∙◌, ℕ, true, ◌&&◌, List, [], ◌∷◌, ◌++◌, map, find, Option, Some, None, option_and_then, is_some, Result, Ok, flat_map, AllByRecursion, option_map_or, result_err, and_parts, are_distinct, then_try, then_give, Document, Members, items_of, put, put_all, members_of, list_of_items, list_of_members, Schema, element_of, key_of, value_of, shape, Label, Scalar, Value, Write, Writes, scalar, list, structure, no_writes, write, list_of, writes_of, label_of, text_of_key, keys_of, is_in_range, kind_takes, fits, document_of, elements_of, entries_of, fields_of, scalar_document, Held, elements, entries, fields, known, settled, settled_elements, settled_fields, settled_entries, own_label, in_key_order, entry_writes, is_shaped, are_shaped, are_fields_shaped, are_entries_shaped, fits_at, has_distinct_fields, named_member, is_named, is_kind, no_label, all_read, write_by, entry_by, value_read, value_of_structure, list_by, map_by, SerdeError, Stands, Follows, HasDocument, HasCanonicalDocument, NormalFormHasDocument, ReadsNormalForm, ReadsNormalStructure, TellsNormalForm, TellsApartNormalForms}
 use Rattle.smithy_types.specs.Documents as doc
-use Rattle.smithy_types.specs.Documents.{Document, Members, items_of, put, put_all, members_of, list_of_items, list_of_members}
 use Rattle.smithy_ids.specs.declared.shape_type.ShapeType.{ShapeType}
 use Rattle.smithy_ids.specs.declared.shape_type.ShapeType.TheVariants as kind
-use Rattle.smithy_schema.specs.Nodes.{Schema, element_of, key_of, value_of, shape, members_of as nodes_of}
+use Rattle.smithy_schema.specs.Nodes.{members_of as nodes_of}
 use Rattle.smithy_serde.specs.Values as value
-use Rattle.smithy_serde.specs.Values.{Label, Scalar, Value, Write, Writes, scalar, list, structure, no_writes, write, list_of, writes_of, label_of, text_of_key, keys_of}
-use Rattle.smithy_serde.specs.Ranges.{is_in_range}
-use Rattle.smithy_serde.specs.Fits.{kind_takes, fits}
-use Rattle.smithy_serde.specs.DocumentOf.{document_of, elements_of, entries_of, fields_of, scalar_document}
 use Rattle.smithy_serde.specs.Held as held
-use Rattle.smithy_serde.specs.Held.{Held}
-use Rattle.smithy_serde.specs.HeldReads.{elements, entries, fields, known}
 use Rattle.smithy_serde.specs.IndexOrder.{in_order}
-use Rattle.smithy_serde.specs.NormalBody.{settled, settled_elements, settled_fields, settled_entries, own_label, in_key_order, entry_writes}
-use Rattle.smithy_serde.specs.Shaped.{is_shaped, are_shaped, are_fields_shaped, are_entries_shaped, fits_at, has_distinct_fields, named_member, is_named, is_kind}
-use Rattle.smithy_serde.specs.StoredValues.{no_label}
-use Rattle.smithy_serde.specs.ValueRead.{all_read, write_by, entry_by, joined, value_read, value_of_structure, list_by, map_by}
-use Rattle.smithy_serde.specs.declared.error.SerdeError.{SerdeError}
-use Rattle.smithy_document.specs.ReadsBack.{Stands, Follows, HasDocument, HasCanonicalDocument, NormalFormHasDocument, ReadsNormalForm, ReadsNormalStructure, TellsNormalForm, TellsApartNormalForms}
+use Rattle.smithy_serde.specs.ValueRead.{joined}
 use Rattle.smithy_document.proofs.FieldOrder.{Named, field_write, fields_in_order, last_in_order}
 use Rattle.smithy_document.proofs.OrderedPairs.{Pairs, all_put, Beside, Aligned, all_aligned, all_ascend}
 use Rattle.smithy_document.proofs.NamedPairs.{try_gave, give_gave, entries_ordered, members_ordered, EntriesHave, BehindHave, entries_paired, FieldsHave, fields_paired}

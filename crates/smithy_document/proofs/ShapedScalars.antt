@@ -1,33 +1,19 @@
 -- What the document of a scalar gives to a read by a node that takes the scalar.
-use Rattle.std.proofs.Common.{◌≡◌, refl, sym, ap, ◌∙◌, ℕ, zero, suc, ◌^◌, arith, ltb-true, Bool, true, false, not, ◌&&◌, List, [], ◌∷◌, Some, option_map, unwrap_or, Ok, ℤ, pos, negsuc}
-use Rattle.std.specs.Prelude.{int_le, int_lt, neg_ℤ, nat_lt, if◌then◌else◌}
-use Rattle.std.proofs.lemmas.Bool.{and_parts}
+use Rattle.std.proofs.Common.{ltb-true, unwrap_or}
+use Rattle.std.specs.Prelude.{int_le, int_lt, neg_ℤ}
+use Rattle.smithy_document.proofs.Common.{◌≡◌, refl, sym, ap, ◌∙◌, ℕ, zero, suc, ◌^◌, arith, Bool, true, false, not, ◌&&◌, List, [], ◌∷◌, Some, option_map, Ok, ℤ, pos, negsuc, nat_lt, if◌then◌else◌, and_parts, Document, number_of, is_canonical, then_give, Schema, Scalar, Value, Width, byte, short, integer, long, scalar, is_in_range, is_in_width, is_signed_within, are_bytes, kind_takes, written_kind, width_kind, fits, fits_in_range, scalar_document, base64, integer_of_number, whole_of_number, or_document_refusal, Held, is_null_held, read_scalar, settled, is_shaped, value_read, value_by_kind, ReadsWhatFits, RefusesTheRest}
 use Rattle.base64.specs.GeneralPurpose.{decoded_of, IsBytes}
 use Rattle.base64.specs.Engines.{standard}
 use Rattle.base64.proofs.EngineFacts.{decode_of-encode_of}
 use Rattle.smithy_types.specs.Documents as doc
-use Rattle.smithy_types.specs.Documents.{Document, number_of, is_canonical}
-use Rattle.smithy_types.specs.Results.{then_give}
 use Rattle.smithy_types.specs.Settings.{plain_blob, plain_number_timestamp}
 use Rattle.smithy_ids.specs.Kinds.{same_kind}
 use Rattle.smithy_ids.specs.declared.shape_type.ShapeType.{ShapeType}
 use Rattle.smithy_ids.specs.declared.shape_type.ShapeType.TheVariants as kind
 use Rattle.smithy_ids.proofs.KindLemmas.{one_kind}
-use Rattle.smithy_schema.specs.Nodes.{Schema}
 use Rattle.smithy_serde.specs.Values as value
-use Rattle.smithy_serde.specs.Values.{Scalar, Value, Width, byte, short, integer, long, scalar}
-use Rattle.smithy_serde.specs.Ranges.{is_in_range, is_in_width, is_signed_within, are_bytes}
-use Rattle.smithy_serde.specs.Fits.{kind_takes, written_kind, width_kind, fits, fits_in_range}
-use Rattle.smithy_serde.specs.DocumentOf.{scalar_document, base64}
-use Rattle.smithy_serde.specs.DocumentReads.{integer_of_number, whole_of_number, or_document_refusal}
 use Rattle.smithy_serde.specs.Held as held
-use Rattle.smithy_serde.specs.Held.{Held, is_null_held}
-use Rattle.smithy_serde.specs.HeldReads.{read_scalar}
-use Rattle.smithy_serde.specs.NormalBody.{settled}
-use Rattle.smithy_serde.specs.Shaped.{is_shaped}
-use Rattle.smithy_serde.specs.ValueRead.{value_read, value_by_kind}
 use Rattle.smithy_serde.proofs.ReadLevels.{value_once}
-use Rattle.smithy_document.specs.ReadsBack.{ReadsWhatFits, RefusesTheRest}
 
 -- what no structure is is taken by its own kind alone
 takes_own : (k w : ShapeType) → same_kind w kind.Structure ≡ false → kind_takes k w ≡ true → k ≡ w

@@ -1,17 +1,8 @@
 -- Parts whose names are no member's are passed over.
-use Rattle.std.proofs.Common.{◌≡◌, ℕ, ◌<◌, ◌≤◌, List, [], ◌∷◌, ◌++◌, length, Option, Some, None, refl, sym, ap, ◌∙◌, subst, arith}
-use Rattle.std.specs.Prelude.{flat_map, option_and_then}
-use Rattle.std.specs.Option.{option_map_or}
-use Rattle.smithy_types.specs.Documents.{Document, nesting}
-use Rattle.smithy_schema.specs.Nodes.{Schema, member_named, member_at, position_of_name}
+use Rattle.std.specs.Prelude.{option_and_then}
+use Rattle.smithy_document.proofs.Common.{◌≡◌, ℕ, ◌<◌, ◌≤◌, List, [], ◌∷◌, ◌++◌, length, Option, Some, None, refl, sym, ap, ◌∙◌, subst, arith, flat_map, option_map_or, Document, nesting, Schema, member_named, member_at, position_of_name, Held, known, IsMember, Spot, ClosesAt, StepsTo, ClosesBehind, StepsToMember, Part, Opened, step_in, opened_at}
 use Rattle.smithy_serde.specs.Held as held
-use Rattle.smithy_serde.specs.Held.{Held}
-use Rattle.smithy_serde.specs.HeldReads.{known}
-use Rattle.smithy_serde.specs.ReadCalls.{IsMember}
-use Rattle.smithy_document.specs.declared.place.Place.{Place}
-use Rattle.smithy_document.specs.CursorView.{ClosesAt, StepsTo, ClosesBehind, StepsToMember}
-use Rattle.smithy_document.specs.OpenDocuments.{Part, Opened}
-use Rattle.smithy_document.specs.Paths.{step_in, opened_at, opened_along}
+use Rattle.smithy_document.specs.views.Paths.{opened_along}
 
 -- the containers are those from the start but for parts of the innermost that were passed over
 pub record Skims (node : Schema) (start now : List Opened) : Type 0 where
@@ -32,11 +23,11 @@ some_open : (os : List Opened) (o : Opened) → (top : Opened) × (below : List 
 some_open [] o = (o, [], refl)
 some_open (x ∷ os) o = (x, os ++ o ∷ [], refl)
 
-is_some_open : (root : Document) (ps : List Place) → 0 < length ps → (top : Opened) × (below : List Opened) × (opened_along root ps ≡ top ∷ below)
+is_some_open : (root : Document) (ps : List Spot) → 0 < length ps → (top : Opened) × (below : List Opened) × (opened_along root ps ≡ top ∷ below)
 is_some_open root [] h = absurd (omega arith)
 is_some_open root (p ∷ ps) h = some_open (opened_along (step_in root p) ps) (opened_at root p)
 
-pub skims_none : (node : Schema) (root : Document) (ps : List Place) → 0 < length ps → Skims node (opened_along root ps) (opened_along root ps)
+pub skims_none : (node : Schema) (root : Document) (ps : List Spot) → 0 < length ps → Skims node (opened_along root ps) (opened_along root ps)
 skims_none node root ps h =
     let o = is_some_open root ps h in
     record { top = o.0; below = o.1; rest = o.0.rest; was = o.2; now_is = o.2; same = refl; fewer = omega arith }

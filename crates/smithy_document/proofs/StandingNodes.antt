@@ -1,14 +1,9 @@
 -- Nodes that stand in a table, and their members.
-use Rattle.std.proofs.Common.{◌≡◌, refl, sym, ap, ◌∙◌, ℕ, suc, ◌+◌, ◌==◌, arith, Bool, true, false, cond, not, List, [], ◌∷◌, find, filter_map, Option, Some, None, option_map, option_and_then, unwrap_or, is_some, slice_get}
-use Rattle.std.specs.Prelude.{nat_lt, length}
-use Rattle.std.specs.List.{cons_option, position_or_len}
-use Rattle.std.specs.Option.{option_map_or}
-use Rattle.std.proofs.lemmas.Bool.{and_parts, eqb-true, ltb-false}
-use Rattle.std.proofs.lemmas.Option.{slice_get_past}
-use Rattle.smithy_schema.specs.Nodes.{Node, Table, Schema, node_at, at_place, cited, shape, member_at, member_named, has_name, members_of as nodes_of}
+use Rattle.std.proofs.Common.{unwrap_or}
+use Rattle.std.specs.Prelude.{length}
+use Rattle.smithy_document.proofs.Common.{◌≡◌, refl, sym, ap, ◌∙◌, ℕ, suc, ◌+◌, ◌==◌, arith, Bool, true, false, cond, not, List, [], ◌∷◌, find, filter_map, Option, Some, None, option_map, option_and_then, is_some, slice_get, nat_lt, cons_option, position_or_len, option_map_or, and_parts, eqb-true, ltb-false, slice_get_past, Table, Schema, node_at, at_place, cited, shape, member_at, member_named, has_name, is_named, Stands}
+use Rattle.smithy_schema.specs.Nodes.{Node, members_of as nodes_of}
 use Rattle.smithy_schema.specs.Defining.{IsSound, is_member}
-use Rattle.smithy_serde.specs.Shaped.{is_named}
-use Rattle.smithy_document.specs.ReadsBack.{Stands}
 use Rattle.smithy_document.proofs.FieldOrder.{StandFrom}
 
 -- a node stands there

@@ -1,10 +1,8 @@
 -- Texts that stand in one buffer, as another is added to it.
-use Rattle.std.proofs.Common.{◌≡◌, ℕ, zero, suc, ◌<◌, ◌≤◌, ◌-◌, List, [], ◌∷◌, ◌++◌, length, drop, get_or, slice_range, refl, ap₂, ◌∙◌, arith}
+use Rattle.smithy_document.proofs.Common.{◌≡◌, ℕ, zero, suc, ◌<◌, ◌≤◌, ◌-◌, List, [], ◌∷◌, ◌++◌, length, drop, get_or, slice_range, refl, ap₂, ◌∙◌, arith, take_all, take-append-le, drop-append-le, map-append, length-drop, length-append, IsCharBoundary-start, IsCharBoundary-end, IsCharBoundary-at_seam}
 use Rattle.std.specs.Str.{IsUtf8, IsCharBoundary}
-use Rattle.std.proofs.lemmas.List.{take_all, take-append-le, drop-append-le, map-append, length-drop, length-append}
-use Rattle.std.proofs.lemmas.Str.{IsCharBoundary-start, IsCharBoundary-end, IsCharBoundary-at_seam}
 use Rattle.std.proofs.Math.Seq.{drop-append_seam}
-use Rattle.smithy_document.specs.TextCuts.{Cut, pieces, AreCuts}
+use Rattle.smithy_document.specs.views.TextCuts.{Cut, pieces, AreCuts}
 
 boundary_kept : (bs xs : List ℕ) (i : ℕ) → IsUtf8 xs → IsCharBoundary bs i → IsCharBoundary (bs ++ xs) i
 boundary_kept [] xs zero utf8 h = IsCharBoundary-start xs utf8

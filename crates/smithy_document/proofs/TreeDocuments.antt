@@ -1,14 +1,7 @@
 -- Trees of JSON made into documents, and trees whose texts grow.
-use Rattle.std.proofs.Common.{◌≡◌, ℕ, zero, suc, ◌+◌, ◌<◌, ◌≤◌, List, [], ◌∷◌, ◌++◌, length, get_or, take, drop, map, IsTrue, refl, sym, ap, ap₂, ◌∙◌, append_assoc, arith}
-use Rattle.std.proofs.lemmas.Bool.{and_parts}
-use Rattle.std.proofs.lemmas.List.{drop_more, take_more, map-append, append-nil}
-use Rattle.std.proofs.Math.ListN.{drop_of_length-le}
+use Rattle.smithy_document.proofs.Common.{◌≡◌, ℕ, zero, suc, ◌+◌, ◌<◌, ◌≤◌, List, [], ◌∷◌, ◌++◌, length, get_or, take, drop, map, IsTrue, refl, sym, ap, ap₂, ◌∙◌, append_assoc, arith, and_parts, drop_more, take_more, map-append, append-nil, drop_of_length-le, Document, Members, nesting, items_nesting, members_nesting, items_of, items_snoc, put, put_all, list_of_members, Node, is_in_order, are_items_in_order, are_members_in_order, text_at, node_view, fields_view, Grows, StaysIn}
 use Rattle.smithy_types.specs.Documents as doc
-use Rattle.smithy_types.specs.Documents.{Document, Members, nesting, items_nesting, members_nesting, items_of, items_snoc, put, put_all, list_of_members}
 use Rattle.smithy_types.proofs.Views.{items_of-snoc}
-use Rattle.smithy_document.specs.declared.json_tree.Node.{Node}
-use Rattle.smithy_document.specs.InOrder.{is_in_order, are_items_in_order, are_members_in_order}
-use Rattle.smithy_document.specs.JsonTree.{text_at, node_view, fields_view, Grows, StaysIn}
 use Rattle.smithy_document.proofs.FromData.{Ascend, all_put}
 use Rattle.smithy_document.proofs.PartLemmas.{member_ordered}
 use Rattle.smithy_document.proofs.SoundDocuments.{before_sound}
@@ -16,7 +9,7 @@ use Rattle.smithy_document.proofs.ValueLemmas.{Pair, members_from}
 
 -- ---- documents of nodes
 
--- an item at a place
+-- an item at a position
 pub nested_item : {X : Type 0} (f : X → Document) (xs : List X) (i : ℕ) (x : X) → i < length xs → x ≡ get_or xs i x → nesting (f x) ≤ items_nesting (items_of (map f xs))
 nested_item f [] i x within is = absurd (omega (arith, within))
 nested_item f (y ∷ xs) zero x within is = let same : nesting (f x) ≡ nesting (f y) = ap (λ y. nesting (f y)) is in omega (arith, same)
@@ -33,7 +26,7 @@ seen_more f xs i x within is = sym (map-append f (take i xs) (x ∷ [])) ∙ ap 
 pub one_more : {X : Type 0} (f : X → Document) (xs : List X) (i : ℕ) (x : X) → i < length xs → x ≡ get_or xs i x → items_snoc (items_of (map f (take i xs))) (f x) ≡ items_of (map f (take (i + 1) xs))
 one_more f xs i x within is = sym (items_of-snoc (map f (take i xs)) (f x)) ∙ ap items_of (seen_more f xs i x within is)
 
--- a field at a place
+-- a field at a position
 abbrev Field : Type 0
 Field = ℕ × Node
 
@@ -92,11 +85,11 @@ one_stays see old new xs x ys y h g one = λ more. map-append (see (new ++ more)
 abbrev pub field_view : Texts → Field → Pair
 field_view texts f = (text_at texts f.0, node_view texts f.1)
 
-pub field_stays : (old mid new : Texts) (k : List ℕ) (place : ℕ) (n : Node) (d : Document) → mid ≡ old ++ k ∷ [] → place ≡ length old → Grows mid new → StaysIn (λ ts. node_view ts n) new d
-    → StaysIn (λ ts. field_view ts (place, n)) new (k, d)
-field_stays old mid new k place n d is at g h =
-    let pushed : StaysIn (λ ts. text_at ts place) mid k = λ more. rw (is, at) (text_pushed old more k) in
-    λ more. ap₂ (λ l e. (l, e)) (stays (λ ts. text_at ts place) mid new k pushed g more) (h more)
+pub field_stays : (old mid new : Texts) (k : List ℕ) (position : ℕ) (n : Node) (d : Document) → mid ≡ old ++ k ∷ [] → position ≡ length old → Grows mid new → StaysIn (λ ts. node_view ts n) new d
+    → StaysIn (λ ts. field_view ts (position, n)) new (k, d)
+field_stays old mid new k position n d is at g h =
+    let pushed : StaysIn (λ ts. text_at ts position) mid k = λ more. rw (is, at) (text_pushed old more k) in
+    λ more. ap₂ (λ l e. (l, e)) (stays (λ ts. text_at ts position) mid new k pushed g more) (h more)
 
 pub fields_from : (texts : Texts) (fs : List Field) → fields_view texts fs ≡ members_from (map (field_view texts) fs)
 fields_from texts [] = refl

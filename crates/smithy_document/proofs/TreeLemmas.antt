@@ -1,54 +1,40 @@
--- Paths into a tree of JSON, a place at a time.
-use Rattle.std.proofs.Common.{◌≡◌, ℕ, ◌+◌, ◌-◌, ◌<◌, ◌≤◌, List, [], ◌∷◌, ◌++◌, length, drop, get_or, slice_get, IsTrue, Option, Some, None, option_map, refl, sym, ap, ◌∙◌, subst, arith, ◌⊎◌, inl, inr}
-use Rattle.std.specs.Prelude.{flat_map, IfSome}
-use Rattle.std.specs.Option.{option_map_or, unwrap_or}
-use Rattle.std.proofs.lemmas.Bool.{and_parts, and_from}
-use Rattle.std.proofs.lemmas.List.{length-drop}
+-- Paths into a tree of JSON, a position at a time.
+use Rattle.smithy_document.proofs.Common.{◌≡◌, ℕ, ◌+◌, ◌-◌, ◌<◌, ◌≤◌, List, [], ◌∷◌, ◌++◌, length, drop, get_or, slice_get, IsTrue, Option, Some, None, option_map, refl, sym, ap, ◌∙◌, subst, arith, ◌⊎◌, inl, inr, flat_map, IfSome, option_map_or, unwrap_or, and_parts, and_from, length-drop, slice_get_cases, drop_of_length-le, Document, nesting, is_canonical, Schema, member_named, known, TreeSpot, ClosesAt, StepsTo, ClosesBehind, StepsToMember, is_in_order, is_read, part_at, part_name, Part, parts_of, part_behind, path_end, opened_along}
 use Rattle.std.proofs.lemmas.List.Sums.{fold_push}
-use Rattle.std.proofs.lemmas.Option.{slice_get_cases}
-use Rattle.std.proofs.Math.ListN.{drop_of_length-le}
-use Rattle.smithy_types.specs.Documents.{Document, nesting, is_canonical}
-use Rattle.smithy_schema.specs.Nodes.{Schema, member_named}
 use Rattle.smithy_serde.specs.Held as held
-use Rattle.smithy_serde.specs.HeldReads.{known}
-use Rattle.smithy_document.specs.declared.json_tree_cursor.TreePlace.{TreePlace}
-use Rattle.smithy_document.specs.CursorView.{ClosesAt, StepsTo, ClosesBehind, StepsToMember}
-use Rattle.smithy_document.specs.InOrder.{is_in_order, is_read}
-use Rattle.smithy_document.specs.JsonTree.{part_at, part_name}
-use Rattle.smithy_document.specs.KnownParts.{IsNextKnown}
-use Rattle.smithy_document.specs.OpenDocuments.{Part, parts_of}
-use Rattle.smithy_document.specs.TreePaths.{part_behind, path_end, opened_at, opened_along}
-use Rattle.smithy_document.proofs.PartLemmas.{AllParts, IsCanonical, IsInOrder, at_place, parts_nested, parts_canonical, parts_in_order}
+use Rattle.smithy_document.specs.views.KnownParts.{IsNextKnown}
+use Rattle.smithy_document.specs.views.TreePaths.{opened_at}
+use Rattle.smithy_document.proofs.PartLemmas.{AllParts, IsCanonical, IsInOrder, at_position, parts_nested, parts_canonical, parts_in_order}
 use Rattle.smithy_document.proofs.PathLemmas.{drop_first}
 use Rattle.smithy_document.proofs.SkimLemmas.{is_named}
 use Rattle.smithy_document.proofs.WayLemmas.{opened_last, end_keeps, last_is, last_keeps}
 
 part_within : (c : Document) (i : ℕ) (p : Part) → slice_get (parts_of c) i ≡ Some p → nesting p.1 < nesting c
-part_within c i p h = subst (λ o. IfSome (option_map (λ (x : Part). x.1) o) (λ x. nesting x < nesting c)) h (at_place (λ x. nesting x < nesting c) (parts_of c) i (parts_nested c))
+part_within c i p h = subst (λ o. IfSome (option_map (λ (x : Part). x.1) o) (λ x. nesting x < nesting c)) h (at_position (λ x. nesting x < nesting c) (parts_of c) i (parts_nested c))
 
 -- what holds of each part of what it holds of holds of the end of a path
-path_keeps : (Holds : Document → Type 0) → ((d : Document) → Holds d → AllParts Holds (parts_of d)) → (d : Document) (ps : List TreePlace) → Holds d → Holds (path_end d ps)
+path_keeps : (Holds : Document → Type 0) → ((d : Document) → Holds d → AllParts Holds (parts_of d)) → (d : Document) (ps : List TreeSpot) → Holds d → Holds (path_end d ps)
 path_keeps Holds parts =
-    end_keeps Holds part_behind (λ d p h. last_keeps Holds (part_at d) p.next d h (at_place Holds (parts_of d) (p.next - 1) (parts d h)))
+    end_keeps Holds part_behind (λ d p h. last_keeps Holds (part_at d) p.next d h (at_position Holds (parts_of d) (p.next - 1) (parts d h)))
 
 -- what was read is canonical and in order, and so is what stands in it
-pub path_read : (d : Document) (ps : List TreePlace) → IsTrue (is_read d) → IsTrue (is_read (path_end d ps))
+pub path_read : (d : Document) (ps : List TreeSpot) → IsTrue (is_read d) → IsTrue (is_read (path_end d ps))
 path_read d ps h =
     let halves = and_parts (is_canonical d) (is_in_order d) h in
     and_from _ _ (path_keeps IsCanonical parts_canonical d ps halves.0) (path_keeps IsInOrder parts_in_order d ps halves.1)
 
 -- ---- a part comes to hand
 
-pub handed : (d : Document) (p : TreePlace) (part : Document) → 0 < p.next → part_at d (p.next - 1) ≡ Some part → part ≡ part_behind d p
+pub handed : (d : Document) (p : TreeSpot) (part : Document) → 0 < p.next → part_at d (p.next - 1) ≡ Some part → part ≡ part_behind d p
 handed d p part some h = sym (last_is (part_at d) p.next d some ∙ ap (λ o. unwrap_or o d) h)
 
-pub none_handed : (d : Document) (p : TreePlace) → 0 < p.next → part_at d (p.next - 1) ≡ None → d ≡ part_behind d p
+pub none_handed : (d : Document) (p : TreeSpot) → 0 < p.next → part_at d (p.next - 1) ≡ None → d ≡ part_behind d p
 none_handed d p some h = sym (last_is (part_at d) p.next d some ∙ ap (λ o. unwrap_or o d) h)
 
-behind : (d : Document) (p : TreePlace) (part : Part) → 0 < p.next → slice_get (parts_of d) (p.next - 1) ≡ Some part → part_behind d p ≡ part.1
+behind : (d : Document) (p : TreeSpot) (part : Part) → 0 < p.next → slice_get (parts_of d) (p.next - 1) ≡ Some part → part_behind d p ≡ part.1
 behind d p part some h = sym (handed d p part.1 some (ap (option_map (λ x. x.1)) h))
 
-pub steps : (root : Document) (ps : List TreePlace) (p q : TreePlace) (part : Part) → q.form ≡ p.form → q.next ≡ p.next + 1 → slice_get (parts_of (path_end root ps)) p.next ≡ Some part
+pub steps : (root : Document) (ps : List TreeSpot) (p q : TreeSpot) (part : Part) → q.form ≡ p.form → q.next ≡ p.next + 1 → slice_get (parts_of (path_end root ps)) p.next ≡ Some part
     → StepsTo part.0 (opened_along root (ps ++ p ∷ [])) (path_end root (ps ++ q ∷ [])) (opened_along root (ps ++ q ∷ []))
 steps root ps p q part form next h =
     let d = path_end root ps in
@@ -64,10 +50,10 @@ steps root ps p q part form next h =
       within = subst (λ x. nesting x < nesting d) (sym comes) (part_within d p.next part h);
     }
 
-pub closes : (root : Document) (ps : List TreePlace) (p : TreePlace) → length (parts_of (path_end root ps)) ≤ p.next → ClosesAt (opened_along root (ps ++ p ∷ [])) (path_end root ps) (opened_along root ps)
+pub closes : (root : Document) (ps : List TreeSpot) (p : TreeSpot) → length (parts_of (path_end root ps)) ≤ p.next → ClosesAt (opened_along root (ps ++ p ∷ [])) (path_end root ps) (opened_along root ps)
 closes root ps p h = record { top = opened_at (path_end root ps) p; was = opened_last part_behind opened_at root ps p; none_left = drop_of_length-le (parts_of (path_end root ps)) h; again = refl }
 
-pub steps_to_member : (root : Document) (ps : List TreePlace) (p q : TreePlace) (node m : Schema) → q.form ≡ p.form → IsNextKnown node m (parts_of (path_end root ps)) p.next q.next
+pub steps_to_member : (root : Document) (ps : List TreeSpot) (p q : TreeSpot) (node m : Schema) → q.form ≡ p.form → IsNextKnown node m (parts_of (path_end root ps)) p.next q.next
     → StepsToMember node m (opened_along root (ps ++ p ∷ [])) (path_end root (ps ++ q ∷ [])) (opened_along root (ps ++ q ∷ []))
 steps_to_member root ps p q node m form h =
     let d = path_end root ps in
@@ -85,7 +71,7 @@ steps_to_member root ps p q node m form h =
       is_member = h.is_member;
     }
 
-pub closes_behind : (root : Document) (ps : List TreePlace) (p : TreePlace) (node : Schema) → flat_map (known node) (drop p.next (parts_of (path_end root ps))) ≡ []
+pub closes_behind : (root : Document) (ps : List TreeSpot) (p : TreeSpot) (node : Schema) → flat_map (known node) (drop p.next (parts_of (path_end root ps))) ≡ []
     → ClosesBehind node (opened_along root (ps ++ p ∷ [])) (path_end root ps) (opened_along root ps)
 closes_behind root ps p node h = record { top = opened_at (path_end root ps) p; was = opened_last part_behind opened_at root ps p; none_left = h; again = refl }
 

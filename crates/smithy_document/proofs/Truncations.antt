@@ -1,21 +1,11 @@
 -- The integer part of a decimal, by its digits and by its coefficient.
-use Rattle.std.proofs.Common.{◌≡◌, refl, sym, ap, ◌∙◌, subst, ℕ, zero, suc, ◌+◌, ◌-◌, ◌*◌, ◌/◌, ◌^◌, ◌<◌, ◌≤◌, ◌==◌, min, Bool, true, false, ◌&&◌, ⊎_elim, if◌then◌else◌, List, [], ◌∷◌, ◌++◌, length, take, replicate, Option, Some, None, ℤ, pos, negsuc, neg_ℤ, ◌+ℤ◌, ◌-ℤ◌, int_le, unsigned_abs, nat_le, nat_lt, nat_eq, codes, IsTrue, arith}
-use Rattle.std.specs.List.{list_all, starts_with, before_first, after_first}
+use Rattle.std.proofs.Common.{if◌then◌else◌, nat_lt}
+use Rattle.smithy_document.proofs.Common.{◌≡◌, refl, sym, ap, ◌∙◌, subst, ℕ, zero, suc, ◌+◌, ◌-◌, ◌*◌, ◌/◌, ◌^◌, ◌<◌, ◌≤◌, ◌==◌, min, Bool, true, false, ◌&&◌, ⊎_elim, List, [], ◌∷◌, ◌++◌, length, take, replicate, Option, Some, None, ℤ, pos, negsuc, neg_ℤ, ◌+ℤ◌, ◌-ℤ◌, int_le, unsigned_abs, nat_le, nat_eq, codes, IsTrue, arith, list_all, starts_with, before_first, after_first, AllDigits, digits_value, digits_value_after, and_parts, cases_lt, cases_Bool, le-leb, lt-leb, leb-true, ltb-true, ne_eqb, ints, append-nil, take_all, length-append, is_digit, is_mantissa, is_exponent, mantissa_of, exponent_of, is_big_decimal, coefficient, has_narrow_coefficient, is_big_decimal_in_range, coefficient_in-parts, value_grows, then_try, then_give, exponent_value, first_digits, whole_size, whole_text, is_negative, truncated, without_zeros, big_integer, SerdeError, near, fraction_len, scaled, whole_part, too_large}
 use Rattle.std.specs.Option.{ok_or}
-use Rattle.std.specs.Str.Parse.{AllDigits, digits_value, digits_value_after}
 use Rattle.std.proofs.Math.Nat.{zero-mul, div-eq_of_lt, pow-le-pow_right, mul-le-mul_right, le-mul_of_pos_right, mul_comm}
-use Rattle.std.proofs.lemmas.Bool.{and_parts, cases_lt, cases_Bool, le-leb, lt-leb, le-ltb, leb-true, ltb-true, ne_eqb}
-use Rattle.std.proofs.lemmas.Int.{ints}
+use Rattle.std.proofs.lemmas.Bool.{le-ltb}
 use Rattle.std.proofs.lemmas.Int.Digits.{digits_value-lt}
-use Rattle.std.proofs.lemmas.List.{append-nil, take_all, length-append}
 use Rattle.std.proofs.lemmas.Nat.{pow-add}
-use Rattle.smithy_types.specs.BigNumbers.{is_digit, is_mantissa, is_exponent, mantissa_of, exponent_of, is_big_decimal, coefficient, has_narrow_coefficient, is_big_decimal_in_range}
-use Rattle.smithy_types.proofs.Coefficients.{coefficient_in-parts, value_grows}
-use Rattle.smithy_types.specs.Results.{then_try, then_give}
-use Rattle.smithy_serde.specs.DocumentReads.{exponent_value, first_digits, whole_size, whole_text, is_negative, truncated, without_zeros}
-use Rattle.smithy_serde.specs.Values.{big_integer}
-use Rattle.smithy_serde.specs.declared.error.SerdeError.{SerdeError}
-use Rattle.smithy_document.specs.Scaling.{near, fraction_len, scaled, whole_part, too_large}
 use Rattle.smithy_document.proofs.DigitLemmas.{all_digits, all_joined, cut, extended, same_number, shorter, all_without, LeadsNonzero, leads, large}
 
 pub none_over : (b : Bool) (m : ℕ) → 2 ^ 127 < m → whole_text b m ≡ None

@@ -1,9 +1,7 @@
--- Ways into what has parts: one more place, and what holds of the root and so of the end.
-use Rattle.std.proofs.Common.{◌≡◌, ℕ, ◌-◌, ◌<◌, ◌==◌, List, [], ◌∷◌, ◌++◌, Bool, true, false, Option, Some, None, refl, ap, arith, ne_eqb}
-use Rattle.std.specs.Prelude.{if◌then◌else◌, IfSome}
-use Rattle.std.specs.List.{fold}
-use Rattle.std.specs.Option.{unwrap_or}
-use Rattle.smithy_document.specs.Ways.{last_handed, opened_on}
+-- Ways into what has parts: one more position, and what holds of the root and so of the end.
+use Rattle.std.proofs.Common.{ne_eqb}
+use Rattle.smithy_document.proofs.Common.{◌≡◌, ℕ, ◌-◌, ◌<◌, ◌==◌, List, [], ◌∷◌, ◌++◌, Bool, true, false, Option, Some, None, refl, ap, arith, if◌then◌else◌, IfSome, fold, unwrap_or}
+use Rattle.smithy_document.specs.views.Ways.{last_handed, opened_on}
 
 pub opened_last : {D P O : Type 0} (step : D → P → D) (opens : D → P → O) (d : D) (ps : List P) (p : P) → opened_on step opens d (ps ++ p ∷ []) ≡ opens (fold step d ps) p ∷ opened_on step opens d ps
 opened_last step opens d [] p = refl

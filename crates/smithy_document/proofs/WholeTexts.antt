@@ -1,17 +1,8 @@
 -- The decimal texts of whole numbers are big numbers.
-use Rattle.std.proofs.Common.{◌≡◌, refl, ap, ◌∙◌, ℕ, ◌+◌, ◌<◌, ◌≤◌, ◌^◌, ◌==◌, ◌≢◌, suc, nat_eq, codes, Bool, true, false, List, [], ◌∷◌, length, ℤ, pos, negsuc, arith, FitsSigned, to_z, of_z}
-use Rattle.std.specs.Char.{digit_value}
-use Rattle.std.specs.Fmt.{decimal, signed_decimal}
-use Rattle.std.specs.Int.{IsInRange, w128}
-use Rattle.std.specs.List.{list_all, starts_with, position_or_len}
-use Rattle.std.specs.Str.Parse.{AllDigits, digits_value}
-use Rattle.std.proofs.lemmas.Bool.{and_parts, and_from, le-leb, lt-ltb, ne_eqb}
-use Rattle.std.proofs.lemmas.Fmt.{decimal_is_IsNumeral_wide}
-use Rattle.std.proofs.lemmas.Int.{to_z-of_z}
-use Rattle.std.proofs.lemmas.List.{append-nil, take_all, drop_all}
+use Rattle.smithy_document.proofs.Common.{◌≡◌, refl, ap, ◌∙◌, ℕ, ◌+◌, ◌<◌, ◌≤◌, ◌^◌, ◌==◌, ◌≢◌, suc, nat_eq, codes, Bool, true, false, List, [], ◌∷◌, length, ℤ, pos, negsuc, arith, FitsSigned, to_z, of_z, digit_value, signed_decimal, IsInRange, w128, list_all, starts_with, position_or_len, AllDigits, digits_value, and_parts, and_from, le-leb, ne_eqb, decimal_is_IsNumeral_wide, to_z-of_z, append-nil, take_all, drop_all, is_digit-in_range, signed_digits-mantissa, is_mantissa, is_exponent, mantissa_of, exponent_of, is_digit, is_sign, is_exponent_mark, unsigned, are_digits, is_signed_digits, is_big_decimal, coefficient, has_narrow_coefficient, is_big_integer_in_range, is_big_decimal_in_range}
+use Rattle.std.specs.Fmt.{decimal}
+use Rattle.std.proofs.lemmas.Bool.{lt-ltb}
 use Rattle.std.proofs.lemmas.Str.Parse.{digit_from_value}
-use Rattle.smithy_types.proofs.Coefficients.{is_digit-in_range, signed_digits-mantissa}
-use Rattle.smithy_types.specs.BigNumbers.{is_mantissa, is_exponent, mantissa_of, exponent_of, is_digit, is_sign, is_exponent_mark, unsigned, are_digits, is_signed_digits, is_big_decimal, coefficient, has_narrow_coefficient, is_big_integer_in_range, is_big_decimal_in_range}
 
 not_equal : (b other : ℕ) → is_digit b ≡ true → (IsInRange 48 57 b → b ≢ other) → (b == other) ≡ false
 not_equal b other e apart = ne_eqb b other (apart (is_digit-in_range b e))

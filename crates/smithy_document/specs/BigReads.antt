@@ -1,7 +1,6 @@
 -- Texts that are no big numbers.
 use Rattle.std.specs.Prelude.{ℕ, codes, List, ◌++◌}
-use Rattle.smithy_serde.specs.declared.error.SerdeError.{SerdeError}
-use Rattle.smithy_serde.specs.declared.error.SerdeError.TheVariants.{InvalidInput}
+use Rattle.smithy_document.specs.Words.{SerdeError, InvalidInput}
 
 -- with what stands behind the text in the message
 abbrev pub not_parsed : List ℕ → List ℕ → SerdeError

@@ -1,10 +1,7 @@
 -- Documents whose objects have their names in byte order.
-use Rattle.std.specs.Prelude.{Bool, true, ◌&&◌, Option, Some, None}
+use Rattle.std.specs.Prelude.{Bool, true, ◌&&◌}
+use Rattle.smithy_document.specs.Words.{Document, Items, Members, is_canonical, is_before}
 use Rattle.smithy_types.specs.Documents as doc
-use Rattle.smithy_types.specs.Documents.{Document, Items, Members, is_canonical}
-use Rattle.smithy_serde.specs.Ranges.{is_before}
-use Rattle.smithy_document.specs.declared.json_tree.JsonTree.{JsonTree}
-use Rattle.smithy_document.specs.JsonTree.{tree_view}
 
 -- in each object each name stands before the next
 abbrev mutual
@@ -27,7 +24,3 @@ abbrev mutual
 -- a document that a text is read as: canonical, and in order
 abbrev pub is_read : Document → Bool
 is_read d = is_canonical d && is_in_order d
-
-abbrev pub is_tree_read : Option JsonTree → Bool
-is_tree_read None = true
-is_tree_read (Some t) = is_read (tree_view t)

@@ -1,11 +1,8 @@
 -- What a reader of JSON has at hand.
 use Rattle.std.specs.Prelude.{ℕ, codes, List, Option, Some, None}
-use Rattle.smithy_types.specs.Documents.{Document}
+use Rattle.smithy_document.specs.Words.{Document, Held, SerdeError, InvalidInput}
 use Rattle.smithy_json.specs.FromText.{document_of_text}
 use Rattle.smithy_serde.specs.Held as held
-use Rattle.smithy_serde.specs.Held.{Held}
-use Rattle.smithy_serde.specs.declared.error.SerdeError.{SerdeError}
-use Rattle.smithy_serde.specs.declared.error.SerdeError.TheVariants.{InvalidInput}
 
 -- the refusal at each read of what is no such text
 abbrev pub not_json : SerdeError

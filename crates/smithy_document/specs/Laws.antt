@@ -1,16 +1,9 @@
 -- What a document serializer refuses, and what it does not.
 use Rattle.std.specs.Prelude.{◌≡◌, Option, Some, None, option_map}
-use Rattle.smithy_serde.specs.declared.scalar.Group.{Group}
-use Rattle.smithy_serde.specs.declared.error.SerdeError.{SerdeError}
-use Rattle.smithy_serde.specs.declared.error.SerdeError.TheVariants.{Custom}
-use Rattle.smithy_serde.specs.Values.{Label, Scalar, Value, Writes, scalar}
-use Rattle.smithy_serde.specs.DocumentOf.{document_fault, document_fault_text}
-use Rattle.smithy_serde.specs.Told.{State, empty_state, written, all_written, begun, grouped}
-use Rattle.smithy_serde.specs.Steps.{Step, adds, opens, closes}
-use Rattle.smithy_serde.specs.Writing.{Seen}
+use Rattle.smithy_document.specs.Words.{Group, SerdeError, Custom, Label, Scalar, Value, Writes, scalar, document_fault, document_fault_text, State, empty_state, written, all_written, begun, grouped, Step, adds, opens, closes, Seen}
 use Rattle.smithy_document.specs.declared.serializer.DocumentShapeSerializer.{DocumentShapeSerializer}
 use Rattle.smithy_document.specs.Building.{second_value_text, state_refusal}
-use Rattle.smithy_document.specs.Standing.{StandsFor, kept_refusal, IsNextRefusal, step_refusal}
+use Rattle.smithy_document.specs.views.Standing.{StandsFor, kept_refusal, IsNextRefusal, step_refusal}
 
 -- one value at the top is refused for the first rule of documents that it breaks, and for nothing else
 abbrev pub OneIsRefusedByRule : Type 0

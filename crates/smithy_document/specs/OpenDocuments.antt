@@ -1,18 +1,11 @@
 -- A reader of documents, with the containers that are open.
 use Rattle.std.specs.Prelude.{ℕ, Bool, true, false, List, [], ◌∷◌, map, flat_map, length, Option, Some, None, option_map, Ok, Err}
+use Rattle.smithy_document.specs.Words.{Document, Items, nesting, list_of_members, ShapeType, Schema, Group, Held, known, Frame, AtHand, only_if}
 use Rattle.smithy_types.specs.Documents as doc
-use Rattle.smithy_types.specs.Documents.{Document, Items, nesting, list_of_members}
-use Rattle.smithy_ids.specs.declared.shape_type.ShapeType.{ShapeType}
 use Rattle.smithy_ids.specs.declared.shape_type.ShapeType.TheVariants as kind
-use Rattle.smithy_schema.specs.Nodes.{Schema}
-use Rattle.smithy_serde.specs.declared.scalar.Group.{Group}
 use Rattle.smithy_serde.specs.declared.scalar.Group.TheVariants as group
 use Rattle.smithy_serde.specs.Held as held
-use Rattle.smithy_serde.specs.Held.{Held}
-use Rattle.smithy_serde.specs.HeldReads.{known}
 use Rattle.smithy_serde.specs.Listings.{Listing, at_member, at_element, at_key, listing_of, contents_at, told_at}
-use Rattle.smithy_serde.specs.ReadCalls.{Frame, AtHand}
-use Rattle.smithy_serde.specs.Writes.{only_if}
 
 -- an item of an array or an object, with its name; an item of an array has the empty one
 abbrev pub Part : Type 0

@@ -1,21 +1,13 @@
 -- What reading a document by the node of the value that it was made of gives (Smithy, data model).
 use Rattle.std.specs.Prelude.{◌≡◌, ◌↔◌, true, false, Ok, Err, Some, None}
+use Rattle.smithy_document.specs.Words.{Document, Number, is_canonical, Schema, shape, Width, Value, Writes, whole, structure, document_of, document_fault, integer_of_number, number_text, read_scalar, is_in_width, document_word, NumericCoercionOverflow}
 use Rattle.smithy_types.specs.Documents as doc
-use Rattle.smithy_types.specs.Documents.{Document, Number, is_canonical}
-use Rattle.smithy_schema.specs.Nodes.{Schema, shape}
 use Rattle.smithy_schema.specs.Defining.{IsSound, HasMembersInPlace}
-use Rattle.smithy_serde.specs.Values.{Width, Value, Writes, whole, structure}
-use Rattle.smithy_serde.specs.DocumentOf.{document_of, document_fault}
-use Rattle.smithy_serde.specs.DocumentReads.{integer_of_number, number_text}
 use Rattle.smithy_serde.specs.Fits.{width_kind}
 use Rattle.smithy_serde.specs.Held as held
-use Rattle.smithy_serde.specs.HeldReads.{read_scalar}
 use Rattle.smithy_serde.specs.NormalBody.{settled}
-use Rattle.smithy_serde.specs.Ranges.{is_in_width}
-use Rattle.smithy_serde.specs.Requests.{document_word}
 use Rattle.smithy_serde.specs.Shaped.{is_shaped}
 use Rattle.smithy_serde.specs.ValueRead.{value_read, value_of_structure}
-use Rattle.smithy_serde.specs.declared.error.SerdeError.TheVariants.{NumericCoercionOverflow}
 
 -- The schema stands in a table: each position of its members, and of those of each node of its table, has a member with that index and a name.
 pub record Stands (n : Schema) : Type 0 where

@@ -1,10 +1,6 @@
 -- A decimal as a whole number times a power of ten.
 use Rattle.std.specs.Prelude.{ℕ, suc, ℤ, pos, negsuc, neg_ℤ, ◌-ℤ◌, ◌*◌, ◌/◌, ◌^◌, min, ◌==◌, codes, List, ◌++◌, length}
-use Rattle.std.specs.List.{after_first}
-use Rattle.smithy_types.specs.BigNumbers.{mantissa_of, exponent_of, coefficient}
-use Rattle.smithy_serde.specs.DocumentReads.{exponent_value}
-use Rattle.smithy_serde.specs.declared.error.SerdeError.{SerdeError}
-use Rattle.smithy_serde.specs.declared.error.SerdeError.TheVariants.{Custom}
+use Rattle.smithy_document.specs.Words.{after_first, mantissa_of, exponent_of, coefficient, exponent_value, SerdeError, Custom}
 
 -- a number, 2^100 with its sign where it is further from zero
 abbrev pub near : ℤ → ℤ

@@ -1,12 +1,7 @@
 -- Documents read as whole numbers in a range.
 use Rattle.std.specs.Prelude.{ℤ, int_le, int_lt, Bool, ◌&&◌, Result, Ok, Err, if◌then◌else◌}
-use Rattle.smithy_ids.specs.declared.shape_type.ShapeType.{ShapeType}
+use Rattle.smithy_document.specs.Words.{ShapeType, Document, Number, integer_of_number, number_text, mismatch, document_word, SerdeError, NumericCoercionOverflow}
 use Rattle.smithy_types.specs.Documents as doc
-use Rattle.smithy_types.specs.Documents.{Document, Number}
-use Rattle.smithy_serde.specs.DocumentReads.{integer_of_number, number_text, mismatch}
-use Rattle.smithy_serde.specs.Requests.{document_word}
-use Rattle.smithy_serde.specs.declared.error.SerdeError.{SerdeError}
-use Rattle.smithy_serde.specs.declared.error.SerdeError.TheVariants.{NumericCoercionOverflow}
 
 abbrev pub is_within : ℤ → ℤ → ℤ → Bool
 is_within least limit z = int_le least z && int_lt z limit

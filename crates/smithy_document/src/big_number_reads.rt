@@ -1,13 +1,9 @@
 // Documents read as big numbers.
 ghost use Rattle.std.specs.Prelude.{◌≡◌, Some, None, Ok, false};
-ghost use Rattle.smithy_types.specs.BigNumbers.{is_big_integer_in_range};
-ghost use Rattle.smithy_types.specs.Documents.{string_in};
-ghost use Rattle.smithy_types.specs.DocumentView.{view, number_view};
-ghost use Rattle.smithy_serde.specs.DocumentReads.{scalar_of_document, number_text, big_decimal_of_text, big_integer_of_text};
-ghost use Rattle.smithy_serde.specs.ReadCalls.{Gives};
-ghost use Rattle.smithy_serde.specs.Refusals.{IsRefusal};
+ghost use Rattle.smithy_document.specs.Words.{is_big_integer_in_range, string_in, view, number_view, number_text, big_decimal_of_text, big_integer_of_text, Gives, IsRefusal};
 ghost use Rattle.smithy_serde.specs.Values as value;
 ghost use Rattle.smithy_document.specs.BigReads.{not_parsed};
+ghost use Rattle.smithy_document.specs.views.ScalarReads.{GivesScalar};
 
 use crate::mismatch::mismatch;
 use crate::number_reads::integer_of;
@@ -84,8 +80,7 @@ fn decimal_of_number(alloc: Global, number: Number) -> Result<BigDecimal, SerdeE
 // A document that is no text.
 fn integer_of_other(alloc: Global, document: &Document) -> Result<BigInteger, SerdeError>
     requires { string_in (view document.now) ≡ None }
-    ensures { Gives value.big_integer
-        (Some (scalar_of_document ShapeType.BigInteger (view document.now))) result }
+    ensures { GivesScalar value.big_integer ShapeType.BigInteger document.now result }
 {
     match document.as_number() {
         Some(number) => integer_of_number(alloc, *number),
@@ -95,8 +90,7 @@ fn integer_of_other(alloc: Global, document: &Document) -> Result<BigInteger, Se
 
 /// A number, or the whole number of a text: a big decimal's is its integer part.
 pub(crate) fn big_integer(alloc: Global, document: &Document) -> Result<BigInteger, SerdeError>
-    ensures { Gives value.big_integer
-        (Some (scalar_of_document ShapeType.BigInteger (view document.now))) result }
+    ensures { GivesScalar value.big_integer ShapeType.BigInteger document.now result }
 {
     match document.as_string() {
         Some(text) => integer_of_text(alloc, text),
@@ -107,8 +101,7 @@ pub(crate) fn big_integer(alloc: Global, document: &Document) -> Result<BigInteg
 // A document that is no text.
 fn decimal_of_other(alloc: Global, document: &Document) -> Result<BigDecimal, SerdeError>
     requires { string_in (view document.now) ≡ None }
-    ensures { Gives value.big_decimal
-        (Some (scalar_of_document ShapeType.BigDecimal (view document.now))) result }
+    ensures { GivesScalar value.big_decimal ShapeType.BigDecimal document.now result }
 {
     match document.as_number() {
         Some(number) => decimal_of_number(alloc, *number),
@@ -118,8 +111,7 @@ fn decimal_of_other(alloc: Global, document: &Document) -> Result<BigDecimal, Se
 
 /// A number, or the decimal of a text.
 pub(crate) fn big_decimal(alloc: Global, document: &Document) -> Result<BigDecimal, SerdeError>
-    ensures { Gives value.big_decimal
-        (Some (scalar_of_document ShapeType.BigDecimal (view document.now))) result }
+    ensures { GivesScalar value.big_decimal ShapeType.BigDecimal document.now result }
 {
     match document.as_string() {
         Some(text) => decimal_of_text(alloc, text),

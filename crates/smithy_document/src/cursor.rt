@@ -1,14 +1,12 @@
 // Where a reader stands in a document.
-ghost use Rattle.std.specs.Prelude.{◌≡◌, ◌++◌, ◌∷◌, [], Ok, None, Bool, true, OnOk, OnErr, IfErr, option_map};
-ghost use Rattle.smithy_types.specs.DocumentView.{view};
-ghost use Rattle.smithy_schema.specs.Nodes.{Schema};
-ghost use Rattle.smithy_schema.specs.References.{schema_of as node};
+ghost use Rattle.std.specs.Prelude.{◌≡◌, ◌++◌, ◌∷◌, [], Ok, None, true, OnOk, OnErr, IfErr, option_map};
+ghost use Rattle.smithy_document.specs.Words.{view, schema_of as node, IsIn, NextMember, NextElement, NextEntry};
 ghost use Rattle.smithy_serde.specs.declared.scalar.Group.TheVariants as group;
-ghost use Rattle.smithy_serde.specs.ReadCalls.{IsIn, OpensAt, NextMember, NextElement, NextEntry};
-ghost use Rattle.smithy_document.specs.CursorView.{seen, place_list, document_in, name_in, IsOpen, Advances, AdvancesToMember};
+ghost use Rattle.smithy_document.specs.views.CursorView.{seen, Opens, Does, spot_list, document_in, name_in, IsOpen, Advances, AdvancesTo};
 
+use crate::groups::{kind_of, opens_as};
 use crate::mismatch::mismatch;
-use crate::place::{Place, document_at, kind_of, name_of, names_of, opens_as, place_behind};
+use crate::spot::{Spot, document_at, name_of, names_of, position_behind};
 use smithy_schema::SchemaRef;
 use smithy_serde::{Group, SerdeError};
 use smithy_types::{Document, Text};
@@ -17,23 +15,23 @@ use std::alloc::Global;
 /// The open containers around the document at hand, the innermost last, as a path from the root that each call is given.
 #[derive(Drop)]
 pub(crate) struct Cursor {
-    pub(crate) places: Option<Vec<Place>>,
+    pub(crate) spots: Option<Vec<Spot>>,
 }
 
 impl Cursor {
     /// At the root, with nothing open. Takes no memory.
     pub(crate) fn new() -> Cursor
-        ensures { result.places ≡ None }
+        ensures { result.spots ≡ None }
     {
-        Cursor { places: None }
+        Cursor { spots: None }
     }
 
     /// The document at hand.
     pub(crate) fn document<'d>(&self, root: &'d Document) -> &'d Document
         ensures { view result.now ≡ document_in (view root.now) self.now }
     {
-        match &self.places {
-            Some(places) => document_at(root, places.as_slice()),
+        match &self.spots {
+            Some(spots) => document_at(root, spots.as_slice()),
             None => root,
         }
     }
@@ -42,11 +40,11 @@ impl Cursor {
     fn name(&self) -> &str
         ensures { result.now ≡ name_in self.now }
     {
-        let Some(places) = &self.places else {
+        let Some(spots) = &self.spots else {
             return "";
         };
-        match places.as_slice().last() {
-            Some(place) => name_of(place),
+        match spots.as_slice().last() {
+            Some(spot) => name_of(spot),
             None => "",
         }
     }
@@ -59,9 +57,8 @@ impl Cursor {
         root: &Document,
         group: Group,
     ) -> Result<(), SerdeError>
-        ensures opens { (tells : Bool) (schema : Schema) → OpensAt group schema
-            (seen tells (view root.entry.now) self.old) (seen tells (view root.entry.now) self.new) result }
-        ensures kept { OnErr result (place_list self.new ≡ place_list self.old) }
+        ensures opens { Does (Opens group result) root.entry.now self.old self.new }
+        ensures kept { OnErr result (spot_list self.new ≡ spot_list self.old) }
     {
         let document = self.document(root);
         if !opens_as(group, document) {
@@ -71,32 +68,32 @@ impl Cursor {
             Ok(names) => names,
             Err(error) => return Err(error),
         };
-        let place = Place {
+        let spot = Spot {
             form: group,
             names,
             next: 0,
         };
-        match self.push(alloc, place) {
+        match self.push(alloc, spot) {
             Ok(()) => Ok(()),
             Err(error) => Err(error),
         }
     }
 
-    // Adds a place, in which nothing was handed out.
-    fn push(&mut self, alloc: Global, place: Place) -> Result<(), SerdeError>
-        ensures pushed { OnOk result (place_list self.new ≡ place_list self.old ++ place ∷ []) }
-        ensures kept { OnErr result (place_list self.new ≡ place_list self.old) }
+    // Adds a spot, in which nothing was handed out.
+    fn push(&mut self, alloc: Global, spot: Spot) -> Result<(), SerdeError>
+        ensures pushed { OnOk result (spot_list self.new ≡ spot_list self.old ++ spot ∷ []) }
+        ensures kept { OnErr result (spot_list self.new ≡ spot_list self.old) }
         ensures memory { IfErr result (λ e. e ≡ SerdeError.OutOfMemory) }
     {
-        match &mut self.places {
-            Some(places) => {
-                places.push(place)?;
+        match &mut self.spots {
+            Some(spots) => {
+                spots.push(spot)?;
                 Ok(())
             }
             None => {
-                let mut places = Vec::new(alloc);
-                places.push(place)?;
-                self.places = Some(places);
+                let mut spots = Vec::new(alloc);
+                spots.push(spot)?;
+                self.spots = Some(spots);
                 Ok(())
             }
         }
@@ -105,8 +102,7 @@ impl Cursor {
     /// The next element of the innermost container, which is a list: whether there was one.
     pub(crate) fn next_element(&mut self, root: &Document) -> bool
         requires { IsIn group.List (seen true (view root.now) self.old) }
-        ensures { (tells : Bool) → NextElement (seen tells (view root.entry.now) self.old)
-            (seen tells (view root.entry.now) self.new) (Ok result) }
+        ensures { Does (λ a b. NextElement a b (Ok result)) root.entry.now self.old self.new }
     {
         self.advance(root)
     }
@@ -118,8 +114,7 @@ impl Cursor {
         root: &Document,
     ) -> Result<Option<Text>, SerdeError>
         requires { IsIn group.Map (seen true (view root.now) self.old) }
-        ensures { (tells : Bool) → NextEntry (seen tells (view root.entry.now) self.old)
-            (seen tells (view root.entry.now) self.new) result }
+        ensures { Does (λ a b. NextEntry a b result) root.entry.now self.old self.new }
     {
         if !self.advance(root) {
             return Ok(None);
@@ -134,8 +129,7 @@ impl Cursor {
         schema: SchemaRef<'s>,
     ) -> Option<SchemaRef<'s>>
         requires { IsIn group.Structure (seen true (view root.now) self.old) }
-        ensures { (tells : Bool) → NextMember (node schema.entry)
-            (seen tells (view root.entry.now) self.old) (seen tells (view root.entry.now) self.new) (Ok result) }
+        ensures { Does (λ a b. NextMember (node schema.entry) a b (Ok result)) root.entry.now self.old self.new }
     {
         match self.advance_to_member(root, schema) {
             Some(member) => Some(member),
@@ -149,19 +143,19 @@ impl Cursor {
         requires { IsOpen self.old }
         ensures { Advances (view root.entry.now) self.old self.new result }
     {
-        let Some(places) = &mut self.places else {
+        let Some(spots) = &mut self.spots else {
             unreachable!()
         };
-        let Some(place) = places.pop() else {
+        let Some(spot) = spots.pop() else {
             unreachable!()
         };
-        let container = document_at(root, places.as_slice());
-        let Some(next) = place_behind(container, &place) else {
+        let container = document_at(root, spots.as_slice());
+        let Some(next) = position_behind(container, &spot) else {
             return false;
         };
-        places.push_reserved(Place {
-            form: place.form,
-            names: place.names,
+        spots.push_reserved(Spot {
+            form: spot.form,
+            names: spot.names,
             next,
         });
         true
@@ -175,8 +169,7 @@ impl Cursor {
         schema: SchemaRef<'s>,
     ) -> Option<SchemaRef<'s>>
         requires { IsOpen self.old }
-        ensures { AdvancesToMember (view root.entry.now) (node schema.entry)
-            self.old self.new (option_map node result) }
+        ensures { AdvancesTo (view root.entry.now) (node schema.entry) self.old self.new (option_map node result) }
     {
         'parts: while self.advance(root) {
             if let Some(member) = schema.member_schema(self.name()) {

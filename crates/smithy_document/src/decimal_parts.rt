@@ -1,9 +1,7 @@
 // A decimal as a whole number and a power of ten.
 ghost use Rattle.std.specs.Prelude.{◌≡◌, ◌<◌, ◌≤◌, ◌==◌, ◌-◌, ◌^◌, min, pos, ◌-ℤ◌, position, length, IsTrue};
-ghost use Rattle.std.specs.List.{list_all, position_or_len, before_first, after_first};
+ghost use Rattle.smithy_document.specs.Words.{list_all, position_or_len, before_first, after_first, is_digit, is_exponent_mark, is_signed_digits, is_exponent, mantissa_of, exponent_of, unsigned, coefficient, exponent_value};
 ghost use Rattle.std.specs.Str.Parse.{digits_value_after, signed_digits_value};
-ghost use Rattle.smithy_types.specs.BigNumbers.{is_digit, is_exponent_mark, is_signed_digits, is_exponent, mantissa_of, exponent_of, unsigned, coefficient};
-ghost use Rattle.smithy_serde.specs.DocumentReads.{exponent_value};
 ghost use Rattle.smithy_document.specs.Scaling.{near, fraction_len};
 
 use smithy_types::BigDecimal;

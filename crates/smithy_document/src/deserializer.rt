@@ -1,13 +1,11 @@
 // A reader of documents.
 ghost use Rattle.std.specs.Prelude.{◌≡◌, Some, None, IsTrue};
-ghost use Rattle.smithy_types.specs.DocumentView.{view};
+ghost use Rattle.smithy_document.specs.Words.{view, is_canonical, Begins};
 ghost use Rattle.smithy_serde.specs.Held as held;
-ghost use Rattle.smithy_types.specs.Documents.{is_canonical};
-ghost use Rattle.smithy_serde.specs.ReadCalls.{Begins};
 
 use crate::cursor::Cursor;
-use crate::place::{is_null, size_of};
 use crate::scalar_reads::read_as;
+use crate::spot::{is_null, size_of};
 use smithy_schema::SchemaRef;
 use smithy_serde::{Group, ReadScalar, ScalarKind, SerdeError, ShapeDeserializer};
 use smithy_types::{Document, DocumentSettings, NoSettings, Text};
@@ -26,12 +24,12 @@ pub struct DocumentShapeDeserializer<'a, S: DocumentSettings> {
 }
 
 impl<'a> DocumentShapeDeserializer<'a, NoSettings> {
-    ghost use Rattle.smithy_document.specs.DocumentHand.{document_hand};
+    ghost use Rattle.smithy_document.specs.views.DocumentHand.{hand};
 
     /// A reader of the document, without settings. Condition: the document is canonical. Takes no memory.
     pub fn new(document: &'a Document) -> DocumentShapeDeserializer<'a, NoSettings>
         requires { IsTrue (is_canonical (view document.now)) }
-        ensures { Begins (Some (held.document (view document.entry.now))) (document_hand result) }
+        ensures { Begins (Some (held.document (view document.entry.now))) (hand result) }
     {
         DocumentShapeDeserializer {
             root: document,
@@ -42,7 +40,7 @@ impl<'a> DocumentShapeDeserializer<'a, NoSettings> {
 }
 
 impl<'a, S: DocumentSettings> DocumentShapeDeserializer<'a, S> {
-    ghost use Rattle.smithy_document.specs.DocumentHand.{document_hand, plain_hand, settings_of};
+    ghost use Rattle.smithy_document.specs.views.DocumentHand.{hand, plain_hand, settings_of};
 
     /// A reader of the document by these settings. Code that serves any reader isn't told what it holds; its own calls say
     /// what they answer. Condition: the document is canonical. Takes no memory.
@@ -51,7 +49,7 @@ impl<'a, S: DocumentSettings> DocumentShapeDeserializer<'a, S> {
         settings: &'a S,
     ) -> DocumentShapeDeserializer<'a, S>
         requires { IsTrue (is_canonical (view document.now)) }
-        ensures begins { Begins None (document_hand result) }
+        ensures begins { Begins None (hand result) }
         ensures plainly { Begins (Some (held.document (view document.entry.now))) (plain_hand result) }
         ensures settings { settings_of result ≡ Some settings.entry.now }
     {
@@ -69,11 +67,10 @@ impl<S: DocumentSettings> ShapeDeserializer for DocumentShapeDeserializer<'_, S>
     ghost use Rattle.smithy_serde.specs.declared.scalar.Group.TheVariants as group;
     ghost use Rattle.smithy_serde.specs.Unchanged.{DoesNothing};
     ghost use Rattle.smithy_serde.specs.ReadCalls.{IsIn, scalar_of_read, Reads, OpensAt, NextMember, NextElement, NextEntry, Settles, TellsNull};
-    ghost use Rattle.smithy_document.specs.DocumentHand.{document_hand, plain_hand, settings_of};
-    ghost use Rattle.smithy_document.specs.SettingsReads.{coercions, ReadsBy};
-    ghost use Rattle.smithy_document.specs.Sizes.{container_size, document_at_hand};
+    ghost use Rattle.smithy_document.specs.Sizes.{container_size};
+    ghost use Rattle.smithy_document.specs.views.DocumentHand.{hand, plain_hand, settings_of, document_at_hand, ReadsHere};
 
-    ghost at_hand = { document_hand };
+    ghost at_hand = { hand };
 
     // How many items an array or an object at hand has, and 10,000 where it has more; none of any other document.
     ghost has_size = { λ reader size. size ≡ container_size (document_at_hand reader) };
@@ -89,9 +86,8 @@ impl<S: DocumentSettings> ShapeDeserializer for DocumentShapeDeserializer<'_, S>
         kind: ScalarKind,
     ) -> Result<ReadScalar, SerdeError>
         ensures reads { Reads scalar_of_read kind (node _schema.entry)
-            (document_hand self.old) (document_hand self.new) result }
-        ensures by_settings { ReadsBy (coercions S.gives_blob S.gives_number_timestamp S.gives_text_timestamp)
-            (settings_of self.old) kind (document_at_hand self.old) result }
+            (hand self.old) (hand self.new) result }
+        ensures by_settings { ReadsHere S.DocumentSettings kind self.old result }
         ensures left { plain_hand self.new ≡ plain_hand self.old }
         ensures settings { settings_of self.new ≡ settings_of self.old }
     {
@@ -105,10 +101,8 @@ impl<S: DocumentSettings> ShapeDeserializer for DocumentShapeDeserializer<'_, S>
         _schema: SchemaRef<'_>,
         group: Group,
     ) -> Result<(), SerdeError>
-        ensures opens { OpensAt group (node _schema.entry)
-            (document_hand self.old) (document_hand self.new) result }
-        ensures plainly { let here = node _schema.entry in
-            OpensAt group here (plain_hand self.old) (plain_hand self.new) result }
+        ensures opens { OpensAt group (node _schema.entry) (hand self.old) (hand self.new) result }
+        ensures plainly { OpensAt group (node _schema.entry) (plain_hand self.old) (plain_hand self.new) result }
         ensures left { OnErr result (plain_hand self.new ≡ plain_hand self.old) }
         ensures settings { settings_of self.new ≡ settings_of self.old }
     {
@@ -120,19 +114,17 @@ impl<S: DocumentSettings> ShapeDeserializer for DocumentShapeDeserializer<'_, S>
         _alloc: Global,
         schema: SchemaRef<'s>,
     ) -> Result<Option<SchemaRef<'s>>, SerdeError>
-        requires { IsIn group.Structure (document_hand self.old) }
-        ensures next { let here = node schema.entry in
-            NextMember here (document_hand self.old) (document_hand self.new) result }
-        ensures plainly { let here = node schema.entry in
-            NextMember here (plain_hand self.old) (plain_hand self.new) result }
+        requires { IsIn group.Structure (hand self.old) }
+        ensures next { NextMember (node schema.entry) (hand self.old) (hand self.new) result }
+        ensures plainly { NextMember (node schema.entry) (plain_hand self.old) (plain_hand self.new) result }
         ensures settings { settings_of self.new ≡ settings_of self.old }
     {
         Ok(self.cursor.next_member(self.root, schema))
     }
 
     fn next_element(&mut self, _alloc: Global) -> Result<bool, SerdeError>
-        requires { IsIn group.List (document_hand self.old) }
-        ensures next { NextElement (document_hand self.old) (document_hand self.new) result }
+        requires { IsIn group.List (hand self.old) }
+        ensures next { NextElement (hand self.old) (hand self.new) result }
         ensures plainly { NextElement (plain_hand self.old) (plain_hand self.new) result }
         ensures settings { settings_of self.new ≡ settings_of self.old }
     {
@@ -140,8 +132,8 @@ impl<S: DocumentSettings> ShapeDeserializer for DocumentShapeDeserializer<'_, S>
     }
 
     fn next_entry(&mut self, alloc: Global) -> Result<Option<Text>, SerdeError>
-        requires { IsIn group.Map (document_hand self.old) }
-        ensures next { NextEntry (document_hand self.old) (document_hand self.new) result }
+        requires { IsIn group.Map (hand self.old) }
+        ensures next { NextEntry (hand self.old) (hand self.new) result }
         ensures plainly { NextEntry (plain_hand self.old) (plain_hand self.new) result }
         ensures settings { settings_of self.new ≡ settings_of self.old }
     {
@@ -149,7 +141,7 @@ impl<S: DocumentSettings> ShapeDeserializer for DocumentShapeDeserializer<'_, S>
     }
 
     fn settle(&mut self, _alloc: Global, refusal: SerdeError) -> Result<(), SerdeError>
-        ensures settles { Settles refusal (document_hand self.old) (document_hand self.new) result }
+        ensures settles { Settles refusal (hand self.old) (hand self.new) result }
         ensures as_it_is { result ≡ Err refusal }
         ensures left { self.new ≡ self.old }
     {
@@ -157,7 +149,7 @@ impl<S: DocumentSettings> ShapeDeserializer for DocumentShapeDeserializer<'_, S>
     }
 
     fn is_null(&self) -> bool
-        ensures told { TellsNull (document_hand self.now) result }
+        ensures told { TellsNull (hand self.now) result }
         ensures plainly { TellsNull (plain_hand self.now) result }
     {
         is_null(self.cursor.document(self.root))

@@ -1,11 +1,11 @@
 // A reader of JSON.
-ghost use Rattle.std.specs.Prelude.{◌≡◌, Some, IfOk, IsTrue};
-ghost use Rattle.smithy_serde.specs.Refusals.{IsRefusal};
-ghost use Rattle.smithy_serde.specs.ReadCalls.{Gives, is_of_kind, scalar_of_read, type_of};
-ghost use Rattle.smithy_serde.specs.DocumentReads.{scalar_of_document};
-ghost use Rattle.smithy_document.specs.InOrder.{is_read, is_tree_read};
+ghost use Rattle.std.specs.Prelude.{◌≡◌, IfOk, IsTrue};
+ghost use Rattle.smithy_document.specs.Words.{IsRefusal, is_of_kind, scalar_of_read};
+ghost use Rattle.smithy_document.specs.InOrder.{is_read};
+ghost use Rattle.smithy_document.specs.views.JsonTree.{is_tree_read};
 ghost use Rattle.smithy_document.specs.JsonHeld.{not_json};
-ghost use Rattle.smithy_document.specs.JsonTree.{node_view};
+ghost use Rattle.smithy_document.specs.views.JsonTree.{node_view};
+ghost use Rattle.smithy_document.specs.SettingsReads.{ReadsPlain};
 
 use crate::json_tree::{JsonTree, Node};
 use crate::json_tree_cursor::TreeCursor;
@@ -41,12 +41,11 @@ fn read_node(
 ) -> Result<ReadScalar, SerdeError>
     requires { IsTrue (is_read (node_view tree.now.texts node.now)) }
     ensures of_kind { IfOk result (λ a. IsTrue (is_of_kind kind (scalar_of_read a))) }
-    ensures gives { Gives scalar_of_read
-        (Some (scalar_of_document (type_of kind) (node_view tree.now.texts node.now))) result }
+    ensures gives { ReadsPlain kind (node_view tree.now.texts node.now) result }
 {
     match (kind, node) {
-        (ScalarKind::String, Node::Text(place)) => {
-            let text = Text::from_str(alloc, tree.texts.get(*place))?;
+        (ScalarKind::String, Node::Text(position)) => {
+            let text = Text::from_str(alloc, tree.texts.get(*position))?;
             Ok(ReadScalar::String(text))
         }
         (ScalarKind::Document, _) => Ok(ReadScalar::Document(document_of(alloc, tree, node)?)),
@@ -59,9 +58,9 @@ impl ShapeDeserializer for JsonDeserializer {
     ghost use Rattle.smithy_schema.specs.References.{schema_of as node};
     ghost use Rattle.smithy_serde.specs.Unchanged.{DoesNothing};
     ghost use Rattle.smithy_serde.specs.ReadCalls.{Reads, OpensAt};
-    ghost use Rattle.smithy_document.specs.JsonHand.{json_hand, json_size, PassesOver};
+    ghost use Rattle.smithy_document.specs.views.JsonHand.{hand, json_size, PassesOver};
 
-    ghost at_hand = { json_hand };
+    ghost at_hand = { hand };
 
     // How many items an array or an object at hand has, and 10,000 where it has more; none of any other value, and none
     // over what is no JSON.
@@ -78,7 +77,7 @@ impl ShapeDeserializer for JsonDeserializer {
         kind: ScalarKind,
     ) -> Result<ReadScalar, SerdeError>
         ensures reads { Reads scalar_of_read kind (node _schema.entry)
-            (json_hand self.old) (json_hand self.new) result }
+            (hand self.old) (hand self.new) result }
         ensures left { self.new ≡ self.old }
     {
         match &self.tree {
@@ -94,8 +93,8 @@ impl ShapeDeserializer for JsonDeserializer {
         _schema: SchemaRef<'_>,
         group: Group,
     ) -> Result<(), SerdeError>
-        ensures opens { OpensAt group (node _schema.entry) (json_hand self.old) (json_hand self.new) result }
-        ensures left { OnErr result (json_hand self.new ≡ json_hand self.old) }
+        ensures opens { OpensAt group (node _schema.entry) (hand self.old) (hand self.new) result }
+        ensures left { OnErr result (hand self.new ≡ hand self.old) }
     {
         match &self.tree {
             Some(tree) => self.cursor.open(alloc, tree, group),

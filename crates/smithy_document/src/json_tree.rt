@@ -1,16 +1,15 @@
 // JSON values as trees whose texts stand in one buffer.
-ghost use Rattle.std.specs.Prelude.{◌≡◌, ℕ, List, length, option_map};
-ghost use Rattle.smithy_serde.specs.Held.{is_null_document};
-ghost use Rattle.smithy_serde.specs.Requests.{word_of_document};
+ghost use Rattle.std.specs.Prelude.{◌≡◌, ℕ, List, length};
+ghost use Rattle.smithy_document.specs.Words.{is_null_document, word_of_document};
 ghost use Rattle.smithy_document.specs.OpenDocuments.{parts_of, opens_as};
-ghost use Rattle.smithy_document.specs.JsonTree.{node_view, part_at, part_name};
+ghost use Rattle.smithy_document.specs.views.JsonTree.{node_view, GivesPart, part_name};
 ghost use Rattle.smithy_document.specs.Sizes.{container_size};
 
 use crate::text_list::TextList;
 use smithy_serde::{Group, capped_container_size};
 use smithy_types::Number;
 
-/// A JSON value (RFC 8259) without floats. Texts and names are places of a list of texts.
+/// A JSON value (RFC 8259) without floats. Texts and names are positions of a list of texts.
 #[derive(Drop)]
 pub(crate) enum Node {
     Null,
@@ -41,14 +40,13 @@ impl Node {
         }
     }
 
-    /// The part at a place, counted from 0.
-    pub(crate) fn part(&self, place: usize) -> Option<&Node>
-        ensures { (texts : List (List ℕ)) → option_map (λ n. node_view texts n.now) result
-            ≡ part_at (node_view texts self.now) place }
+    /// The part at a position, counted from 0.
+    pub(crate) fn part(&self, position: usize) -> Option<&Node>
+        ensures { GivesPart self.now position result }
     {
         match self {
-            Node::Array(items) => items.get(place),
-            Node::Object(fields) => Some(&fields.get(place)?.1),
+            Node::Array(items) => items.get(position),
+            Node::Object(fields) => Some(&fields.get(position)?.1),
             _ => None,
         }
     }
@@ -98,12 +96,12 @@ impl Node {
 }
 
 impl JsonTree {
-    /// The name of the part at a place of one of the tree's values, which is empty in an array.
-    pub(crate) fn part_name(&self, container: &Node, place: usize) -> &str
-        ensures { result.now ≡ part_name (node_view self.now.texts container.now) place }
+    /// The name of the part at a position of one of the tree's values, which is empty in an array.
+    pub(crate) fn part_name(&self, container: &Node, position: usize) -> &str
+        ensures { result.now ≡ part_name (node_view self.now.texts container.now) position }
     {
         match container {
-            Node::Object(fields) => match fields.get(place) {
+            Node::Object(fields) => match fields.get(position) {
                 Some(field) => self.texts.get(field.0),
                 None => "",
             },

@@ -1,8 +1,8 @@
 // JSON values as documents.
 ghost use Rattle.std.specs.Prelude.{◌≡◌, IfOk, IsTrue};
-ghost use Rattle.smithy_types.specs.DocumentView.{view, items_view, members_view};
+ghost use Rattle.smithy_document.specs.Words.{view, items_view, members_view};
 ghost use Rattle.smithy_document.specs.InOrder.{is_in_order, are_items_in_order, are_members_in_order};
-ghost use Rattle.smithy_document.specs.JsonTree.{node_view, nodes_view, fields_view};
+ghost use Rattle.smithy_document.specs.views.JsonTree.{node_view, nodes_view, fields_view};
 
 use crate::json_tree::{JsonTree, Node};
 use smithy_types::{Document, Documents, Members, OutOfMemory, Text};
@@ -22,8 +22,8 @@ pub(crate) fn document_of(
         Node::Null => Ok(Document::Null),
         Node::Bool(truth) => Ok(Document::Bool(*truth)),
         Node::Number(number) => Ok(Document::Number(*number)),
-        Node::Text(place) => {
-            let text = Text::from_str(alloc, tree.texts.get(*place))?;
+        Node::Text(position) => {
+            let text = Text::from_str(alloc, tree.texts.get(*position))?;
             Ok(Document::String(text))
         }
         Node::Array(items) => Ok(Document::Array(documents_of(alloc, tree, items)?)),

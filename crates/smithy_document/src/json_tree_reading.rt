@@ -1,13 +1,12 @@
 // JSON texts as trees.
 ghost use Rattle.std.specs.Prelude.{◌≡◌, None, IfOk, IfErr, IsErrOf, IsTrue, option_map};
-ghost use Rattle.smithy_types.specs.Documents.{members_of};
-ghost use Rattle.smithy_json.specs.FromData.{of_data, items_of_data, pairs_of_data};
+ghost use Rattle.smithy_json.specs.FromData.{of_data};
 ghost use Rattle.smithy_json.specs.FromText.{document_of_text};
 ghost use Rattle.smithy_json.specs.JsonView.{view, items_view, members_view};
 ghost use Rattle.smithy_json.specs.Ordered.{is_ordered, are_items_ordered, are_members_ordered};
 ghost use Rattle.smithy_json.specs.Reads.{Reads};
-ghost use Rattle.smithy_document.specs.InOrder.{is_tree_read};
-ghost use Rattle.smithy_document.specs.JsonTree.{node_view, nodes_view, fields_view, tree_view, Grows, IsFound};
+ghost use Rattle.smithy_document.specs.views.JsonTree.{is_tree_read, tree_view, Grows};
+ghost use Rattle.smithy_document.specs.views.TreeReading.{items_found, members_found, IsNodeOf, AreNodesOf, AreFieldsOf};
 
 use crate::json_tree::{JsonTree, Node};
 use crate::text_list::TextList;
@@ -21,8 +20,7 @@ use std::alloc::Global;
 fn node_of(alloc: Global, texts: &mut TextList, value: &JsonValue<'_>) -> Result<Node, JsonError>
     requires { IsTrue (is_ordered (view value.now)) }
     ensures grows { Grows texts.old texts.new }
-    ensures is { IfOk result
-        (λ n. IsFound (of_data (view value.now)) (λ ts. node_view ts n) texts.new) }
+    ensures is { IfOk result (IsNodeOf value.now texts.new) }
     ensures refused { IsErrOf result JsonError.Unreadable → of_data (view value.now) ≡ None }
 {
     match value {
@@ -47,10 +45,8 @@ fn nodes_of(
 ) -> Result<Vec<Node>, JsonError>
     requires { IsTrue (are_items_ordered (items_view items.now.items)) }
     ensures grows { Grows texts.old texts.new }
-    ensures are { IfOk result (λ ns. IsFound (items_of_data (items_view items.now.items))
-        (λ ts. nodes_view ts ns.items) texts.new) }
-    ensures refused { IsErrOf result JsonError.Unreadable
-        → items_of_data (items_view items.now.items) ≡ None }
+    ensures are { IfOk result (AreNodesOf items.now.items texts.new) }
+    ensures refused { IsErrOf result JsonError.Unreadable → items_found items.now.items ≡ None }
 {
     let mut found = Vec::with_capacity(alloc, items.len())?;
     'items: for item in items {
@@ -69,16 +65,13 @@ fn fields_of(
 ) -> Result<Vec<(usize, Node)>, JsonError>
     requires { IsTrue (are_members_ordered (members_view members.now.items)) }
     ensures grows { Grows texts.old texts.new }
-    ensures are { IfOk result
-        (λ fs. IsFound (option_map members_of (pairs_of_data (members_view members.now.items)))
-        (λ ts. fields_view ts fs.items) texts.new) }
-    ensures refused { IsErrOf result JsonError.Unreadable
-        → option_map members_of (pairs_of_data (members_view members.now.items)) ≡ None }
+    ensures are { IfOk result (AreFieldsOf members.now.items texts.new) }
+    ensures refused { IsErrOf result JsonError.Unreadable → members_found members.now.items ≡ None }
 {
     let mut found = Vec::with_capacity(alloc, members.len())?;
     'members: for member in members {
-        let place = texts.push(member.0)?;
-        found.push((place, node_of(alloc, texts, &member.1)?))?;
+        let position = texts.push(member.0)?;
+        found.push((position, node_of(alloc, texts, &member.1)?))?;
     }
     Ok(found)
 }

@@ -1,10 +1,6 @@
 // The refusals of reads over documents.
 ghost use Rattle.std.specs.Prelude.{◌≡◌};
-ghost use Rattle.smithy_types.specs.Documents.{Document as Doc};
-ghost use Rattle.smithy_types.specs.DocumentView.{view};
-ghost use Rattle.smithy_serde.specs.DocumentReads.{mismatch};
-ghost use Rattle.smithy_serde.specs.Refusals.{IsRefusal};
-ghost use Rattle.smithy_serde.specs.Requests.{document_word, word_of_document};
+ghost use Rattle.smithy_document.specs.Words.{Document as Doc, view, mismatch, IsRefusal, document_word, word_of_document};
 
 use smithy_ids::ShapeType;
 use smithy_serde::{SerdeError, kind_word};

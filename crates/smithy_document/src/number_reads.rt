@@ -1,11 +1,8 @@
 // Documents read as whole numbers.
 ghost use Rattle.std.specs.Prelude.{◌≡◌, Some, IsTrue, IfOk, string_bytes};
-ghost use Rattle.smithy_types.specs.DocumentView.{view, number_view};
-ghost use Rattle.smithy_serde.specs.DocumentReads.{integer_of_number, number_text, scalar_of_document};
-ghost use Rattle.smithy_serde.specs.ReadCalls.{Gives};
-ghost use Rattle.smithy_serde.specs.Refusals.{IsRefusal};
+ghost use Rattle.smithy_document.specs.Words.{view, number_view, integer_of_number, number_text, mismatch, Gives, IsRefusal};
 ghost use Rattle.smithy_serde.specs.Values as value;
-ghost use Rattle.smithy_serde.specs.DocumentReads.{mismatch};
+ghost use Rattle.smithy_document.specs.views.ScalarReads.{GivesScalar};
 ghost use Rattle.smithy_document.specs.WholeReads.{is_within, overflow, whole_of_document};
 
 use crate::mismatch::{document_word, mismatch};
@@ -77,24 +74,21 @@ fn whole(
 
 /// A number of 8 bits.
 pub(crate) fn byte(alloc: Global, document: &Document) -> Result<i8, SerdeError>
-    ensures { Gives (value.whole value.byte)
-        (Some (scalar_of_document ShapeType.Byte (view document.now))) result }
+    ensures { GivesScalar (value.whole value.byte) ShapeType.Byte document.now result }
 {
     Ok(whole(alloc, document, ShapeType::Byte, -0x80, 0x80)? as i8)
 }
 
 /// A number of 16 bits.
 pub(crate) fn short(alloc: Global, document: &Document) -> Result<i16, SerdeError>
-    ensures { Gives (value.whole value.short)
-        (Some (scalar_of_document ShapeType.Short (view document.now))) result }
+    ensures { GivesScalar (value.whole value.short) ShapeType.Short document.now result }
 {
     Ok(whole(alloc, document, ShapeType::Short, -0x8000, 0x8000)? as i16)
 }
 
 /// A number of 32 bits.
 pub(crate) fn integer(alloc: Global, document: &Document) -> Result<i32, SerdeError>
-    ensures { Gives (value.whole value.integer)
-        (Some (scalar_of_document ShapeType.Integer (view document.now))) result }
+    ensures { GivesScalar (value.whole value.integer) ShapeType.Integer document.now result }
 {
     Ok(whole(
         alloc,
@@ -107,8 +101,7 @@ pub(crate) fn integer(alloc: Global, document: &Document) -> Result<i32, SerdeEr
 
 /// A number of 64 bits.
 pub(crate) fn long(alloc: Global, document: &Document) -> Result<i64, SerdeError>
-    ensures { Gives (value.whole value.long)
-        (Some (scalar_of_document ShapeType.Long (view document.now))) result }
+    ensures { GivesScalar (value.whole value.long) ShapeType.Long document.now result }
 {
     Ok(whole(
         alloc,

@@ -1,12 +1,8 @@
 // Documents read as scalars.
-ghost use Rattle.std.specs.Prelude.{◌≡◌, Some, IfOk, IsTrue};
-ghost use Rattle.std.specs.Option.{option_copied};
-ghost use Rattle.smithy_types.specs.DocumentView.{view};
-ghost use Rattle.smithy_serde.specs.DocumentReads.{scalar_of_document};
-ghost use Rattle.smithy_types.specs.Documents.{is_canonical};
-ghost use Rattle.smithy_serde.specs.ReadCalls.{Gives, is_of_kind, scalar_of_read};
+ghost use Rattle.std.specs.Prelude.{IfOk, IsTrue};
+ghost use Rattle.smithy_document.specs.Words.{view, is_canonical, is_of_kind, scalar_of_read};
 ghost use Rattle.smithy_serde.specs.Values as value;
-ghost use Rattle.smithy_document.specs.SettingsReads.{coercions, ReadsBy, ReadsWith};
+ghost use Rattle.smithy_document.specs.views.ScalarReads.{GivesScalar, GivesBy, ReadsDocument};
 
 use crate::big_number_reads::{big_decimal, big_integer};
 use crate::mismatch::mismatch;
@@ -17,7 +13,7 @@ use smithy_types::{Blob, DateTime, Document, DocumentSettings, NoSettings, Text}
 use std::alloc::Global;
 
 fn boolean(alloc: Global, document: &Document) -> Result<bool, SerdeError>
-    ensures { Gives value.boolean (Some (scalar_of_document ShapeType.Boolean (view document.now))) result }
+    ensures { GivesScalar value.boolean ShapeType.Boolean document.now result }
 {
     match document {
         Document::Bool(value) => Ok(*value),
@@ -30,7 +26,7 @@ fn boolean(alloc: Global, document: &Document) -> Result<bool, SerdeError>
 }
 
 fn text(alloc: Global, document: &Document) -> Result<Text, SerdeError>
-    ensures { Gives value.text (Some (scalar_of_document ShapeType.String (view document.now))) result }
+    ensures { GivesScalar value.text ShapeType.String document.now result }
 {
     match document {
         Document::String(text) => Ok(Text::from_str(alloc, text.as_str())?),
@@ -48,8 +44,7 @@ fn blob<S: DocumentSettings>(
     document: &Document,
     settings: &S,
 ) -> Result<Blob, SerdeError>
-    ensures { ReadsWith (coercions S.gives_blob S.gives_number_timestamp S.gives_text_timestamp settings.now)
-        value.blob ShapeType.Blob (view document.now) result }
+    ensures { GivesBy S.DocumentSettings settings.now value.blob ShapeType.Blob document.now result }
 {
     match document {
         Document::String(text) => Ok(settings.coerce_string_to_blob(alloc, text.as_str())?),
@@ -63,7 +58,7 @@ fn blob<S: DocumentSettings>(
 
 // The same without settings.
 fn plain_blob(alloc: Global, document: &Document) -> Result<Blob, SerdeError>
-    ensures { Gives value.blob (Some (scalar_of_document ShapeType.Blob (view document.now))) result }
+    ensures { GivesScalar value.blob ShapeType.Blob document.now result }
 {
     match document {
         Document::String(text) => Ok(NoSettings.coerce_string_to_blob(alloc, text.as_str())?),
@@ -81,8 +76,7 @@ fn timestamp<S: DocumentSettings>(
     document: &Document,
     settings: &S,
 ) -> Result<DateTime, SerdeError>
-    ensures { ReadsWith (coercions S.gives_blob S.gives_number_timestamp S.gives_text_timestamp settings.now)
-        value.timestamp ShapeType.Timestamp (view document.now) result }
+    ensures { GivesBy S.DocumentSettings settings.now value.timestamp ShapeType.Timestamp document.now result }
 {
     match document {
         Document::Number(number) => Ok(settings.coerce_number_to_timestamp(alloc, *number)?),
@@ -96,8 +90,7 @@ fn timestamp<S: DocumentSettings>(
 
 // The same without settings.
 fn plain_timestamp(alloc: Global, document: &Document) -> Result<DateTime, SerdeError>
-    ensures { Gives value.timestamp
-        (Some (scalar_of_document ShapeType.Timestamp (view document.now))) result }
+    ensures { GivesScalar value.timestamp ShapeType.Timestamp document.now result }
 {
     match document {
         Document::Number(number) => Ok(NoSettings.coerce_number_to_timestamp(alloc, *number)?),
@@ -120,8 +113,7 @@ pub(crate) fn read_as<S: DocumentSettings>(
 ) -> Result<ReadScalar, SerdeError>
     requires { IsTrue (is_canonical (view document.now)) }
     ensures of_kind { IfOk result (λ a. IsTrue (is_of_kind kind (scalar_of_read a))) }
-    ensures gives { ReadsBy (coercions S.gives_blob S.gives_number_timestamp S.gives_text_timestamp)
-        (option_copied settings.entry) kind (view document.entry.now) result }
+    ensures gives { ReadsDocument S.DocumentSettings settings.entry kind document.entry.now result }
 {
     match kind {
         ScalarKind::Boolean => Ok(ReadScalar::Boolean(boolean(alloc, document)?)),

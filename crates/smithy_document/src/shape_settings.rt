@@ -1,11 +1,8 @@
 // Settings by which documents are read as shapes.
 ghost use Rattle.std.specs.Prelude.{Bool, true, IsTrue};
-ghost use Rattle.smithy_types.specs.DocumentView.{view};
+ghost use Rattle.smithy_document.specs.Words.{view, is_canonical, Begins, only_if};
 ghost use Rattle.smithy_serde.specs.Held as held;
-ghost use Rattle.smithy_types.specs.Documents.{is_canonical};
-ghost use Rattle.smithy_serde.specs.ReadCalls.{Begins};
-ghost use Rattle.smithy_serde.specs.Writes.{only_if};
-ghost use Rattle.smithy_document.specs.DocumentHand.{document_hand};
+ghost use Rattle.smithy_document.specs.views.DocumentHand.{hand};
 
 use crate::deserializer::DocumentShapeDeserializer;
 use smithy_types::{Document, DocumentSettings, NoSettings};
@@ -19,7 +16,7 @@ pub trait ShapeSettings: DocumentSettings + Sized {
     /// A reader of the document by these settings. Condition: the document is canonical. Takes no memory.
     fn reader<'a>(&'a self, document: &'a Document) -> DocumentShapeDeserializer<'a, Self>
         requires { IsTrue (is_canonical (view document.now)) }
-        ensures { Begins (only_if tells (held.document (view document.entry.now))) (document_hand result) };
+        ensures { Begins (only_if tells (held.document (view document.entry.now))) (hand result) };
 }
 
 impl ShapeSettings for NoSettings {

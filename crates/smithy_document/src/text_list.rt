@@ -1,5 +1,5 @@
 // Texts that stand in one buffer.
-ghost use Rattle.smithy_document.specs.JsonTree.{text_at};
+ghost use Rattle.smithy_document.specs.views.JsonTree.{text_at};
 
 use smithy_types::OutOfMemory;
 use std::alloc::Global;
@@ -15,7 +15,7 @@ pub(crate) struct TextList {
 
 impl Model for TextList {
     ghost use Rattle.std.specs.Prelude.{List, ℕ, string_bytes};
-    ghost use Rattle.smithy_document.specs.TextCuts.{pieces, AreCuts};
+    ghost use Rattle.smithy_document.specs.views.TextCuts.{pieces, AreCuts};
 
     ghost Value = { List (List ℕ) };
 
@@ -37,25 +37,25 @@ impl TextList {
         })
     }
 
-    /// Adds a copy of the text at the end, and gives its place, counted from 0.
+    /// Adds a copy of the text at the end, and gives its position, counted from 0.
     pub(crate) fn push(&mut self, text: &str) -> Result<usize, OutOfMemory>
-        ensures place { IfOk result (λ place. place ≡ length self.old) }
+        ensures position { IfOk result (λ position. position ≡ length self.old) }
         ensures ok { OnOk result (self.new ≡ self.old ++ text.now ∷ []) }
         ensures err { OnErr result (self.new ≡ self.old) }
     {
-        let place = self.cuts.len();
+        let position = self.cuts.len();
         let start = self.bytes.len();
         self.cuts.try_reserve(1)?;
         self.bytes.push_str(text)?;
         self.cuts.push_reserved((start, self.bytes.len()));
-        Ok(place)
+        Ok(position)
     }
 
-    /// The text at a place, and the empty one behind the last.
-    pub(crate) fn get(&self, place: usize) -> &str
-        ensures { result.now ≡ text_at self.now place }
+    /// The text at a position, and the empty one behind the last.
+    pub(crate) fn get(&self, position: usize) -> &str
+        ensures { result.now ≡ text_at self.now position }
     {
-        match self.cuts.get(place) {
+        match self.cuts.get(position) {
             Some(cut) => &self.bytes.as_str()[cut.0..cut.1],
             None => "",
         }

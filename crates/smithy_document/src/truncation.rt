@@ -1,10 +1,7 @@
 // The integer part of a decimal.
 ghost use Rattle.std.specs.Prelude.{◌≡◌, ◌<◌, ◌*◌, ◌/◌, ◌^◌, Some, option_map};
+ghost use Rattle.smithy_document.specs.Words.{SomeIff, truncated, whole_text, is_negative, Gives, IsRefusal};
 ghost use Rattle.std.specs.Fmt.{signed_decimal};
-ghost use Rattle.std.specs.Option.{SomeIff};
-ghost use Rattle.smithy_serde.specs.DocumentReads.{truncated, whole_text, is_negative};
-ghost use Rattle.smithy_serde.specs.ReadCalls.{Gives};
-ghost use Rattle.smithy_serde.specs.Refusals.{IsRefusal};
 ghost use Rattle.smithy_serde.specs.Values as value;
 ghost use Rattle.smithy_document.specs.Scaling.{scaled, whole_part, too_large};
 

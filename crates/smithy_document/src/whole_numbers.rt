@@ -1,10 +1,8 @@
 // Texts and whole numbers as big numbers.
 ghost use Rattle.std.specs.Prelude.{◌≡◌, Some, Ok, IfOk, IfErr};
+ghost use Rattle.smithy_document.specs.Words.{is_big_integer_in_range, is_big_decimal_in_range, Gives, only_if};
 ghost use Rattle.std.specs.Fmt.{signed_decimal};
-ghost use Rattle.smithy_types.specs.BigNumbers.{is_big_integer_in_range, is_big_decimal_in_range};
-ghost use Rattle.smithy_serde.specs.ReadCalls.{Gives};
 ghost use Rattle.smithy_serde.specs.Values as value;
-ghost use Rattle.smithy_serde.specs.Writes.{only_if};
 
 use smithy_serde::SerdeError;
 use smithy_types::{BigDecimal, BigInteger, TypesError};

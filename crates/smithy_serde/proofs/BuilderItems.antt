@@ -13,9 +13,9 @@ use Rattle.smithy_serde.specs.declared.error.SerdeError.TheVariants.{OutOfMemory
 use Rattle.smithy_serde.specs.declared.builders.ListBuilder.{ListBuilder}
 use Rattle.smithy_serde.specs.declared.builders.MapBuilder.{MapBuilder}
 use Rattle.smithy_serde.specs.declared.builders.StructBuilder.{StructBuilder}
-use Rattle.smithy_serde.specs.ValueBuilding.{add_write, add_entry, list_nodes, map_nodes, struct_table, TakesElement, TakesEntry, TakesMember, ReadsValue}
+use Rattle.smithy_serde.specs.views.ValueBuilding.{add_write, add_entry, list_nodes, map_nodes, struct_table, TakesElement, TakesEntry, TakesMember, ReadsValue}
 use Rattle.smithy_serde.specs.Collecting.{Collects}
-use Rattle.smithy_serde.specs.Handing.{Same, Takes, at_elements, at_entries, at_members}
+use Rattle.smithy_serde.specs.views.Handing.{Same, Takes, at_elements, at_entries, at_members}
 use Rattle.smithy_serde.specs.Held.{Held}
 use Rattle.smithy_serde.specs.Listings.{at_member, at_element, at_key}
 use Rattle.smithy_serde.specs.ReadCalls.{AtHand, Gives}
@@ -56,26 +56,31 @@ element_memory (Some h) s t e m same = record { adds = λ n there. add_memory ad
 here_too : (t : Table) (i : ℕ) (m : Schema) → at_place m.table i ≡ Some m → IsPlaced t m → at_place t i ≡ Some m
 here_too t i m there p = subst (λ u. at_place u i ≡ Some m) (at_place_table t p.0 m p.1) there
 
-pub member_ok : (held : Option Held) (s t : StructBuilder) (m : Schema) (i : ℕ) (v : ShapeValue) → at_place m.table i ≡ Some m
+abbrev members_in : StructBuilder → Writes
+members_in b = writes_in b.table.now b.writes
+
+member_ok : (held : Option Held) (s t : StructBuilder) (m : Schema) (i : ℕ) (v : ShapeValue) → at_place m.table i ≡ Some m
     → ((n : Schema) → at_place s.table.now i ≡ Some n → Gives (value_in s.table.now) (option_map (value_read n) held) (Ok v))
-    → writes_in t.table.now t.writes ≡ appended (writes_in s.table.now s.writes) (one_write (label_at s.table.now i) (value_in s.table.now v)) → t.table.now ≡ s.table.now → IfSome held (λ h. TakesMember s m h t (Ok tt))
+    → members_in t ≡ appended (members_in s) (one_write (label_at s.table.now i) (value_in s.table.now v)) → t.table.now ≡ s.table.now → IfSome held (λ h. TakesMember s m h t (Ok tt))
 member_ok None s t m i v there g e same = tt
 member_ok (Some h) s t m i v there g e same = record {
   adds = λ p. let here = here_too s.table.now i m there p in add_ok s.table.now i m (value_read m h) v _ _ here (g m here) e;
+  refused = tt;
   same = same;
 }
 
-pub member_err : (held : Option Held) (s t : StructBuilder) (m : Schema) (i : ℕ) (e : SerdeError) → at_place m.table i ≡ Some m
-    → ((n : Schema) → at_place s.table.now i ≡ Some n → Gives (value_in s.table.now) (option_map (value_read n) held) (Err e)) → t.table.now ≡ s.table.now → IfSome held (λ h. TakesMember s m h t (Err e))
-member_err None s t m i e there g same = tt
-member_err (Some h) s t m i e there g same = record {
+member_err : (held : Option Held) (s : StructBuilder) (m : Schema) (i : ℕ) (e : SerdeError) → at_place m.table i ≡ Some m
+    → ((n : Schema) → at_place s.table.now i ≡ Some n → Gives (value_in s.table.now) (option_map (value_read n) held) (Err e)) → IfSome held (λ h. TakesMember s m h s (Err e))
+member_err None s m i e there g = tt
+member_err (Some h) s m i e there g = record {
   adds = λ p. add_err add_write (value_in s.table.now) (write_by m) (value_read m h) e _ _ (g m (here_too s.table.now i m there p));
-  same = same;
+  refused = refl;
+  same = refl;
 }
 
-pub member_memory : (held : Option Held) (s t : StructBuilder) (m : Schema) (e : SerdeError) → e ≡ OutOfMemory → t.table.now ≡ s.table.now → IfSome held (λ h. TakesMember s m h t (Err e))
-member_memory None s t m e mem same = tt
-member_memory (Some h) s t m e mem same = record { adds = λ p. add_memory add_write (then_give (value_read m h) (write_by m)) e _ _ mem; same = same }
+member_memory : (held : Option Held) (s t : StructBuilder) (m : Schema) (e : SerdeError) → e ≡ OutOfMemory → members_in t ≡ members_in s → t.table.now ≡ s.table.now → IfSome held (λ h. TakesMember s m h t (Err e))
+member_memory None s t m e mem kept same = tt
+member_memory (Some h) s t m e mem kept same = record { adds = λ p. add_memory add_write (then_give (value_read m h) (write_by m)) e _ _ mem; refused = kept; same = same }
 
 entry_added : (t : Table) (k n : Schema) (i j : ℕ) (key : List ℕ) (r : Result Value SerdeError) (v : ShapeValue) (old new : Writes) → at_place t i ≡ Some k → at_place t j ≡ Some n → Gives (value_in t) (Some r) (Ok v)
     → new ≡ appended (appended old (one_write (label_at t i) (value.scalar (value.text key)))) (one_write (label_at t j) (value_in t v))
@@ -131,19 +136,19 @@ pub entry_full : (s t : MapBuilder) (key : List ℕ) (e : SerdeError) (old new :
 entry_full s t key e old new kept m same = record { taken = entry_memory old.held s t key e m same; kept = same; leaves = ([], kept) }
 
 pub member_taken : (s t : StructBuilder) (m : Schema) (i : ℕ) (v : ShapeValue) (old new : AtHand) → at_place m.table i ≡ Some m → ReadsValue s.table.now i old new (Ok v)
-    → writes_in t.table.now t.writes ≡ appended (writes_in s.table.now s.writes) (one_write (label_at s.table.now i) (value_in s.table.now v)) → t.table.now ≡ s.table.now → Takes (at_members TakesMember) (Same struct_table) (at_member m) s t old new (Ok tt)
+    → members_in t ≡ appended (members_in s) (one_write (label_at s.table.now i) (value_in s.table.now v)) → t.table.now ≡ s.table.now → Takes (at_members TakesMember) (Same struct_table) (at_member m) s t old new (Ok tt)
 member_taken s t m i v old new there r e same = record { taken = member_ok old.held s t m i v there r.gives e same; kept = same; leaves = r.leaves }
 
-pub member_refused : (s t : StructBuilder) (m : Schema) (i : ℕ) (e : SerdeError) (old new : AtHand) → at_place m.table i ≡ Some m → ReadsValue s.table.now i old new (Err e) → t.table.now ≡ s.table.now → Takes (at_members TakesMember) (Same struct_table) (at_member m) s t old new (Err e)
-member_refused s t m i e old new there r same = record { taken = member_err old.held s t m i e there r.gives same; kept = same; leaves = r.leaves }
+pub member_refused : (s : StructBuilder) (m : Schema) (i : ℕ) (e : SerdeError) (old new : AtHand) → at_place m.table i ≡ Some m → ReadsValue s.table.now i old new (Err e) → Takes (at_members TakesMember) (Same struct_table) (at_member m) s s old new (Err e)
+member_refused s m i e old new there r = record { taken = member_err old.held s m i e there r.gives; kept = refl; leaves = r.leaves }
 
-pub member_full : (s t : StructBuilder) (m : Schema) (e : SerdeError) (old new : AtHand) → new.opened ≡ old.opened → e ≡ OutOfMemory → t.table.now ≡ s.table.now → Takes (at_members TakesMember) (Same struct_table) (at_member m) s t old new (Err e)
-member_full s t m e old new kept mem same = record { taken = member_memory old.held s t m e mem same; kept = same; leaves = ([], kept) }
+pub member_full : (s t : StructBuilder) (m : Schema) (e : SerdeError) (old new : AtHand) → new.opened ≡ old.opened → e ≡ OutOfMemory → members_in t ≡ members_in s → t.table.now ≡ s.table.now → Takes (at_members TakesMember) (Same struct_table) (at_member m) s t old new (Err e)
+member_full s t m e old new left mem kept same = record { taken = member_memory old.held s t m e mem kept same; kept = same; leaves = ([], left) }
 
 -- a member of another table
 unknown_taken : (held : Option Held) (s : StructBuilder) (m : Schema) (e : SerdeError) → (IsPlaced s.table.now m → ⊥) → IfSome held (λ h. TakesMember s m h s (Err e))
 unknown_taken None s m e another = tt
-unknown_taken (Some h) s m e another = record { adds = λ p. absurd (another p); same = refl }
+unknown_taken (Some h) s m e another = record { adds = λ p. absurd (another p); refused = refl; same = refl }
 
 pub member_unknown : (s : StructBuilder) (m : Schema) (e : SerdeError) (old : AtHand) → (IsPlaced s.table.now m → ⊥) → Takes (at_members TakesMember) (Same struct_table) (at_member m) s s old old (Err e)
 member_unknown s m e old another = record { taken = unknown_taken old.held s m e another; kept = refl; leaves = ([], refl) }

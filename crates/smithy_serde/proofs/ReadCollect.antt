@@ -10,7 +10,7 @@ use Rattle.smithy_serde.specs.Collecting.{Collects, Built, all_added}
 use Rattle.smithy_schema.specs.Nodes.{Schema}
 use Rattle.smithy_serde.specs.Values.{Scalar}
 use Rattle.smithy_serde.specs.declared.read_scalar.ScalarKind.{ScalarKind}
-use Rattle.smithy_serde.specs.Handing.{HandsOut, AllHanded, settled_by, settled_in}
+use Rattle.smithy_serde.specs.views.Handing.{HandsOut, AllHanded, settled_by, settled_in}
 use Rattle.smithy_serde.specs.HeldReads.{read_scalar}
 use Rattle.smithy_serde.specs.ListReads.{prelude_of}
 use Rattle.smithy_serde.specs.ReadCalls.{AtHand, Gives, read_at, type_of}
@@ -19,11 +19,11 @@ use Rattle.smithy_serde.specs.Listings.{Slot, as_it_is, listing_of, contents}
 use Rattle.smithy_serde.specs.ValueRead.{all_read}
 use Rattle.smithy_serde.proofs.ReadLevels.{Each}
 
-built_memory : {B V : Type 0} (add : V → B → V) (r : Result (List B) SerdeError) (old new : V) (answer : Answer) → answer ≡ Err OutOfMemory → Built add r old new answer
+pub built_memory : {B V : Type 0} (add : V → B → V) (r : Result (List B) SerdeError) (old new : V) (answer : Answer) → answer ≡ Err OutOfMemory → Built add r old new answer
 built_memory add (Ok bs) old new answer m = inr m
 built_memory add (Err e) old new answer m = inr m
 
-one_more : {B V : Type 0} (add : V → B → V) (b : B) (r : Result (List B) SerdeError) (old mid new : V) (answer : Answer) → mid ≡ add old b → Built add r mid new answer
+pub one_more : {B V : Type 0} (add : V → B → V) (b : B) (r : Result (List B) SerdeError) (old mid new : V) (answer : Answer) → mid ≡ add old b → Built add r mid new answer
     → Built add (then_give r (λ bs. b ∷ bs)) old new answer
 one_more add b (Ok bs) old mid new answer e (inl built) = inl (built.0, built.1 ∙ ap (λ v. all_added add v bs) e)
 one_more add b (Ok bs) old mid new answer e (inr m) = inr m

@@ -9,7 +9,7 @@ use Rattle.smithy_serde.specs.declared.error.SerdeError.TheVariants.{OutOfMemory
 use Rattle.smithy_serde.specs.declared.scalar.Group.TheVariants as group
 use Rattle.smithy_serde.specs.declared.read_scalar.ScalarKind.{ScalarKind}
 use Rattle.smithy_serde.specs.Collecting.{all_added}
-use Rattle.smithy_serde.specs.Handing.{KeepsNone, none_kept, Takes, HandsAll, at_elements}
+use Rattle.smithy_serde.specs.views.Handing.{KeepsNone, none_kept, Takes, HandsAll, at_elements}
 use Rattle.smithy_serde.specs.Held.{Held}
 use Rattle.smithy_serde.specs.HeldReads.{read_scalar, elements}
 use Rattle.smithy_serde.specs.Listings.{at_element}

@@ -11,7 +11,7 @@ use Rattle.smithy_serde.specs.declared.error.SerdeError.{SerdeError}
 use Rattle.smithy_serde.specs.declared.error.SerdeError.TheVariants.{OutOfMemory}
 use Rattle.smithy_serde.specs.declared.scalar.Group.TheVariants as group
 use Rattle.smithy_serde.specs.declared.read_scalar.ScalarKind.TheVariants as of
-use Rattle.smithy_serde.specs.Handing.{KeepsNone, none_kept, Takes, HandsAll, at_entries}
+use Rattle.smithy_serde.specs.views.Handing.{KeepsNone, none_kept, Takes, HandsAll, at_entries}
 use Rattle.smithy_serde.specs.Held.{Held}
 use Rattle.smithy_serde.specs.HeldReads.{read_scalar, entries}
 use Rattle.smithy_serde.specs.Listings.{at_key}

@@ -30,13 +30,14 @@ use Rattle.smithy_serde.specs.declared.builders.MapBuilder.{MapBuilder}
 use Rattle.smithy_serde.specs.declared.builders.StructBuilder.{StructBuilder}
 use Rattle.smithy_serde.specs.declared.builders.ValueReader.{ValueReader}
 use Rattle.smithy_serde.specs.declared.read_plan.Plan.TheVariants as plan
-use Rattle.smithy_serde.specs.ValueBuilding.{add_write, add_entry, BuildsList, BuildsMap, BuildsStructure, TakesElement, TakesEntry, TakesMember, IsPlan, ReadsSo, ReadsStructure, ReadsValue, list_nodes, map_nodes}
+use Rattle.smithy_serde.specs.views.ValueBuilding.{add_write, add_entry, BuildsList, BuildsMap, BuildsStructure, TakesElement, TakesEntry, TakesMember, IsPlan, ReadsSo, ReadsValue, list_nodes, map_nodes}
 use Rattle.smithy_serde.specs.Collecting.{Built, all_added}
-use Rattle.smithy_serde.specs.Handing.{IsAbove, HandsOut, AllHanded, settled_in, at_elements, at_entries, at_members}
+use Rattle.smithy_serde.specs.views.Handing.{IsAbove, HandsOut, AllHanded, settled_in, at_elements, at_entries, at_members}
 use Rattle.smithy_serde.specs.Held as held
 use Rattle.smithy_serde.specs.Held.{Held, Answer, is_null_held}
 use Rattle.smithy_serde.specs.HeldReads.{elements, entries, fields, known}
 use Rattle.smithy_serde.specs.Listings.{Slot, at_member, at_element, at_key, Listing, contents}
+use Rattle.smithy_serde.specs.MembersRead.{structure_in, ReadsStruct}
 use Rattle.smithy_serde.specs.ReadCalls.{AtHand, Reads, Gives, read_at, scalar_of_read}
 use Rattle.smithy_serde.specs.ReadsBy.{ReadsBy}
 use Rattle.smithy_serde.specs.ValueRead.{all_read, write_by, entry_by, IsPlaced, joined, value_by_kind, value_read, list_by, map_by, value_of_list, value_of_map, value_of_structure}
@@ -207,11 +208,11 @@ members_built n h s t answer table handed =
     group.Structure (fields n h) s t answer (fields_placed n h) table handed
 
 structure_read : (held : Option Held) (n : Schema) (s t : StructBuilder) (old new : AtHand) (answer : Answer) → old.held ≡ held → s.table.now ≡ n.table → writes_in s.table.now s.writes ≡ no_writes
-    → BuildsStructure (shape n) s t old new answer → IfSome held (λ h. IsRead add_write structure_total (value_of_structure value_read (shape n) h) (writes_in t.table.now t.writes) answer)
+    → BuildsStructure n s t old new answer → IfSome held (λ h. IsRead add_write structure_total (value_of_structure value_read n h) (writes_in t.table.now t.writes) answer)
 structure_read None n s t old new answer is table none all = tt
 structure_read (Some h) n s t old new answer is table none all =
-    is_read add_write structure_total (then_try (fields (shape n) h) (all_read (λ x. then_give (value_read x.0 x.1) (write_by x.0)))) (writes_in s.table.now s.writes) (writes_in t.table.now t.writes) answer none
-    (members_built (shape n) h s t answer (table ∙ sym (shape_table n)) (handed_of (at_members TakesMember) group.Structure (shape n) h (old.listing group.Structure (shape n)) s t answer (old.told group.Structure (shape n) h is) all.handed))
+    is_read add_write structure_total (then_try (fields n h) (all_read (λ x. then_give (value_read x.0 x.1) (write_by x.0)))) (writes_in s.table.now s.writes) (writes_in t.table.now t.writes) answer none
+    (members_built n h s t answer table (handed_of (at_members TakesMember) group.Structure n h (old.listing group.Structure n) s t answer (old.told group.Structure n h is) all.handed))
 
 -- all writes that were added
 added_writes : (v : Writes) (ws : List Write) → all_added add_write v ws ≡ appended v (writes_of ws)
@@ -325,21 +326,41 @@ map_value_err n k m b c e old new all there there_2 none = record {
   leaves = all.leaves;
 }
 
-pub structure_value : (n : Schema) (b c : StructBuilder) (sorted : WriteList) (old new : AtHand) → BuildsStructure (shape n) b c old new (Ok tt) → b.table.now ≡ n.table → writes_in b.table.now b.writes ≡ no_writes
-    → writes_in b.table.now sorted ≡ in_index_order (writes_in b.table.now c.writes) → AreDefined b.table.now sorted → ReadsStructure b.table.now n old new (Ok (stored.Struct sorted))
-structure_value n b c sorted old new all table none order defined = record {
-  gives = read_ok (value_in b.table.now) add_write structure_total (value_of_structure value_read (shape n)) old.held (writes_in c.table.now c.writes) (stored.Struct sorted)
-      (structure_read old.held n b c old new (Ok tt) refl table none all)
-      (is_structure _ (writes_in b.table.now c.writes) (writes_in b.table.now sorted) _ (group_value b.table.now group.Structure sorted) order (ap (λ u. writes_in u c.writes) (sym all.kept)));
-  defined = group_defined b.table.now group.Structure sorted defined;
-  leaves = all.leaves.opened;
+pub structure_ok : (n : Schema) (b c : StructBuilder) (sorted : WriteList) (old new : AtHand) → BuildsStructure n b c old new (Ok tt) → b.table.now ≡ n.table → writes_in b.table.now b.writes ≡ no_writes
+    → writes_in b.table.now sorted ≡ in_index_order (writes_in b.table.now c.writes) → Gives (structure_in b.table.now) (option_map (value_of_structure value_read n) old.held) (Ok sorted)
+structure_ok n b c sorted old new all table none order =
+    read_ok (structure_in b.table.now) add_write structure_total (value_of_structure value_read n) old.held (writes_in c.table.now c.writes) sorted
+    (structure_read old.held n b c old new (Ok tt) refl table none all)
+    (is_structure (writes_in c.table.now c.writes) (writes_in b.table.now c.writes) (writes_in b.table.now sorted) (structure_in b.table.now sorted) refl order (ap (λ u. writes_in u c.writes) (sym all.kept)))
+
+pub structure_err : (n : Schema) (b c : StructBuilder) (e : SerdeError) (old new : AtHand) → BuildsStructure n b c old new (Err e) → b.table.now ≡ n.table → writes_in b.table.now b.writes ≡ no_writes
+    → Gives (structure_in b.table.now) (option_map (value_of_structure value_read n) old.held) (Err e)
+structure_err n b c e old new all table none =
+    read_err (structure_in b.table.now) add_write structure_total (value_of_structure value_read n) old.held (writes_in c.table.now c.writes) e (structure_read old.held n b c old new (Err e) refl table none all)
+
+-- the writes of a structure, as its value
+pub seen_as : {A B V : Type 0} (f : A → V) (g : B → V) (o : Option (Result V SerdeError)) (a : A) (b : B) → f a ≡ g b → Gives g o (Ok b) → Gives f o (Ok a)
+seen_as f g None a b e h = tt
+seen_as f g (Some (Ok v)) a b e h = e ∙ h
+seen_as f g (Some (Err x)) a b e h = h
+
+pub refused_as : {A B V : Type 0} (f : A → V) (g : B → V) (o : Option (Result V SerdeError)) (e : SerdeError) → Gives {A = B} g o (Err e) → Gives {A = A} f o (Err e)
+refused_as f g None e h = tt
+refused_as f g (Some (Ok v)) e h = h
+refused_as f g (Some (Err x)) e h = h
+
+pub structure_value : (t : Table) (n : Schema) (ws : WriteList) (old new : AtHand) → ReadsStruct t n old new (Ok ws) → ReadsSo t (value_of_structure value_read n) old new (Ok (stored.Struct ws))
+structure_value t n ws old new r = record {
+  gives = seen_as (value_in t) (structure_in t) (option_map (value_of_structure value_read n) old.held) (stored.Struct ws) ws (group_value t group.Structure ws) r.gives;
+  defined = group_defined t group.Structure ws r.defined;
+  leaves = r.leaves;
 }
 
-pub structure_value_err : (n : Schema) (b c : StructBuilder) (e : SerdeError) (old new : AtHand) → BuildsStructure (shape n) b c old new (Err e) → b.table.now ≡ n.table → writes_in b.table.now b.writes ≡ no_writes → ReadsStructure b.table.now n old new (Err e)
-structure_value_err n b c e old new all table none = record {
-  gives = read_err (value_in b.table.now) add_write structure_total (value_of_structure value_read (shape n)) old.held (writes_in c.table.now c.writes) e (structure_read old.held n b c old new (Err e) refl table none all);
+pub structure_value_err : (t : Table) (n : Schema) (e : SerdeError) (old new : AtHand) → ReadsStruct t n old new (Err e) → ReadsSo t (value_of_structure value_read n) old new (Err e)
+structure_value_err t n e old new r = record {
+  gives = refused_as (value_in t) (structure_in t) (option_map (value_of_structure value_read n) old.held) e r.gives;
   defined = tt;
-  leaves = all.leaves;
+  leaves = r.leaves;
 }
 
 -- the plans that cite nodes
@@ -367,26 +388,19 @@ by_node : (held : Option Held) (r : ValueReader) (n : Schema) (answer : Result S
 by_node None r n answer there g = tt
 by_node (Some h) r n answer there g = at_the_place (λ m. Gives structure_of (Some (value_of_structure value_read (shape m) h)) answer) r.table.now r.schema.0 n there g
 
-pub reader_err : (r : ValueReader) (n : Schema) (s t : StructBuilder) (e : SerdeError) (old new : AtHand) → Some n ≡ at_place r.table.now r.schema.0 → BuildsStructure (shape n) s t old new (Err e)
-    → s.table.now ≡ r.table.now → writes_in s.table.now s.writes ≡ no_writes → ReadsBy (gives_structure r) old new (Err e)
-reader_err r n s t e old new there all table none = record {
-  gives = by_node old.held r n (Err e) there (read_err structure_of add_write structure_total (value_of_structure value_read (shape n)) old.held (writes_in t.table.now t.writes) e (structure_read old.held n s t old new (Err e) refl (table ∙ sym (at_place_table r.table.now r.schema.0 n (sym there))) none all));
-  leaves = all.leaves;
+pub reader_err : (r : ValueReader) (n : Schema) (e : SerdeError) (old new : AtHand) → Some n ≡ at_place r.table.now r.schema.0 → ReadsStruct r.table.now (shape n) old new (Err e) → ReadsBy (gives_structure r) old new (Err e)
+reader_err r n e old new there whole = record {
+  gives = by_node old.held r n (Err e) there (refused_as structure_of (structure_in r.table.now) (option_map (value_of_structure value_read (shape n)) old.held) e whole.gives);
+  leaves = whole.leaves;
 }
 
-pub reader_ok : (r : ValueReader) (n : Schema) (s t : StructBuilder) (sorted : WriteList) (v : StructValue) (old new : AtHand) → Some n ≡ at_place r.table.now r.schema.0 → BuildsStructure (shape n) s t old new (Ok tt)
-    → s.table.now ≡ r.table.now → writes_in s.table.now s.writes ≡ no_writes → writes_in r.table.now sorted ≡ in_index_order (writes_in r.table.now t.writes)
-    → members_of v ≡ writes_in r.table.now sorted → ReadsBy (gives_structure r) old new (Ok v)
-reader_ok r n s t sorted v old new there all table none order is = record {
-  gives = by_node old.held r n (Ok v) there (read_ok structure_of add_write structure_total (value_of_structure value_read (shape n)) old.held (writes_in t.table.now t.writes) v
-      (structure_read old.held n s t old new (Ok tt) refl (table ∙ sym (at_place_table r.table.now r.schema.0 n (sym there))) none all)
-      (is_structure (writes_in t.table.now t.writes) (writes_in r.table.now t.writes) (writes_in r.table.now sorted) (structure_of v) (ap value.structure is) order (ap (λ u. writes_in u t.writes) (sym (all.kept ∙ table)))));
-  leaves = all.leaves.opened;
+pub reader_ok : (r : ValueReader) (n : Schema) (ws : WriteList) (v : StructValue) (old new : AtHand) → Some n ≡ at_place r.table.now r.schema.0 → ReadsStruct r.table.now (shape n) old new (Ok ws)
+    → members_of v ≡ writes_in r.table.now ws → ReadsBy (gives_structure r) old new (Ok v)
+reader_ok r n ws v old new there whole is = record {
+  gives = by_node old.held r n (Ok v) there (seen_as structure_of (structure_in r.table.now) (option_map (value_of_structure value_read (shape n)) old.held) v ws (ap value.structure is) whole.gives);
+  leaves = whole.leaves;
 }
 
-reader_dropped : (held : Option Held) (r : ValueReader) (e : SerdeError) → e ≡ OutOfMemory → IfSome held (λ h. gives_structure r h (Err e))
-reader_dropped None r e m = tt
-reader_dropped (Some h) r e m = λ n there. gives_memory structure_of (Some (value_of_structure value_read (shape n) h)) e m
-
-pub reader_memory : (r : ValueReader) (e : SerdeError) (old new : AtHand) → e ≡ OutOfMemory → new.opened ≡ old.opened → ReadsBy (gives_structure r) old new (Err e)
-reader_memory r e old new m kept = record { gives = reader_dropped old.held r e m; leaves = ([], kept) }
+-- the shape of a node at a place of the table stands in it
+pub shape_here : (t : Table) (place : ℕ) (n : Schema) → Some n ≡ at_place t place → (shape n).table ≡ t
+shape_here t place n there = shape_table n ∙ at_place_table t place n (sym there)

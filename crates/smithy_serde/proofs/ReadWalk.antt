@@ -5,7 +5,7 @@ use Rattle.smithy_serde.specs.declared.error.SerdeError.{SerdeError}
 use Rattle.smithy_serde.specs.declared.error.SerdeError.TheVariants.{OutOfMemory}
 use Rattle.smithy_serde.specs.declared.scalar.Group.{Group}
 use Rattle.smithy_serde.specs.declared.scalar.Group.TheVariants as group
-use Rattle.smithy_serde.specs.Handing.{IsKept, HandsOut, settled_by, settled_in, AllHanded, HandsAll, Takes, IsAbove}
+use Rattle.smithy_serde.specs.views.Handing.{IsKept, HandsOut, settled_by, settled_in, AllHanded, HandsAll, Takes, IsAbove}
 use Rattle.smithy_serde.specs.Held.{Held, Answer, IsAnswer, walked}
 use Rattle.smithy_serde.specs.Listings.{Slot, Listing, asked}
 use Rattle.smithy_serde.specs.ReadCalls.{Frame, AtHand, Hands, SettlesBy, Opened, NotOpened, Advanced, Closed, Halted, Hidden, Answered, IsRefused, IsRefusedAt}

@@ -1,16 +1,16 @@
 -- A list that is read element by element, and a map of texts that is read entry by entry.
-use Rattle.std.specs.Prelude.{ℕ, map, List, [], ◌∷◌, ◌++◌, Option, option_map, Result}
+use Rattle.std.specs.Prelude.{ℕ, ℤ, map, List, [], ◌∷◌, ◌++◌, Option, option_map, Result}
 use Rattle.smithy_types.specs.Results.{then_try, then_give}
 use Rattle.smithy_types.specs.Maps.{with_value}
 use Rattle.smithy_ids.specs.declared.shape_type.ShapeType.TheVariants as kind
 use Rattle.smithy_schema.specs.Nodes.{Schema}
 use Rattle.smithy_schema.specs.PreludeNodes.{prelude_node}
-use Rattle.smithy_serde.specs.Values.{Scalar, text}
+use Rattle.smithy_serde.specs.Values.{Scalar, whole, integer, text}
 use Rattle.smithy_serde.specs.declared.error.SerdeError.{SerdeError}
 use Rattle.smithy_serde.specs.declared.read_scalar.ScalarKind.{ScalarKind}
 use Rattle.smithy_serde.specs.declared.read_scalar.ScalarKind.TheVariants as of
 use Rattle.smithy_serde.specs.Collecting.{Collects, all_added}
-use Rattle.smithy_serde.specs.Handing.{LeavesAll}
+use Rattle.smithy_serde.specs.views.Handing.{LeavesAll}
 use Rattle.smithy_serde.specs.Held.{Held, Answer}
 use Rattle.smithy_serde.specs.HeldReads.{read_scalar, elements, entries}
 use Rattle.smithy_serde.specs.ReadCalls.{AtHand, Gives, type_of}
@@ -36,6 +36,10 @@ each_at k node held = option_map (λ h. then_try (elements node h) (all_read (re
 pub record ReadsEach {A : Type 0} (f : A → Scalar) (k : ScalarKind) (node : Schema) (old new : AtHand) (result : Result (List A) SerdeError) : Type 0 where
   pub gives : Gives (map f) (each_at k node old.held) result
   pub leaves : LeavesAll old new result
+
+-- each as a number of 32 bits
+abbrev pub ReadsIntegers : Schema → AtHand → AtHand → Result (List ℤ) SerdeError → Type 0
+ReadsIntegers node old new result = ReadsEach (whole integer) of.Integer node old new result
 
 -- one more entry, in byte order of the keys, in place of one with its key
 abbrev pub with_read : List (List ℕ × Scalar) → List ℕ × Scalar → List (List ℕ × Scalar)

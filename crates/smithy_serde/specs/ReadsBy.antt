@@ -1,7 +1,7 @@
 -- How a reader of a type of its own answers.
 use Rattle.std.specs.Prelude.{Result, IfSome}
 use Rattle.smithy_serde.specs.declared.error.SerdeError.{SerdeError}
-use Rattle.smithy_serde.specs.Handing.{Leaves}
+use Rattle.smithy_serde.specs.views.Handing.{Leaves}
 use Rattle.smithy_serde.specs.Held.{Held}
 use Rattle.smithy_serde.specs.ReadCalls.{AtHand}
 

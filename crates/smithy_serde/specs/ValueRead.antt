@@ -25,6 +25,10 @@ write_by node v = record { label = label_of node; value = v }
 abbrev pub entry_by : Schema → Schema → List ℕ → Value → Write × Write
 entry_by k n key v = (write_by k (value.scalar (value.text key)), write_by n v)
 
+-- the node stands at that place of its table
+abbrev pub StandsAt : Schema → ℕ → Type 0
+StandsAt node place = at_place node.table place ≡ Some node
+
 -- a node of the table
 abbrev pub IsPlaced : Table → Schema → Type 0
 IsPlaced table node = (place : ℕ) × (at_place table place ≡ Some node)

@@ -48,16 +48,14 @@ pub struct ValueReader<'t> {
 }
 
 impl StructBuilder<'_> {
-    ghost use Rattle.std.specs.Prelude.{◌≡◌, Some, IfSome, IfNone};
-    ghost use Rattle.smithy_schema.specs.Nodes.{at_place};
+    ghost use Rattle.std.specs.Prelude.{IfSome, IfNone};
     ghost use Rattle.smithy_schema.specs.References.{schema_of};
-    ghost use Rattle.smithy_serde.specs.ValueRead.{IsPlaced};
+    ghost use Rattle.smithy_serde.specs.ValueRead.{StandsAt, IsPlaced};
 
     // The place of a member of the builder's table; none where it is another's.
     pub(crate) fn own_member(&self, member: SchemaRef<'_>) -> Option<SchemaIndex>
         ensures defined { IfSome result (λ i. HasNode self.now.table.now i.0) }
-        ensures place { IfSome result (λ i. at_place (schema_of member.entry).table i.0
-            ≡ Some (schema_of member.entry)) }
+        ensures place { IfSome result (λ i. StandsAt (schema_of member.entry) i.0) }
         ensures another { IfNone result (IsPlaced self.now.table.now (schema_of member.entry) → ⊥) }
     {
         let place = member.index()?;

@@ -1,5 +1,6 @@
 // What makes the requests of a client.
-ghost use Rattle.std.specs.Prelude.{◌≡◌, ℕ, List, Option, option_map, Result, OnErr};
+ghost use Rattle.std.specs.Prelude.{◌≡◌, ℕ, List, Option, Result, OnErr};
+ghost use Rattle.std.specs.Option.{option_copied};
 ghost use Rattle.smithy_ids.specs.declared.shape_id.ShapeId.{ShapeId};
 ghost use Rattle.smithy_schema.specs.Nodes.{Schema};
 ghost use Rattle.smithy_schema.specs.References.{schema_of};
@@ -62,7 +63,6 @@ pub trait ClientProtocolInner {
         endpoint: &Self::Endpoint,
         prefix: Option<&Self::Prefix>,
     ) -> Result<(), SerdeError>
-        ensures by { points self.now request.old endpoint.now
-            (option_map (λ p. p.now) prefix.entry) request.new result }
+        ensures by { points self.now request.old endpoint.now (option_copied prefix.entry) request.new result }
         ensures unchanged { OnErr result (request.new ≡ request.old) };
 }

@@ -1,11 +1,8 @@
 // What takes the items that a reader hands out, and the functions that open, hand out and close.
 ghost use Rattle.std.specs.Prelude.{ℕ, List};
 ghost use Rattle.smithy_schema.specs.Nodes.{Schema};
-ghost use Rattle.smithy_schema.specs.References.{schema_of};
-ghost use Rattle.smithy_serde.specs.declared.scalar.Group.TheVariants as group;
-ghost use Rattle.smithy_serde.specs.Handing.{IsKept, at_members, at_elements, at_entries, Takes, HandsAll};
+ghost use Rattle.smithy_serde.specs.views.Handing.{IsKept, MemberTaken, ElementTaken, EntryTaken, HandsMembers, HandsElements, HandsEntries, LeavesAll};
 ghost use Rattle.smithy_serde.specs.Held.{Held, Answer};
-ghost use Rattle.smithy_serde.specs.Listings.{at_member, at_element, at_key};
 
 use crate::deserializer::ShapeDeserializer;
 use crate::error::SerdeError;
@@ -28,8 +25,7 @@ pub trait MemberConsumer {
         schema: SchemaRef<'_>,
         reader: &mut D,
     ) -> Result<(), SerdeError>
-        ensures { Takes (at_members takes) keeps (at_member (schema_of schema.entry)) self.old self.new
-            (D.at_hand reader.old) (D.at_hand reader.new) result };
+        ensures { MemberTaken takes keeps D.at_hand schema.entry self.old self.new reader.old reader.new result };
 
     /// It is kept over no calls, and over calls in turn.
     ghost laws: { IsKept keeps };
@@ -45,8 +41,7 @@ pub trait ElementConsumer {
 
     /// Takes the element at hand, and leaves the open containers as `member` does.
     fn element<D: ShapeDeserializer>(&mut self, reader: &mut D) -> Result<(), SerdeError>
-        ensures { Takes (at_elements takes) keeps at_element self.old self.new
-            (D.at_hand reader.old) (D.at_hand reader.new) result };
+        ensures { ElementTaken takes keeps D.at_hand self.old self.new reader.old reader.new result };
 
     /// It is kept over no calls, and over calls in turn.
     ghost laws: { IsKept keeps };
@@ -62,8 +57,7 @@ pub trait EntryConsumer {
 
     /// Takes the entry at hand, and leaves the open containers as `member` does.
     fn entry<D: ShapeDeserializer>(&mut self, key: Text, reader: &mut D) -> Result<(), SerdeError>
-        ensures { Takes (at_entries takes) keeps (at_key key) self.old self.new
-            (D.at_hand reader.old) (D.at_hand reader.new) result };
+        ensures { EntryTaken takes keeps D.at_hand key self.old self.new reader.old reader.new result };
 
     /// It is kept over no calls, and over calls in turn.
     ghost laws: { IsKept keeps };
@@ -77,8 +71,9 @@ pub fn read_struct<D: ShapeDeserializer, M: MemberConsumer>(
     schema: SchemaRef<'_>,
     consumer: &mut M,
 ) -> Result<(), SerdeError>
-    ensures { HandsAll (at_members M.takes) M.keeps group.Structure (schema_of schema.entry)
-        consumer.old consumer.new (D.at_hand reader.old) (D.at_hand reader.new) result }
+    ensures handed { HandsMembers M.takes (D.at_hand reader.old) schema.entry consumer.old consumer.new result }
+    ensures kept { M.keeps consumer.old consumer.new }
+    ensures leaves { LeavesAll (D.at_hand reader.old) (D.at_hand reader.new) result }
 {
     reader.open_struct(alloc, schema)?;
     while let Some(member) = reader.next_member(alloc, schema)? {
@@ -97,8 +92,9 @@ pub fn read_list<D: ShapeDeserializer, E: ElementConsumer>(
     schema: SchemaRef<'_>,
     consumer: &mut E,
 ) -> Result<(), SerdeError>
-    ensures { HandsAll (at_elements E.takes) E.keeps group.List (schema_of schema.entry)
-        consumer.old consumer.new (D.at_hand reader.old) (D.at_hand reader.new) result }
+    ensures handed { HandsElements E.takes (D.at_hand reader.old) schema.entry consumer.old consumer.new result }
+    ensures kept { E.keeps consumer.old consumer.new }
+    ensures leaves { LeavesAll (D.at_hand reader.old) (D.at_hand reader.new) result }
 {
     reader.open_list(alloc, schema)?;
     while reader.next_element(alloc)? {
@@ -115,8 +111,9 @@ pub fn read_map<D: ShapeDeserializer, E: EntryConsumer>(
     schema: SchemaRef<'_>,
     consumer: &mut E,
 ) -> Result<(), SerdeError>
-    ensures { HandsAll (at_entries E.takes) E.keeps group.Map (schema_of schema.entry)
-        consumer.old consumer.new (D.at_hand reader.old) (D.at_hand reader.new) result }
+    ensures handed { HandsEntries E.takes (D.at_hand reader.old) schema.entry consumer.old consumer.new result }
+    ensures kept { E.keeps consumer.old consumer.new }
+    ensures leaves { LeavesAll (D.at_hand reader.old) (D.at_hand reader.new) result }
 {
     reader.open_map(alloc, schema)?;
     while let Some(key) = reader.next_entry(alloc)? {

@@ -5,7 +5,7 @@ ghost use Rattle.smithy_serde.specs.Values.{byte, short, integer, long, boolean,
 ghost use Rattle.smithy_serde.specs.declared.scalar.Group.TheVariants as group;
 ghost use Rattle.smithy_serde.specs.declared.read_scalar.ScalarKind.TheVariants as k;
 ghost use Rattle.smithy_serde.specs.Held.{Answer};
-ghost use Rattle.smithy_serde.specs.ListReads.{ReadsEach, ReadsTexts};
+ghost use Rattle.smithy_serde.specs.ListReads.{ReadsEach, ReadsIntegers, ReadsTexts};
 ghost use Rattle.smithy_serde.specs.ReadCalls.{AtHand, IsIn, scalar_of_read, tree, Reads, Skips, OpensAt, NextMember, NextElement, NextEntry, Settles, TellsNull};
 
 use crate::error::SerdeError;
@@ -254,8 +254,7 @@ pub trait ShapeDeserializer {
         alloc: Global,
         schema: SchemaRef<'_>,
     ) -> Result<Integers, SerdeError>
-        ensures { ReadsEach (whole integer) k.Integer (node schema.entry)
-            (at_hand self.old) (at_hand self.new) result }
+        ensures { ReadsIntegers (node schema.entry) (at_hand self.old) (at_hand self.new) result }
     {
         self.open_list(alloc, schema)?;
         let element = SchemaRef::prelude(ShapeType::Integer);

@@ -3,8 +3,8 @@ ghost use Rattle.std.specs.Prelude.{◌≡◌, Some};
 ghost use Rattle.smithy_ids.specs.declared.shape_type.ShapeType.TheVariants as kind;
 ghost use Rattle.smithy_schema.specs.Nodes.{at_place, shape};
 ghost use Rattle.smithy_schema.specs.References.{schema_of};
-ghost use Rattle.smithy_serde.specs.ValueBuilding.{IsPlan};
-ghost use Rattle.smithy_serde.specs.ValueRead.{IsPlaced};
+ghost use Rattle.smithy_serde.specs.views.ValueBuilding.{IsPlan};
+ghost use Rattle.smithy_serde.specs.ValueRead.{StandsAt, IsPlaced};
 
 use crate::read_scalar::ScalarKind;
 use smithy_ids::ShapeType;
@@ -21,7 +21,7 @@ pub(crate) enum Plan {
 // The place of a node that stands in its table.
 fn own_place(node: SchemaRef<'_>) -> SchemaIndex
     requires { IsPlaced (schema_of node).table (schema_of node) }
-    ensures { at_place (schema_of node.entry).table result.0 ≡ Some (schema_of node.entry) }
+    ensures { StandsAt (schema_of node.entry) result.0 }
 {
     match node.index() {
         Some(place) => place,

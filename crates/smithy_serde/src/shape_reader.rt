@@ -4,13 +4,12 @@ ghost use Rattle.smithy_serde.specs.declared.error.SerdeError.{SerdeError};
 ghost use Rattle.smithy_serde.specs.Held.{Held};
 ghost use Rattle.smithy_serde.specs.ReadsBy.{ReadsBy};
 
-use crate::builders::{StructBuilder, ValueReader};
-use crate::consumers::read_struct;
+use crate::builders::ValueReader;
 use crate::deserializer::ShapeDeserializer;
 use crate::error::SerdeError;
 use crate::read_plan::shape_of;
 use crate::struct_value::StructValue;
-use crate::value::WriteList;
+use crate::value_reading::read_struct_value;
 use std::alloc::Global;
 
 /// Reads a value of its own type.
@@ -44,14 +43,7 @@ impl<'t> ShapeReader for ValueReader<'t> {
         let Some(schema) = self.table.get(self.schema) else {
             unreachable!()
         };
-        let mut builder = StructBuilder {
-            alloc,
-            table: self.table,
-            writes: WriteList::new(alloc),
-        };
-        read_struct(alloc, reader, shape_of(schema), &mut builder)?;
-        let StructBuilder { writes, .. } = builder;
-        let writes = writes.in_index_order(self.table)?;
+        let writes = read_struct_value(alloc, reader, self.table, shape_of(schema))?;
         Ok(StructValue::with_writes(self.table, self.schema, writes))
     }
 }

@@ -4,12 +4,13 @@ ghost use Rattle.std.specs.Prelude.{◌≡◌, ◌&&◌, not, true, OnOk};
 ghost use Rattle.smithy_ids.specs.Kinds.{same_kind};
 ghost use Rattle.smithy_ids.specs.declared.shape_type.ShapeType.TheVariants as kind;
 ghost use Rattle.smithy_schema.specs.Nodes.{Table};
-ghost use Rattle.smithy_schema.specs.References.{schema_of};
+ghost use Rattle.smithy_schema.specs.References.{schema_of as node};
 ghost use Rattle.smithy_serde.specs.Values.{scalar as made};
 ghost use Rattle.smithy_serde.specs.StoredValues.{HasNode, IsDefined, value_in, writes_in};
-ghost use Rattle.smithy_serde.specs.ValueBuilding.{list_nodes, map_nodes, struct_table, TakesElement, TakesEntry, TakesMember, ReadsList, ReadsMap, ReadsStructure, ReadsValue};
-ghost use Rattle.smithy_serde.specs.ValueBuilding.{BuildsList, BuildsMap, BuildsStructure};
-ghost use Rattle.smithy_serde.specs.Handing.{Same, same_kept};
+ghost use Rattle.smithy_serde.specs.views.ValueBuilding.{list_nodes, map_nodes, struct_table, TakesElement, TakesEntry, TakesMember, ReadsList, ReadsMap, ReadsValue};
+ghost use Rattle.smithy_serde.specs.views.ValueBuilding.{ReadsElements, ReadsEntries, ReadsMembers};
+ghost use Rattle.smithy_serde.specs.views.Handing.{Same, same_kept};
+ghost use Rattle.smithy_serde.specs.MembersRead.{ReadsStruct};
 ghost use Rattle.smithy_serde.specs.ReadCalls.{scalar_of_read, is_of_kind};
 
 use crate::builders::{ListBuilder, MapBuilder, StructBuilder};
@@ -86,7 +87,7 @@ impl EntryConsumer for MapBuilder<'_> {
 }
 
 impl MapBuilder<'_> {
-    ghost use Rattle.smithy_serde.specs.ValueBuilding.{with_entry};
+    ghost use Rattle.smithy_serde.specs.views.ValueBuilding.{with_entry};
 
     // The key and the value.
     #[tactic(auto, unfolding(crate::specs::StoredValues::value_in, crate::specs::StoredValues::IsDefined))]
@@ -133,8 +134,7 @@ fn read_elements<D: ShapeDeserializer>(
     schema: SchemaRef<'_>,
     consumer: &mut ListBuilder<'_>,
 ) -> Result<(), SerdeError>
-    ensures { BuildsList (schema_of schema.entry) consumer.old consumer.new
-        (D.at_hand reader.old) (D.at_hand reader.new) result }
+    ensures { ReadsElements D.at_hand (node schema.entry) consumer.old consumer.new reader.old reader.new result }
 {
     reader.open_list(alloc, schema)?;
     while reader.next_element(alloc)? {
@@ -151,8 +151,7 @@ fn read_entries<D: ShapeDeserializer>(
     schema: SchemaRef<'_>,
     consumer: &mut MapBuilder<'_>,
 ) -> Result<(), SerdeError>
-    ensures { BuildsMap (schema_of schema.entry) consumer.old consumer.new
-        (D.at_hand reader.old) (D.at_hand reader.new) result }
+    ensures { ReadsEntries D.at_hand (node schema.entry) consumer.old consumer.new reader.old reader.new result }
 {
     reader.open_map(alloc, schema)?;
     while let Some(key) = reader.next_entry(alloc)? {
@@ -163,14 +162,13 @@ fn read_entries<D: ShapeDeserializer>(
 
 // `read_struct` at a `StructBuilder`, inside the recursion.
 #[cycle(read_value)]
-pub(crate) fn read_members<D: ShapeDeserializer>(
+fn read_members<D: ShapeDeserializer>(
     alloc: Global,
     reader: &mut D,
     schema: SchemaRef<'_>,
     consumer: &mut StructBuilder<'_>,
 ) -> Result<(), SerdeError>
-    ensures { BuildsStructure (schema_of schema.entry) consumer.old consumer.new
-        (D.at_hand reader.old) (D.at_hand reader.new) result }
+    ensures { ReadsMembers D.at_hand (node schema.entry) consumer.old consumer.new reader.old reader.new result }
 {
     reader.open_struct(alloc, schema)?;
     while let Some(member) = reader.next_member(alloc, schema)? {
@@ -193,8 +191,7 @@ fn list_value<D: ShapeDeserializer>(
     element: SchemaIndex,
 ) -> Result<ShapeValue, SerdeError>
     requires { HasNode table.now element.0 }
-    ensures { ReadsList table.now (schema_of schema.entry) element.0
-        (D.at_hand reader.old) (D.at_hand reader.new) result }
+    ensures { ReadsList D.at_hand table.now (node schema.entry) element.0 reader.old reader.new result }
 {
     let mut builder = ListBuilder {
         alloc,
@@ -221,8 +218,7 @@ fn map_value<D: ShapeDeserializer>(
 ) -> Result<ShapeValue, SerdeError>
     requires key { HasNode table.now key.0 }
     requires value { HasNode table.now value.0 }
-    ensures { ReadsMap table.now (schema_of schema.entry) key.0 value.0
-        (D.at_hand reader.old) (D.at_hand reader.new) result }
+    ensures { ReadsMap D.at_hand table.now (node schema.entry) key.0 value.0 reader.old reader.new result }
 {
     let mut builder = MapBuilder {
         alloc,
@@ -236,28 +232,28 @@ fn map_value<D: ShapeDeserializer>(
     Ok(ShapeValue::Map(writes))
 }
 
-// The structure at hand, its writes in index order.
+/// Reads the structure at hand by the schema's own members: each member that the reader hands out, by its node. It gives
+/// their writes in index order, or the first refusal that `settle` answers; a member whose refusal is hidden has none.
+/// Condition: the schema stands in the table.
 #[cycle(read_value)]
 #[inline(never)]
-#[tactic(auto, unfolding(crate::specs::StoredValues::value_in, crate::specs::StoredValues::IsDefined))]
-fn structure_value<D: ShapeDeserializer>(
+pub fn read_struct_value<D: ShapeDeserializer>(
     alloc: Global,
     reader: &mut D,
     table: &Schemas,
     schema: SchemaRef<'_>,
-) -> Result<ShapeValue, SerdeError>
-    requires { (schema_of schema).table ≡ table.now }
-    ensures { ReadsStructure table.now (schema_of schema.entry)
-        (D.at_hand reader.old) (D.at_hand reader.new) result }
+) -> Result<WriteList, SerdeError>
+    requires { (node schema).table ≡ table.now }
+    ensures { ReadsStruct table.now (node schema.entry) (D.at_hand reader.old) (D.at_hand reader.new) result }
 {
     let mut builder = StructBuilder {
         alloc,
         table,
         writes: WriteList::new(alloc),
     };
-    read_members(alloc, reader, shape_of(schema), &mut builder)?;
+    read_members(alloc, reader, schema, &mut builder)?;
     let StructBuilder { writes, .. } = builder;
-    Ok(ShapeValue::Struct(writes.in_index_order(table)?))
+    Ok(writes.in_index_order(table)?)
 }
 
 /// Reads the value at hand by a node.
@@ -284,6 +280,9 @@ pub fn read_value<D: ShapeDeserializer>(
         Plan::Scalar(kind) => Ok(stored(reader.read(alloc, schema, kind)?)),
         Plan::List(element) => list_value(alloc, reader, table, schema, element),
         Plan::Map(key, value) => map_value(alloc, reader, table, schema, key, value),
-        Plan::Structure => structure_value(alloc, reader, table, schema),
+        Plan::Structure => {
+            let members = read_struct_value(alloc, reader, table, shape_of(schema))?;
+            Ok(ShapeValue::Struct(members))
+        }
     }
 }

@@ -33,7 +33,7 @@ use Rattle.smithy_serde.specs.declared.value.ShapeValue.{ShapeValue}
 use Rattle.smithy_strings.specs.declared.wire.Place.{Place}
 use Rattle.smithy_strings.specs.declared.wire.Place.TheVariants.{Header}
 use Rattle.smithy_strings.specs.Escapes.{AreBytes}
-use Rattle.smithy_strings.specs.Wire.{wire, scalar_wire, blob_text, string_text, time_format}
+use Rattle.smithy_strings.specs.Wire.{wire, scalar_wire, blob_text, time_format}
 use Rattle.smithy_strings.specs.Unwired.{text_of_bytes, text_of_wire, spelled_wire, is_wire_of, unwired, UnwireIsExact}
 use Rattle.smithy_strings.proofs.Bytes.{AreBytes-from_utf8}
 use Rattle.smithy_strings.proofs.SpelledLemmas.{whole_read_back}
@@ -61,7 +61,7 @@ boolean_back : (b : Bool) → boolean_of_text (if b then codes "true" else codes
 boolean_back true = refl
 boolean_back false = refl
 
-string_back : (media : Bool) (s : List ℕ) → is_utf8 s ≡ true → text_of_wire media (string_text media s) ≡ Some (value.text s)
+string_back : (media : Bool) (s : List ℕ) → is_utf8 s ≡ true → text_of_wire media (if media then base64 s else s) ≡ Some (value.text s)
 string_back true s utf8 = ap (option_and_then (λ bytes. only_if (is_utf8 bytes) (value.text bytes))) (decoded_back s (AreBytes-from_utf8 s utf8)) ∙ ap (λ b. only_if b (value.text s)) utf8
 string_back false s utf8 = refl
 
@@ -89,7 +89,7 @@ spelled_back format media place x k t range is e = subst (λ (o : Option ShapeTy
     by (value.whole w z) range e = let same : signed_decimal z ≡ t = cc e in width_spelled format media place w t ∙ ap (whole_of_text w) (sym same) ∙ whole_read_back w z range
     by (value.big_integer s) range e = let same : s ≡ t = cc e in ap (scalar_of_text kind.BigInteger) (sym same) ∙ ap (λ b. only_if b (value.big_integer s)) range
     by (value.big_decimal s) range e = let same : s ≡ t = cc e in ap (scalar_of_text kind.BigDecimal) (sym same) ∙ ap (λ b. only_if b (value.big_decimal s)) range
-    by (value.text s) range e = let same : string_text media s ≡ t = cc e in ap (text_of_wire media) (sym same) ∙ string_back media s range
+    by (value.text s) range e = let same : (if media then base64 s else s) ≡ t = cc e in ap (text_of_wire media) (sym same) ∙ string_back media s range
     by (value.blob bytes) range e = blob_back place bytes t range e
     by (value.timestamp z) range e = ap (option_map (λ z. value.timestamp z)) (time_back (time_format format place) z t range e)
     by _ range e = absurd (cc e)

@@ -1,5 +1,5 @@
 -- The text of a value in range is UTF-8.
-use Rattle.std.proofs.Common.{◌≡◌, refl, subst, ℕ, Bool, true, false, List, codes, Option, Some}
+use Rattle.std.proofs.Common.{◌≡◌, refl, subst, ℕ, Bool, true, false, List, codes, Option, Some, if◌then◌else◌}
 use Rattle.std.specs.Str.{is_utf8, IsAscii}
 use Rattle.std.specs.Fmt.{signed_decimal}
 use Rattle.std.proofs.lemmas.Fmt.{IsAscii-signed}
@@ -13,7 +13,7 @@ use Rattle.smithy_serde.specs.Ranges.{is_in_range}
 use Rattle.smithy_serde.specs.DocumentOf.{base64}
 use Rattle.smithy_strings.specs.declared.wire.Place.{Place}
 use Rattle.smithy_strings.specs.declared.wire.Place.TheVariants.{Header}
-use Rattle.smithy_strings.specs.Wire.{wire, time_format, blob_text, string_text}
+use Rattle.smithy_strings.specs.Wire.{wire, time_format, blob_text}
 use Rattle.smithy_strings.proofs.AsciiTexts.{IsAscii-from_test, utf8_from_low, big_integer-utf8, big_decimal-utf8}
 use Rattle.smithy_strings.proofs.TimeTexts.{time_form, form_low}
 use Rattle.smithy_strings.proofs.Widths.{long_width, long_magnitude}
@@ -21,7 +21,7 @@ use Rattle.smithy_strings.proofs.Widths.{long_width, long_magnitude}
 pub ascii_utf8 : (text : List ℕ) → IsAscii text → is_utf8 text ≡ true
 ascii_utf8 text ascii = is_utf8-from_IsUtf8 text (IsUtf8-from_ascii text ascii)
 
-string_utf8 : (media : Bool) (t : List ℕ) → is_utf8 t ≡ true → is_utf8 (string_text media t) ≡ true
+string_utf8 : (media : Bool) (t : List ℕ) → is_utf8 t ≡ true → is_utf8 (if media then base64 t else t) ≡ true
 string_utf8 true t e = ascii_utf8 (base64 t) (IsAscii-encode_of standard t)
 string_utf8 false t e = e
 

@@ -6,6 +6,8 @@ use Rattle.std.specs.Str.{IsUtf8}
 use Rattle.smithy_http.specs.HeaderValues.{text_of}
 use Rattle.smithy_http.specs.ListTexts.{list_texts}
 use Rattle.smithy_schema.specs.Nodes.{Schema}
+use Rattle.smithy_schema.specs.References.{schema_of}
+use Rattle.smithy_schema.specs.declared.schema_ref.SchemaRef.{SchemaRef}
 use Rattle.smithy_serde.specs.declared.error.SerdeError.{SerdeError}
 use Rattle.smithy_serde.specs.declared.read_scalar.ReadScalar.{ReadScalar}
 use Rattle.smithy_serde.specs.declared.read_scalar.ScalarKind.{ScalarKind}
@@ -16,7 +18,7 @@ use Rattle.smithy_serde.specs.Held as held
 use Rattle.smithy_serde.specs.Held.{Held}
 use Rattle.smithy_serde.specs.HeldReads.{unread, elements}
 use Rattle.smithy_serde.specs.Listings.{at_element, Listing, listing_of, contents, contents_at, told_at}
-use Rattle.smithy_serde.specs.ReadCalls.{Frame, AtHand, IsRefused, Gives, scalar_of_read, type_of, is_of_kind}
+use Rattle.smithy_serde.specs.ReadCalls.{Frame, AtHand, IsRefused, Reads, OpensAt, Gives, scalar_of_read, type_of, is_of_kind}
 use Rattle.smithy_serde.specs.StringReads.{scalar_of_string}
 use Rattle.smithy_serde.specs.Values as value
 use Rattle.smithy_serde.specs.Values.{Label}
@@ -108,6 +110,13 @@ text_left_of (Some text) is_read None = unread text is_read
 
 abbrev pub text_left : HttpStringDeserializer → Option (List ℕ)
 text_left d = text_left_of d.input d.is_read d.list
+
+-- a read as the kind, and the opening of what is at hand, with a node
+abbrev pub ReadsString : ScalarKind → SchemaRef → HttpStringDeserializer → HttpStringDeserializer → Result ReadScalar SerdeError → Type 0
+ReadsString k schema old new result = Reads scalar_of_read k (schema_of schema) (string_at_hand old) (string_at_hand new) result
+
+abbrev pub OpensString : {U : Type 0} → Group → SchemaRef → HttpStringDeserializer → HttpStringDeserializer → Result U SerdeError → Type 0
+OpensString g schema old new result = OpensAt g (schema_of schema) (string_at_hand old) (string_at_hand new) result
 
 -- a text that is left is read as the kind
 pub record ReadsLeft (k : ScalarKind) (text : Option (List ℕ)) (result : Result ReadScalar SerdeError) : Type 0 where

@@ -19,7 +19,7 @@ use Rattle.smithy_serde.specs.Values.{Scalar}
 use Rattle.smithy_serde.specs.Writes.{only_if}
 use Rattle.smithy_serde.specs.declared.value.ShapeValue.{ShapeValue}
 use Rattle.smithy_strings.specs.declared.wire.Place.{Place}
-use Rattle.smithy_strings.specs.Wire.{scalar_wire, time_format}
+use Rattle.smithy_strings.specs.Wire.{wire, scalar_wire, time_format}
 
 -- bytes as a text
 abbrev pub text_of_bytes : List ℕ → Option Scalar
@@ -56,6 +56,11 @@ member_scalar s place text = unwired s.node.traits.timestamp_format (is_some s.n
 -- the stored value is this scalar, or there is none
 abbrev pub StoresScalar : Option Scalar → Option ShapeValue → Type 0
 StoresScalar x o = (t : Table) → option_map (value_in t) o ≡ option_map (λ s. value.scalar s) x
+
+-- whether the text is the stored value's, whatever the table
+abbrev pub TellsText : Option TimestampFormat → Bool → Place → ShapeValue → List ℕ → Bool → Type 0
+TellsText format has_media_type place v text tells =
+    (t : Table) → tells ≡ option_map_or (λ s. same_text s text) (wire format has_media_type place (value_in t v)) false
 
 -- A scalar in range is read back from its text, for its kind and place, and what is read is a scalar of the kind with that text.
 pub record Unwires (format : Option TimestampFormat) (has_media_type : Bool) (place : Place) (k : ShapeType) (text : List ℕ) (read : Option Scalar) : Type 0 where

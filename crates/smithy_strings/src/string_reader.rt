@@ -1,12 +1,11 @@
 // The string codec's reader.
 ghost use Rattle.std.specs.Prelude.{◌≡◌, Some, Ok, false, IfOk, IfErr, OnErr, MatchOption, option_copied, length};
-ghost use Rattle.smithy_schema.specs.References.{schema_of as node};
 ghost use Rattle.smithy_serde.specs.Held as held;
 ghost use Rattle.smithy_serde.specs.Unchanged.{DoesNothing};
-ghost use Rattle.smithy_serde.specs.ReadCalls.{scalar_of_read, Reads, OpensAt, Begins};
+ghost use Rattle.smithy_serde.specs.ReadCalls.{Begins};
 ghost use Rattle.smithy_serde.specs.declared.error.SerdeError.TheVariants.{OutOfMemory as NoMemory};
 ghost use Rattle.smithy_strings.specs.ReadingRefusals.{not_utf8 as not_utf8_refusal};
-ghost use Rattle.smithy_strings.specs.StringReading.{string_at_hand, Leaves, CanOpen, RefusesOpening, listed_texts, text_left, texts_in, texts_left, used_up, used_by, passed_over, kept};
+ghost use Rattle.smithy_strings.specs.StringReading.{string_at_hand, ReadsString, OpensString, Leaves, CanOpen, RefusesOpening, listed_texts, text_left, texts_in, texts_left, used_up, used_by, passed_over, kept};
 
 use crate::input_text::InputText;
 use crate::reading_refusals::{no_container, no_list, not_utf8};
@@ -158,8 +157,7 @@ impl ShapeDeserializer for HttpStringDeserializer {
         schema: SchemaRef<'_>,
         kind: ScalarKind,
     ) -> Result<ReadScalar, SerdeError>
-        ensures reads { Reads scalar_of_read kind (node schema.entry)
-            (string_at_hand self.old) (string_at_hand self.new) result }
+        ensures reads { ReadsString kind schema.entry self.old self.new result }
         ensures left { Leaves (used_by kind) self.old self.new }
     {
         if self.input.is_none() {
@@ -177,8 +175,7 @@ impl ShapeDeserializer for HttpStringDeserializer {
         _schema: SchemaRef<'_>,
         group: Group,
     ) -> Result<(), SerdeError>
-        ensures opens { OpensAt group (node _schema.entry)
-            (string_at_hand self.old) (string_at_hand self.new) result }
+        ensures opens { OpensString group _schema.entry self.old self.new result }
         ensures left { OnErr result (Leaves kept self.old self.new) }
     {
         if let Some(refusal) = self.opening_refusal(alloc, group) {

@@ -1,9 +1,7 @@
 // Scalars, read from their texts where they are bound.
-ghost use Rattle.std.specs.Prelude.{◌≡◌, false, IfOk, option_and_then};
-ghost use Rattle.std.specs.Option.{option_map_or};
+ghost use Rattle.std.specs.Prelude.{◌≡◌, IfOk, option_and_then};
 ghost use Rattle.base64.specs.Engines.{standard};
 ghost use Rattle.base64.specs.GeneralPurpose.{decoded_of};
-ghost use Rattle.smithy_types.specs.Texts.{same_text};
 ghost use Rattle.smithy_schema.specs.Nodes.{Table};
 ghost use Rattle.smithy_schema.specs.References.{schema_of};
 ghost use Rattle.smithy_serde.specs.ReadCalls.{type_of, scalar_of_read};
@@ -11,8 +9,7 @@ ghost use Rattle.smithy_serde.specs.StoredValues.{value_in};
 ghost use Rattle.smithy_serde.specs.TextReads.{scalar_of_text as spelled_by};
 ghost use Rattle.smithy_serde.specs.Values.{scalar as scalar_value};
 ghost use Rattle.smithy_serde.specs.Writes.{only_if};
-ghost use Rattle.smithy_strings.specs.Unwired.{StoresScalar, member_scalar, unwired, spelled_wire, text_of_wire, text_of_bytes, time_of_wire};
-ghost use Rattle.smithy_strings.specs.Wire.{wire};
+ghost use Rattle.smithy_strings.specs.Unwired.{StoresScalar, TellsText, member_scalar, unwired, spelled_wire, text_of_wire, text_of_bytes, time_of_wire};
 
 use crate::spelled::scalar_of_text;
 use crate::wire::{Place, format_in, text_or_none, time_format};
@@ -80,8 +77,7 @@ fn has_text(
     value: &ShapeValue,
     text: &str,
 ) -> Result<bool, OutOfMemory>
-    ensures { IfOk result (λ b. (t : Table) →
-        b ≡ option_map_or (λ s. same_text s text.now) (wire format has_media_type place (value_in t value.now)) false) }
+    ensures { IfOk result (TellsText format has_media_type place value.now text.now) }
 {
     match text_or_none(alloc, format, has_media_type, place, value)? {
         Some(own) => Ok(own.as_str() == text),

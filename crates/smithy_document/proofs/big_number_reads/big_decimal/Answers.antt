@@ -1,5 +1,4 @@
-use Rattle.std.proofs.Common.{sym}
-use Rattle.smithy_types.specs.DocumentView.{view}
+use Rattle.smithy_document.proofs.Common.{sym, view}
 use Rattle.smithy_document.proofs.BigLemmas.{is_string}
 use Rattle.smithy_document.proofs.big_number_reads.big_decimal.Goals as goal
 

@@ -1,6 +1,4 @@
-use Rattle.std.proofs.Common.{sym, ◌∙◌}
-use Rattle.smithy_serde.specs.DocumentReads.{big_decimal_of_text}
-use Rattle.smithy_serde.specs.Values.{big_decimal}
+use Rattle.smithy_document.proofs.Common.{sym, ◌∙◌, big_decimal_of_text, big_decimal}
 use Rattle.smithy_document.proofs.BigLemmas.{gives_memory, decimal_given, decimal_none}
 use Rattle.smithy_document.proofs.big_number_reads.decimal_of_text.Goals as goal
 

@@ -1,4 +1,4 @@
-use Rattle.smithy_types.specs.DocumentView.{view}
+use Rattle.smithy_document.proofs.Common.{view}
 use Rattle.smithy_document.proofs.BigLemmas.{is_number, is_neither}
 use Rattle.smithy_document.proofs.big_number_reads.integer_of_other.Goals as goal
 

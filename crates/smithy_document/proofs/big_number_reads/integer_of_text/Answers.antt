@@ -1,6 +1,4 @@
-use Rattle.std.proofs.Common.{sym, ◌∙◌}
-use Rattle.smithy_serde.specs.DocumentReads.{big_integer_of_text}
-use Rattle.smithy_serde.specs.Values.{big_integer}
+use Rattle.smithy_document.proofs.Common.{sym, ◌∙◌, big_integer_of_text, big_integer}
 use Rattle.smithy_document.proofs.BigLemmas.{gives_memory, none_passes, integer_given}
 use Rattle.smithy_document.proofs.big_number_reads.integer_of_text.Goals as goal
 

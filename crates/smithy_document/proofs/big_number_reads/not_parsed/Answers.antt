@@ -1,5 +1,4 @@
-use Rattle.std.proofs.Common.{◌∙◌, ap, inl, append_assoc}
-use Rattle.smithy_serde.specs.declared.error.SerdeError.TheVariants.{InvalidInput}
+use Rattle.smithy_document.proofs.Common.{◌∙◌, ap, inl, append_assoc, InvalidInput}
 use Rattle.smithy_document.proofs.big_number_reads.not_parsed.Goals as goal
 
 pub returns-in-Ok : goal.returns-in-Ok

@@ -1,7 +1,4 @@
-use Rattle.std.proofs.Common.{◌≡◌, ◌==◌, ◌-◌, ◌^◌, ◌≤◌, min, ◌∙◌, ap, subst, sym}
-use Rattle.std.specs.List.{before_first, after_first}
-use Rattle.std.specs.Str.Parse.{digits_value, digits_value_after}
-use Rattle.smithy_types.specs.BigNumbers.{mantissa_of}
+use Rattle.smithy_document.proofs.Common.{◌≡◌, ◌==◌, ◌-◌, ◌^◌, ◌≤◌, min, ◌∙◌, ap, subst, sym, before_first, after_first, digits_value, digits_value_after, mantissa_of}
 use Rattle.smithy_document.proofs.Truncations.{has_parts, coefficient_read}
 use Rattle.smithy_document.proofs.decimal_parts.coefficient.Goals as goal
 

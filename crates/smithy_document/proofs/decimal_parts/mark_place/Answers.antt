@@ -1,5 +1,4 @@
-use Rattle.std.proofs.Common.{◌≡◌, position, None, sym}
-use Rattle.smithy_types.specs.BigNumbers.{is_exponent_mark}
+use Rattle.smithy_document.proofs.Common.{◌≡◌, position, None, sym, is_exponent_mark}
 use Rattle.smithy_types.proofs.Positions.{length-position}
 use Rattle.smithy_document.proofs.decimal_parts.mark_place.Goals as goal
 

@@ -1,4 +1,4 @@
-use Rattle.std.proofs.Common.{◌≡◌, ◌==◌, position, None, sym}
+use Rattle.smithy_document.proofs.Common.{◌≡◌, ◌==◌, position, None, sym}
 use Rattle.smithy_types.proofs.Positions.{length-position}
 use Rattle.smithy_document.proofs.decimal_parts.point_place.Goals as goal
 

@@ -1,7 +1,4 @@
-use Rattle.std.proofs.Common.{◌-◌, ◌^◌, min, ap, ◌∙◌, arith}
-use Rattle.std.specs.Str.Parse.{digits_value_after}
-use Rattle.std.proofs.lemmas.List.{take_all}
-use Rattle.smithy_types.proofs.Coefficients.{digit_at}
+use Rattle.smithy_document.proofs.Common.{◌-◌, ◌^◌, min, ap, ◌∙◌, arith, digits_value_after, take_all, digit_at}
 use Rattle.smithy_document.proofs.DigitLemmas.{read_more}
 use Rattle.smithy_document.proofs.decimal_parts.read_on.Goals as goal
 

@@ -1,5 +1,4 @@
-use Rattle.std.proofs.Common.{◌≡◌, ◌-◌, ◌^◌, min, take}
-use Rattle.std.specs.Str.Parse.{digits_value_after}
+use Rattle.smithy_document.proofs.Common.{◌≡◌, ◌-◌, ◌^◌, min, take, digits_value_after}
 use Rattle.smithy_document.proofs.decimal_parts.read_on.Given as goal
 
 abbrev pub invariant-loop-b : goal.invariant-loop-b

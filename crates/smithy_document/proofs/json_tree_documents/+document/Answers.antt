@@ -1,7 +1,4 @@
-use Rattle.std.proofs.Common.{◌<◌, ◌*◌, ◌∙◌, arith}
-use Rattle.smithy_types.specs.Documents.{nesting}
-use Rattle.smithy_types.specs.DocumentView.{members_view}
-use Rattle.smithy_document.specs.JsonTree.{node_view}
+use Rattle.smithy_document.proofs.Common.{◌<◌, ◌*◌, ◌∙◌, arith, nesting, members_view, node_view}
 use Rattle.smithy_document.proofs.TreeDocuments.{nested_item, ordered_item, one_more, nested_field, ordered_field, put_no_field, put_field, put_all_fields}
 use Rattle.smithy_document.proofs.json_tree_documents.+document.Goals as goal
 

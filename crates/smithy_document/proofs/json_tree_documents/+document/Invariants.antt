@@ -1,7 +1,4 @@
-use Rattle.std.proofs.Common.{◌≡◌, ◌*◌, ◌+◌, drop, take}
-use Rattle.smithy_types.specs.Documents.{nesting, items_nesting, members_nesting}
-use Rattle.smithy_types.specs.DocumentView.{items_view, members_view}
-use Rattle.smithy_document.specs.JsonTree.{node_view, nodes_view, fields_view}
+use Rattle.smithy_document.proofs.Common.{◌≡◌, ◌*◌, ◌+◌, drop, take, nesting, items_nesting, members_nesting, items_view, members_view, node_view, nodes_view, fields_view}
 use Rattle.smithy_document.proofs.TreeDocuments.{put_fields}
 use Rattle.smithy_document.proofs.json_tree_documents.+document.Given as goal
 

@@ -1,5 +1,4 @@
-use Rattle.std.proofs.Common.{◌<◌, ◌*◌, [], ◌∷◌, refl, arith}
-use Rattle.serde_json.specs.Data.{depth}
+use Rattle.smithy_document.proofs.Common.{◌<◌, ◌*◌, [], ◌∷◌, refl, arith, depth}
 use Rattle.smithy_json.specs.JsonView.{view}
 use Rattle.smithy_document.proofs.JsonTreeLemmas.{null_found, bool_found, number_found, text_found, array_found, object_found, item_depth, item_ordered, no_items, one_item, all_items, member_depth, member_ordered, one_field, all_fields}
 use Rattle.smithy_document.proofs.TreeDocuments.{grows_not, grows_on}
@@ -15,7 +14,7 @@ pub node_of-returns-in-Some-clause-is : goal.node_of-returns-in-Some-clause-is
 node_of-returns-in-Some-clause-is t c = number_found _ c.in-Number.number _ _ c.in-Number.is c.in-Some.ensures
 
 pub node_of-returns-in_ok-push-in-String-clause-is : goal.node_of-returns-in_ok-push-in-String-clause-is
-node_of-returns-in_ok-push-in-String-clause-is t c = text_found _ c.in-String.text _ _ _ c.in-String.is c.in_ok-push-in-String.ensures.ok c.in_ok-push-in-String.ensures.place
+node_of-returns-in_ok-push-in-String-clause-is t c = text_found _ c.in-String.text _ _ _ c.in-String.is c.in_ok-push-in-String.ensures.ok c.in_ok-push-in-String.ensures.position
 
 pub node_of-returns-in_ok-nodes_of-in-Array-clause-is : goal.node_of-returns-in_ok-nodes_of-in-Array-clause-is
 node_of-returns-in_ok-nodes_of-in-Array-clause-is t c = array_found _ c.in-Array.items _ _ c.in-Array.is c.in_ok-nodes_of-in-Array.ensures.are
@@ -62,10 +61,10 @@ fields_of-node_of-requires t c =
 pub fields_of-members-preserved : goal.fields_of-members-preserved
 fields_of-members-preserved t c =
     let l = c.members in
-    let name = c.in_ok-place.ensures in
+    let name = c.in_ok-position.ensures in
     let one = c.in_ok-node_of.ensures in (
       grows_on _ _ _ l.invariant.0 (grows_on l.texts c.push.new.self c.node_of.new.texts (c.member-item.result.0.now ∷ [], name.ok) one.grows),
-      one_field c.args.members.now.items l.member-index c.member-item.result l.found.items _ c.in_ok-place.place c.in_ok-node_of.field-0 l.texts c.push.new.self c.node_of.new.texts (rw c.deref-member-items.ensures.value at c.members-test.true) (rw c.deref-member-items.ensures.value at c.member-item.is) c.in_ok-push.ensures.items name.ok name.place one.grows l.invariant.1 one.is,
+      one_field c.args.members.now.items l.member-index c.member-item.result l.found.items _ c.in_ok-position.position c.in_ok-node_of.field-0 l.texts c.push.new.self c.node_of.new.texts (rw c.deref-member-items.ensures.value at c.members-test.true) (rw c.deref-member-items.ensures.value at c.member-item.is) c.in_ok-push.ensures.items name.ok name.position one.grows l.invariant.1 one.is,
     )
 
 pub fields_of-returns-clause-are : goal.fields_of-returns-clause-are

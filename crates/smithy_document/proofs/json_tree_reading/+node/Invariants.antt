@@ -1,7 +1,5 @@
-use Rattle.std.proofs.Common.{◌*◌, ◌+◌}
-use Rattle.serde_json.specs.Data.{depth, items_depth, members_depth}
+use Rattle.smithy_document.proofs.Common.{◌*◌, ◌+◌, depth, items_depth, members_depth, Grows}
 use Rattle.smithy_json.specs.JsonView.{view, items_view, members_view}
-use Rattle.smithy_document.specs.JsonTree.{Grows}
 use Rattle.smithy_document.proofs.JsonTreeLemmas.{ItemsFound, FieldsFound}
 use Rattle.smithy_document.proofs.json_tree_reading.+node.Given as goal
 

@@ -1,6 +1,5 @@
-use Rattle.std.proofs.Common.{◌≡◌, [], Some, option_and_then, sym, ap, ◌∙◌, append-nil}
-use Rattle.smithy_json.specs.FromData.{of_data}
-use Rattle.smithy_document.specs.JsonTree.{node_view}
+use Rattle.std.proofs.Common.{append-nil}
+use Rattle.smithy_document.proofs.Common.{◌≡◌, [], Some, option_and_then, sym, ap, ◌∙◌, of_data, node_view}
 use Rattle.smithy_document.proofs.json_tree_reading.tree_of_text.Goals as goal
 
 pub returns : goal.returns

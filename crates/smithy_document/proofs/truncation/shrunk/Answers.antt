@@ -1,4 +1,4 @@
-use Rattle.std.proofs.Common.{arith}
+use Rattle.smithy_document.proofs.Common.{arith}
 use Rattle.smithy_document.proofs.Truncations.{ten_positive}
 use Rattle.smithy_document.proofs.truncation.shrunk.Goals as goal
 

@@ -1,5 +1,4 @@
-use Rattle.std.proofs.Common.{◌∙◌, ap, inl, append_assoc}
-use Rattle.smithy_serde.specs.declared.error.SerdeError.TheVariants.{Custom}
+use Rattle.smithy_document.proofs.Common.{◌∙◌, ap, inl, append_assoc, Custom}
 use Rattle.smithy_document.proofs.truncation.too_large.Goals as goal
 
 pub returns-in-Ok : goal.returns-in-Ok

@@ -1,11 +1,4 @@
-use Rattle.std.proofs.Common.{ℕ, List, Some, Ok, FitsSigned, subst, rules}
-use Rattle.std.specs.Fmt.{signed_decimal}
-use Rattle.std.specs.Int.{w128}
-use Rattle.std.proofs.lemmas.Int.{to_z-of_z}
-use Rattle.smithy_serde.specs.ReadCalls.{Gives}
-use Rattle.smithy_serde.specs.Refusals.{IsRefusal}
-use Rattle.smithy_serde.specs.Values.{big_integer}
-use Rattle.smithy_document.specs.Scaling.{too_large}
+use Rattle.smithy_document.proofs.Common.{ℕ, List, Some, Ok, FitsSigned, subst, rules, signed_decimal, w128, to_z-of_z, Gives, IsRefusal, big_integer, too_large}
 use Rattle.smithy_document.proofs.BigLemmas.{part_of, part_too_large}
 use Rattle.smithy_document.proofs.truncation.truncated.Goals as goal
 

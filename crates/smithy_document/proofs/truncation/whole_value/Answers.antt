@@ -1,8 +1,4 @@
-use Rattle.std.proofs.Common.{◌≡◌, ◌∙◌, ap, sym, rules, arith, to_z, of_z, FitsSigned}
-use Rattle.std.specs.Int.{w128}
-use Rattle.std.proofs.lemmas.Int.{to_z-of_z}
-use Rattle.smithy_serde.specs.DocumentReads.{whole_text, is_negative}
-use Rattle.smithy_document.specs.Scaling.{scaled, whole_part}
+use Rattle.smithy_document.proofs.Common.{◌≡◌, ◌∙◌, ap, sym, rules, arith, to_z, of_z, FitsSigned, w128, to_z-of_z, whole_text, is_negative, scaled, whole_part}
 use Rattle.smithy_document.proofs.Truncations.{valued, wide, none_over}
 use Rattle.smithy_document.proofs.truncation.whole_value.Goals as goal
 

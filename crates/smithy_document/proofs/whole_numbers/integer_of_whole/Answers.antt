@@ -1,7 +1,4 @@
-use Rattle.std.proofs.Common.{◌≡◌, ◌∙◌, ap, sym, false}
-use Rattle.std.proofs.lemmas.Bool.{false≢true}
-use Rattle.smithy_types.specs.BigNumbers.{is_big_integer_in_range}
-use Rattle.smithy_serde.specs.Values.{big_integer}
+use Rattle.smithy_document.proofs.Common.{◌≡◌, ◌∙◌, ap, sym, false, false≢true, is_big_integer_in_range, big_integer}
 use Rattle.smithy_document.proofs.BigLemmas.{none_passes, passed}
 use Rattle.smithy_document.proofs.WholeTexts.{integer_in_range, written}
 use Rattle.smithy_document.proofs.whole_numbers.integer_of_whole.Goals as goal

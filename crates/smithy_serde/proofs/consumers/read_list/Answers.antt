@@ -1,5 +1,5 @@
 use Rattle.std.proofs.Common.{rules, refl}
-use Rattle.smithy_serde.specs.Handing.{at_elements}
+use Rattle.smithy_serde.specs.views.Handing.{at_elements}
 use Rattle.smithy_serde.proofs.ReadWalk.{not_opened, begins, halted, stopped, taken}
 use Rattle.smithy_serde.proofs.consumers.read_list.Goals as goal
 

@@ -1,6 +1,6 @@
 use Rattle.smithy_schema.specs.References.{schema_of}
 use Rattle.smithy_serde.specs.declared.scalar.Group.TheVariants as group
-use Rattle.smithy_serde.specs.Handing.{at_elements}
+use Rattle.smithy_serde.specs.views.Handing.{at_elements}
 use Rattle.smithy_serde.proofs.ReadWalk.{Walking, still_left}
 use Rattle.smithy_serde.proofs.consumers.read_list.Given as goal
 

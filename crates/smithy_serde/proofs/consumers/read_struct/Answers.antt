@@ -1,5 +1,5 @@
 use Rattle.std.proofs.Common.{rules}
-use Rattle.smithy_serde.specs.Handing.{at_members}
+use Rattle.smithy_serde.specs.views.Handing.{at_members}
 use Rattle.smithy_serde.proofs.ReadWalk.{not_opened, begins, halted, taken, hidden, answered}
 use Rattle.smithy_serde.proofs.consumers.read_struct.Goals as goal
 

@@ -1,10 +1,12 @@
-use Rattle.std.proofs.Common.{rules, refl, sym, subst, ap}
+use Rattle.std.proofs.Common.{rules, refl, sym, subst, ap, ◌∙◌}
+use Rattle.smithy_schema.specs.Nodes.{Schema}
 use Rattle.smithy_schema.specs.References.{schema_of}
-use Rattle.smithy_serde.specs.Handing.{same_kept, at_elements, at_entries, at_members}
+use Rattle.smithy_serde.specs.views.Handing.{same_kept, at_elements, at_entries, at_members}
 use Rattle.smithy_serde.specs.StoredValues.{AreDefined}
-use Rattle.smithy_serde.specs.ValueBuilding.{list_nodes, map_nodes, struct_table, TakesElement, TakesEntry, TakesMember}
+use Rattle.smithy_serde.specs.views.ValueBuilding.{list_nodes, map_nodes, struct_table, TakesElement, TakesEntry, TakesMember}
 use Rattle.smithy_serde.proofs.BuilderItems.{element_taken, element_refused, entry_taken, entry_refused, member_taken, member_refused}
-use Rattle.smithy_serde.proofs.ReadValue.{at_node, value_null, value_scalar, value_scalar_err, value_planned, list_value, list_value_err, map_value, map_value_err, structure_value, structure_value_err, at_place_table, placed_here, has_node_at}
+use Rattle.smithy_serde.proofs.MembersReading.{members_read, members_refused}
+use Rattle.smithy_serde.proofs.ReadValue.{at_node, value_null, value_scalar, value_scalar_err, value_planned, list_value, list_value_err, map_value, map_value_err, structure_value, structure_value_err, shape_here, placed_here, has_node_at}
 use Rattle.smithy_serde.proofs.ReadWalk.{not_opened, begins, halted, stopped, taken, hidden, answered}
 use Rattle.smithy_serde.proofs.value_reading.+read_value.Goals as goal
 
@@ -63,7 +65,7 @@ pub MapBuilderEntryConsumer::entry-returns : goal.MapBuilderEntryConsumer::entry
 MapBuilderEntryConsumer::entry-returns g t c = entry_taken c.args.self.now _ _ _ _ _ c.in_ok-value.ensures c.in_ok-push.ensures.ok c.push.ensures.same
 
 pub StructBuilderMemberConsumer::member-returns-in_err-value : goal.StructBuilderMemberConsumer::member-returns-in_err-value
-StructBuilderMemberConsumer::member-returns-in_err-value g t c = let whole = member_refused c.args.self.now c.args.self.now (schema_of c.args.schema) _ _ _ _ c.in-Some.ensures.place c.in_err-value.ensures refl in search rules
+StructBuilderMemberConsumer::member-returns-in_err-value g t c = let whole = member_refused c.args.self.now (schema_of c.args.schema) _ _ _ _ c.in-Some.ensures.place c.in_err-value.ensures in search rules
 
 pub StructBuilderMemberConsumer::member-returns : goal.StructBuilderMemberConsumer::member-returns
 StructBuilderMemberConsumer::member-returns g t c = member_taken c.args.self.now _ (schema_of c.args.schema) _ _ _ _ c.in-Some.ensures.place c.in_ok-value.ensures (c.in_ok-push.ensures.ok c.args.self.now.table.now) refl
@@ -120,16 +122,14 @@ map_value-returns g t c =
     let defined = subst (λ u. AreDefined u c.read_entries.new.consumer.writes) (ap (λ p. p.0) c.in_ok-read_entries.ensures.kept) c.read_entries.new.consumer.defined in
     λ k m there there_2. map_value (schema_of c.args.schema) k m _ _ _ _ c.in_ok-read_entries.ensures there there_2 (c.new.ensures.writes c.args.table.now) defined
 
-pub structure_value-returns-in_err-read_members : goal.structure_value-returns-in_err-read_members
-structure_value-returns-in_err-read_members g t c =
-    let all = rw c.shape_of.ensures at c.in_err-read_members.ensures in
-    let whole = structure_value_err (schema_of c.args.schema) _ _ _ _ _ all (sym c.requires) (c.new.ensures.writes c.args.table.now) in search rules
+pub read_struct_value-returns-in_err-read_members : goal.read_struct_value-returns-in_err-read_members
+read_struct_value-returns-in_err-read_members g t c =
+    let whole = members_refused (schema_of c.args.schema) _ _ _ _ (sym c.requires) (c.new.ensures.writes c.args.table.now) _ c.in_err-read_members.ensures in search rules
 
-pub structure_value-returns : goal.structure_value-returns
-structure_value-returns g t c =
-    let all = rw c.shape_of.ensures at c.in_ok-read_members.ensures in
+pub read_struct_value-returns : goal.read_struct_value-returns
+read_struct_value-returns g t c =
     let defined = subst (λ u. AreDefined u c.read_members.new.consumer.writes) c.in_ok-read_members.ensures.kept c.read_members.new.consumer.defined in
-    structure_value (schema_of c.args.schema) _ _ _ _ _ all (sym c.requires) (c.new.ensures.writes c.args.table.now) c.in_ok-in_index_order.ensures.order (c.in_ok-in_index_order.ensures.defined c.args.table.now defined)
+    members_read (schema_of c.args.schema) _ _ _ _ (sym c.requires) (c.new.ensures.writes c.args.table.now) _ c.in_ok-read_members.ensures c.in_ok-in_index_order.ensures.order (c.in_ok-in_index_order.ensures.defined c.args.table.now defined)
 
 pub read_value-list_value-requires : goal.read_value-list_value-requires
 read_value-list_value-requires g t c =
@@ -154,10 +154,21 @@ read_value-returns-in-Map g t c =
     value_planned c.args.table.now c.args.node.0 _ _ _ _ _ _ _ _ c.in-Some.ensures.node (at_node c.shape_type-kind.ensures c.is_null.ensures c.reads_null.ensures) c.if-reads_null.false p.4
     (c.map_value.ensures p.0 p.1 (placed_here c.args.table.now c.args.node.0 _ _ _ c.in-Some.ensures.node p.2) (placed_here c.args.table.now c.args.node.0 _ _ _ c.in-Some.ensures.node p.3))
 
-pub read_value-structure_value-requires : goal.read_value-structure_value-requires
-read_value-structure_value-requires g t c = let table = at_place_table c.args.table.now c.args.node.0 _ (sym c.in-Some.ensures.node) in search rules
+pub read_value-read_struct_value-requires : goal.read_value-read_struct_value-requires
+read_value-read_struct_value-requires g t c =
+    let table = shape_here c.args.table.now c.args.node.0 _ c.in-Some.ensures.node in
+    let here = ap (λ (s : Schema). s.table) c.shape_of.ensures ∙ table in search rules
 
-pub read_value-returns-in-Structure : goal.read_value-returns-in-Structure
-read_value-returns-in-Structure g t c =
+pub read_value-returns-in_err-members-in-Structure : goal.read_value-returns-in_err-members-in-Structure
+read_value-returns-in_err-members-in-Structure g t c =
     let p = rw c.in-Structure.is at c.plan_of.ensures in
-    value_planned c.args.table.now c.args.node.0 _ _ _ _ _ _ _ _ c.in-Some.ensures.node (at_node c.shape_type-kind.ensures c.is_null.ensures c.reads_null.ensures) c.if-reads_null.false p c.structure_value.ensures
+    let members = rw c.shape_of.ensures at c.in_err-members-in-Structure.ensures in
+    let whole = value_planned c.args.table.now c.args.node.0 _ _ _ _ _ _ _ _ c.in-Some.ensures.node (at_node c.shape_type-kind.ensures c.is_null.ensures c.reads_null.ensures) c.if-reads_null.false p
+    (structure_value_err c.args.table.now _ _ _ _ members) in search rules
+
+pub read_value-returns-in_ok-members-in-Structure : goal.read_value-returns-in_ok-members-in-Structure
+read_value-returns-in_ok-members-in-Structure g t c =
+    let p = rw c.in-Structure.is at c.plan_of.ensures in
+    let members = rw c.shape_of.ensures at c.in_ok-members-in-Structure.ensures in
+    value_planned c.args.table.now c.args.node.0 _ _ _ _ _ _ _ _ c.in-Some.ensures.node (at_node c.shape_type-kind.ensures c.is_null.ensures c.reads_null.ensures) c.if-reads_null.false p
+    (structure_value c.args.table.now _ _ _ _ members)

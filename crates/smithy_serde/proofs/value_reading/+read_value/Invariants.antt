@@ -1,8 +1,8 @@
 use Rattle.std.proofs.Common.{◌+◌, ◌*◌}
 use Rattle.smithy_schema.specs.References.{schema_of}
 use Rattle.smithy_serde.specs.declared.scalar.Group.TheVariants as group
-use Rattle.smithy_serde.specs.ValueBuilding.{list_nodes, map_nodes, struct_table, TakesElement, TakesEntry, TakesMember}
-use Rattle.smithy_serde.specs.Handing.{Same, at_elements, at_entries, at_members}
+use Rattle.smithy_serde.specs.views.ValueBuilding.{list_nodes, map_nodes, struct_table, TakesElement, TakesEntry, TakesMember}
+use Rattle.smithy_serde.specs.views.Handing.{Same, at_elements, at_entries, at_members}
 use Rattle.smithy_serde.proofs.ReadWalk.{Walking, still_left}
 use Rattle.smithy_serde.proofs.value_reading.+read_value.Given as goal
 
@@ -33,8 +33,8 @@ decreases-list_value g l = 4 * (g.D.ShapeDeserializer.at_hand l.reader.now).leve
 abbrev pub decreases-map_value : goal.decreases-map_value
 decreases-map_value g l = 4 * (g.D.ShapeDeserializer.at_hand l.reader.now).levels + 1
 
-abbrev pub decreases-structure_value : goal.decreases-structure_value
-decreases-structure_value g l = 4 * (g.D.ShapeDeserializer.at_hand l.reader.now).levels + 1
+abbrev pub decreases-read_struct_value : goal.decreases-read_struct_value
+decreases-read_struct_value g l = 4 * (g.D.ShapeDeserializer.at_hand l.reader.now).levels + 1
 
 abbrev pub invariant-read_elements-loop-consumer : goal.invariant-read_elements-loop-consumer
 invariant-read_elements-loop-consumer g l =

@@ -1,6 +1,4 @@
-use Rattle.smithy_types.specs.DocumentView.{view}
-use Rattle.smithy_schema.specs.References.{schema_of}
-use Rattle.smithy_document.specs.CursorView.{opened_in, IsOpen}
+use Rattle.smithy_document.proofs.Common.{view, schema_of, opened_in, IsOpen}
 use Rattle.smithy_document.proofs.SkimLemmas.{Skims, left_in}
 use Rattle.smithy_document.proofs.cursor.Cursor.advance_to_member.Given as goal
 

@@ -1,4 +1,4 @@
-use Rattle.smithy_types.specs.DocumentView.{view}
+use Rattle.smithy_document.proofs.Common.{view}
 use Rattle.smithy_document.proofs.CursorLemmas.{element_moved}
 use Rattle.smithy_document.proofs.cursor.Cursor.next_element.Goals as goal
 

@@ -1,10 +1,4 @@
-use Rattle.std.proofs.Common.{◌≡◌, sym, ap, ◌∙◌, subst}
-use Rattle.smithy_types.specs.DocumentView.{view}
-use Rattle.smithy_serde.specs.DocumentReads.{mismatch}
-use Rattle.smithy_serde.specs.Refusals.{IsRefusal}
-use Rattle.smithy_document.specs.CursorView.{document_in}
-use Rattle.smithy_document.specs.OpenDocuments.{parts_of, opens_as}
-use Rattle.smithy_document.specs.Paths.{rest_in}
+use Rattle.smithy_document.proofs.Common.{◌≡◌, sym, ap, ◌∙◌, subst, view, mismatch, IsRefusal, document_in, parts_of, opens_as, rest_in}
 use Rattle.smithy_document.proofs.CursorLemmas.{is_opened, not_opened}
 use Rattle.smithy_document.proofs.cursor.Cursor.open.Goals as goal
 

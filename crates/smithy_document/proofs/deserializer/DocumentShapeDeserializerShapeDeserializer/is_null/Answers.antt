@@ -1,6 +1,4 @@
-use Rattle.std.proofs.Common.{ap, ◌∙◌}
-use Rattle.std.specs.Prelude.{is_none}
-use Rattle.smithy_serde.specs.Held.{is_null_document}
+use Rattle.smithy_document.proofs.Common.{ap, ◌∙◌, is_none, is_null_document}
 use Rattle.smithy_document.proofs.HandLemmas.{null_told}
 use Rattle.smithy_document.proofs.deserializer.DocumentShapeDeserializerShapeDeserializer.is_null.Goals as goal
 

@@ -1,7 +1,6 @@
-use Rattle.std.specs.Prelude.{true, is_none}
-use Rattle.smithy_types.specs.DocumentView.{view}
+use Rattle.std.specs.Prelude.{true}
+use Rattle.smithy_document.proofs.Common.{is_none, view, document_in, opened_in}
 use Rattle.smithy_serde.specs.declared.scalar.Group.TheVariants as group
-use Rattle.smithy_document.specs.CursorView.{document_in, opened_in}
 use Rattle.smithy_document.proofs.CursorLemmas.{in_told}
 use Rattle.smithy_document.proofs.deserializer.DocumentShapeDeserializerShapeDeserializer.next_member.Goals as goal
 

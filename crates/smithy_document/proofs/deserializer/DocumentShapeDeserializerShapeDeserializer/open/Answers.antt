@@ -1,6 +1,5 @@
-use Rattle.std.specs.Prelude.{true, is_none}
-use Rattle.smithy_types.specs.DocumentView.{view}
-use Rattle.smithy_schema.specs.References.{schema_of}
+use Rattle.std.specs.Prelude.{true}
+use Rattle.smithy_document.proofs.Common.{is_none, view, schema_of}
 use Rattle.smithy_document.proofs.HandLemmas.{left_alike, plain_alike}
 use Rattle.smithy_document.proofs.deserializer.DocumentShapeDeserializerShapeDeserializer.open.Goals as goal
 

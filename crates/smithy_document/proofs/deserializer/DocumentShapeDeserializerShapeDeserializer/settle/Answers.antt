@@ -1,6 +1,4 @@
-use Rattle.std.specs.Prelude.{is_none}
-use Rattle.smithy_types.specs.DocumentView.{view}
-use Rattle.smithy_document.specs.CursorView.{document_in, opened_in}
+use Rattle.smithy_document.proofs.Common.{is_none, view, document_in, opened_in}
 use Rattle.smithy_document.proofs.HandLemmas.{answered}
 use Rattle.smithy_document.proofs.deserializer.DocumentShapeDeserializerShapeDeserializer.settle.Goals as goal
 

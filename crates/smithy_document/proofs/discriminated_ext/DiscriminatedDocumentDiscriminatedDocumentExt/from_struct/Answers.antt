@@ -1,11 +1,7 @@
-use Rattle.std.proofs.Common.{rules, subst}
+use Rattle.smithy_document.proofs.Common.{rules, subst, schema_of, label_of, structure, one_write, empty_state, written, one_tells, writes_rule}
 use Rattle.std.proofs.lemmas.Result.{IfOk-weaker, IfErr-weaker}
-use Rattle.smithy_schema.specs.References.{schema_of}
-use Rattle.smithy_serde.specs.Values.{label_of, structure}
-use Rattle.smithy_serde.specs.Told.{one_write, empty_state, written}
-use Rattle.smithy_serde.proofs.Calls.{one_tells, writes_rule}
 use Rattle.smithy_serde.proofs.FinishingLemmas.{refused_alone}
-use Rattle.smithy_document.specs.Finished.{IsFinishRefusal}
+use Rattle.smithy_document.specs.views.Finished.{IsFinishRefusal}
 use Rattle.smithy_document.proofs.RefusalLemmas.{document_by_rule}
 use Rattle.smithy_document.proofs.discriminated_ext.DiscriminatedDocumentDiscriminatedDocumentExt.from_struct.Goals as goal
 

@@ -1,7 +1,4 @@
-use Rattle.std.proofs.Common.{rules, Err}
-use Rattle.smithy_document.specs.BuildingView.{building_view}
-use Rattle.smithy_document.specs.Building.{finished}
-use Rattle.smithy_document.specs.Frames.{held_of, ended_with}
+use Rattle.smithy_document.proofs.Common.{rules, Err, building_view, finished, held_of, ended_with}
 use Rattle.smithy_document.specs.Refused.{Gives}
 use Rattle.smithy_document.proofs.RefusalLemmas.{refused_before}
 use Rattle.smithy_document.proofs.frame.Frame.end.Goals as goal

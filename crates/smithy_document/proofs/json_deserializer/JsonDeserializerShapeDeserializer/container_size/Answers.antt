@@ -1,5 +1,4 @@
-use Rattle.std.proofs.Common.{◌≡◌, sym, ap, ◌∙◌, subst}
-use Rattle.smithy_document.specs.JsonHand.{size_over}
+use Rattle.smithy_document.proofs.Common.{◌≡◌, sym, ap, ◌∙◌, subst, size_over}
 use Rattle.smithy_document.specs.Sizes.{container_size}
 use Rattle.smithy_document.proofs.json_deserializer.JsonDeserializerShapeDeserializer.container_size.Goals as goal
 

@@ -1,7 +1,4 @@
-use Rattle.std.proofs.Common.{sym, ap, ◌∙◌, subst}
-use Rattle.smithy_serde.specs.Held.{is_null_document}
-use Rattle.smithy_serde.specs.ReadCalls.{TellsNull}
-use Rattle.smithy_document.specs.JsonHand.{hand_of}
+use Rattle.smithy_document.proofs.Common.{sym, ap, ◌∙◌, subst, is_null_document, TellsNull, hand_of}
 use Rattle.smithy_document.proofs.json_deserializer.JsonDeserializerShapeDeserializer.is_null.Goals as goal
 
 pub returns-in-Some : goal.returns-in-Some

@@ -1,5 +1,4 @@
-use Rattle.std.proofs.Common.{Ok}
-use Rattle.smithy_serde.specs.ReadCalls.{NextElement}
+use Rattle.smithy_document.proofs.Common.{Ok, NextElement}
 use Rattle.smithy_document.proofs.JsonHandLemmas.{over}
 use Rattle.smithy_document.proofs.json_deserializer.JsonDeserializerShapeDeserializer.next_element.Goals as goal
 

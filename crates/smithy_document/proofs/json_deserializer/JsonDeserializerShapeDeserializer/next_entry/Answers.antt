@@ -1,4 +1,4 @@
-use Rattle.smithy_serde.specs.ReadCalls.{NextEntry}
+use Rattle.smithy_document.proofs.Common.{NextEntry}
 use Rattle.smithy_document.proofs.JsonHandLemmas.{over}
 use Rattle.smithy_document.proofs.json_deserializer.JsonDeserializerShapeDeserializer.next_entry.Goals as goal
 

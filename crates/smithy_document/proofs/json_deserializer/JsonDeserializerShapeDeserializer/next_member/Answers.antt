@@ -1,6 +1,4 @@
-use Rattle.std.proofs.Common.{Ok}
-use Rattle.smithy_schema.specs.References.{schema_of}
-use Rattle.smithy_serde.specs.ReadCalls.{NextMember}
+use Rattle.smithy_document.proofs.Common.{Ok, schema_of, NextMember}
 use Rattle.smithy_document.proofs.JsonHandLemmas.{over}
 use Rattle.smithy_document.proofs.json_deserializer.JsonDeserializerShapeDeserializer.next_member.Goals as goal
 

@@ -1,5 +1,4 @@
-use Rattle.smithy_schema.specs.References.{schema_of}
-use Rattle.smithy_serde.specs.ReadCalls.{OpensAt, NotOpened}
+use Rattle.smithy_document.proofs.Common.{schema_of, OpensAt, NotOpened}
 use Rattle.smithy_document.proofs.HandLemmas.{left_alike, refused_open}
 use Rattle.smithy_document.proofs.JsonHandLemmas.{hand_alike, over, over_none}
 use Rattle.smithy_document.proofs.json_deserializer.JsonDeserializerShapeDeserializer.open.Goals as goal

@@ -1,10 +1,5 @@
-use Rattle.std.proofs.Common.{IsTrue, Some, None, Err, refl, sym, subst}
-use Rattle.smithy_schema.specs.References.{schema_of}
+use Rattle.smithy_document.proofs.Common.{IsTrue, Some, Err, refl, sym, subst, schema_of, ReadScalar, Gives, Reads, scalar_of_read, read_at, is_read, is_tree_read, tree_view}
 use Rattle.smithy_serde.specs.Held as held
-use Rattle.smithy_serde.specs.declared.read_scalar.ReadScalar.{ReadScalar}
-use Rattle.smithy_serde.specs.ReadCalls.{Gives, Reads, scalar_of_read, read_at}
-use Rattle.smithy_document.specs.InOrder.{is_read, is_tree_read}
-use Rattle.smithy_document.specs.JsonTree.{tree_view}
 use Rattle.smithy_document.proofs.HandLemmas.{read_gives, refused_read}
 use Rattle.smithy_document.proofs.JsonHandLemmas.{over, over_none}
 use Rattle.smithy_document.proofs.TreeLemmas.{path_read}
@@ -13,7 +8,7 @@ use Rattle.smithy_document.proofs.json_deserializer.JsonDeserializerShapeDeseria
 pub read_node-requires : goal.read_node-requires
 read_node-requires c =
     let whole : IsTrue (is_read (tree_view c.in-Some.tree)) = subst (λ o. IsTrue (is_tree_read o)) c.in-Some.is c.args.self.now.read in
-    subst (λ d. IsTrue (is_read d)) (sym c.node.ensures) (path_read (tree_view c.in-Some.tree) c.args.self.now.cursor.places.items whole)
+    subst (λ d. IsTrue (is_read d)) (sym c.node.ensures) (path_read (tree_view c.in-Some.tree) c.args.self.now.cursor.spots.items whole)
 
 pub returns-in-Some-clause-reads : goal.returns-in-Some-clause-reads
 returns-in-Some-clause-reads c =

@@ -1,4 +1,4 @@
-use Rattle.std.proofs.Common.{ap, ◌∙◌, Some, min}
+use Rattle.smithy_document.proofs.Common.{ap, ◌∙◌, Some, min}
 use Rattle.smithy_document.proofs.NodeLemmas.{sized-Array, sized-Object}
 use Rattle.smithy_document.proofs.json_tree.Node.container_size.Goals as goal
 

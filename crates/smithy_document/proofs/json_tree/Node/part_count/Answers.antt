@@ -1,4 +1,4 @@
-use Rattle.std.proofs.Common.{◌∙◌}
+use Rattle.smithy_document.proofs.Common.{◌∙◌}
 use Rattle.smithy_document.proofs.NodeLemmas.{counted, array_parts, object_parts}
 use Rattle.smithy_document.proofs.json_tree.Node.part_count.Goals as goal
 

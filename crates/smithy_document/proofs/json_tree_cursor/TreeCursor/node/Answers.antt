@@ -1,6 +1,4 @@
-use Rattle.std.proofs.Common.{ap, ◌∙◌}
-use Rattle.smithy_document.specs.JsonTree.{tree_view}
-use Rattle.smithy_document.specs.TreePaths.{path_end}
+use Rattle.smithy_document.proofs.Common.{ap, ◌∙◌, tree_view, path_end}
 use Rattle.smithy_document.proofs.json_tree_cursor.TreeCursor.node.Goals as goal
 
 pub returns : goal.returns

@@ -1,4 +1,4 @@
-use Rattle.smithy_serde.specs.Steps.{closes}
+use Rattle.smithy_document.proofs.Common.{closes}
 use Rattle.smithy_document.proofs.StandingLemmas.{none_again, still_open, answered}
 use Rattle.smithy_document.proofs.serializer.DocumentShapeSerializerShapeSerializer.close.Goals as goal
 

@@ -1,5 +1,4 @@
-use Rattle.smithy_serde.specs.Steps.{opens}
-use Rattle.smithy_serde.specs.Writing.{label}
+use Rattle.smithy_document.proofs.Common.{opens, label}
 use Rattle.smithy_document.proofs.StandingLemmas.{none_again, answered}
 use Rattle.smithy_document.proofs.serializer.DocumentShapeSerializerShapeSerializer.open.Goals as goal
 

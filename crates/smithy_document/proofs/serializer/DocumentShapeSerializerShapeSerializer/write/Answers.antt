@@ -1,5 +1,4 @@
-use Rattle.smithy_serde.specs.Steps.{adds}
-use Rattle.smithy_serde.specs.Writing.{label, scalar_of}
+use Rattle.smithy_document.proofs.Common.{adds, label, scalar_of}
 use Rattle.smithy_document.proofs.StandingLemmas.{none_again, answered}
 use Rattle.smithy_document.proofs.serializer.DocumentShapeSerializerShapeSerializer.write.Goals as goal
 

@@ -1,4 +1,4 @@
-use Rattle.std.proofs.Common.{◌≡◌, length, string_bytes, ◌∙◌}
+use Rattle.smithy_document.proofs.Common.{◌≡◌, length, string_bytes, ◌∙◌}
 use Rattle.smithy_document.proofs.TextCuts.{pieces_more, cuts_more}
 use Rattle.smithy_document.proofs.text_list.TextList.push.Goals as goal
 

@@ -1,7 +1,0 @@
-use Rattle.std.proofs.Common.{arith}
-use Rattle.smithy_types.specs.DocumentView.{view}
-use Rattle.smithy_document.proofs.PathLemmas.{past_items}
-use Rattle.smithy_document.proofs.place.end_of.Goals as goal
-
-pub returns-in-None : goal.returns-in-None
-returns-in-None c = λ i past. rw c.in-None.is (past_items (view c.args.container.now) i (omega (arith, c.part_count.ensures, past)))

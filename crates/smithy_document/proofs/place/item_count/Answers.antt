@@ -1,6 +1,0 @@
-use Rattle.std.proofs.Common.{sym, ◌∙◌}
-use Rattle.smithy_document.proofs.PathLemmas.{count_nameless}
-use Rattle.smithy_document.proofs.place.item_count.Goals as goal
-
-pub returns : goal.returns
-returns c = c.len.ensures ∙ sym (count_nameless _)

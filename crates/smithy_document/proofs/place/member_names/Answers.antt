@@ -1,7 +1,0 @@
-use Rattle.std.proofs.Common.{◌++◌, ap, sym, ◌∙◌}
-use Rattle.std.proofs.lemmas.List.{append-nil}
-use Rattle.std.specs.Map.{keys_of}
-use Rattle.smithy_document.proofs.place.member_names.Goals as goal
-
-pub returns-clause-all : goal.returns-clause-all
-returns-clause-all c = sym (c.members.invariant ∙ ap (λ rest. c.members.names.items ++ keys_of rest) c.in-None.ensures.steps.0 ∙ append-nil c.members.names.items)

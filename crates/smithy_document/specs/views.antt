@@ -1,0 +1,17 @@
+pub mod BuildingView
+pub mod CursorView
+pub mod DocumentHand
+pub mod Finished
+pub mod Frames
+pub mod JsonHand
+pub mod JsonSeen
+pub mod JsonTree
+pub mod KnownParts
+pub mod Paths
+pub mod Printing
+pub mod ScalarReads
+pub mod Standing
+pub mod TextCuts
+pub mod TreePaths
+pub mod TreeReading
+pub mod Ways

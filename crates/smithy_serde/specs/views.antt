@@ -1,0 +1,4 @@
+pub mod Handing
+pub mod Recording
+pub mod Steps
+pub mod ValueBuilding
