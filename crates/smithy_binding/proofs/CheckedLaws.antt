@@ -1,10 +1,5 @@
 -- What the test of an input schema says.
-use Rattle.std.proofs.Common.{◌≡◌, ◌↔◌, sym, ◌∙◌, Bool, true, ◌&&◌, List, is_some, IsTrue, All}
-use Rattle.std.specs.List.{list_all}
-use Rattle.std.proofs.lemmas.Bool.{and_parts}
-use Rattle.std.proofs.lemmas.List.Sums.{AllPass-from_list_all, list_all-from_AllPass}
-use Rattle.smithy_schema.specs.Nodes.{Schema, cites_nodes, members_of}
-use Rattle.smithy_binding.specs.Checked.{has_distinct_names, is_bound_once, is_writable, has_bound_kind, has_plain_elements, is_text_map, is_query_map, has_prefix_kind, has_query_map_kind, has_map_kind, is_sound_member, members_with, has_at_most_one, has_sound_payload, has_sound_maps, has_sound_names, has_true_flags, has_sound_http, has_defined_members, has_named_members, checked_input, IsCheckedInput}
+use Rattle.smithy_binding.proofs.Common.{are_distinct, ◌≡◌, ◌↔◌, sym, ◌∙◌, Bool, true, ◌&&◌, List, is_some, IsTrue, All, not, ◌||◌, list_all, and_parts, AllPass-from_list_all, list_all-from_AllPass, Schema, cites_nodes, members_of, member_names, is_bound_once, is_writable, has_bound_kind, has_plain_elements, is_text_map, is_query_map, has_prefix_kind, has_map_kind, is_sound_member, members_with, has_at_most_one, has_sound_payload, has_sound_maps, has_sound_names, has_true_flags, has_sound_http, has_defined_members, has_named_members, checked_input, IsCheckedInput}
 use Rattle.smithy_binding.proofs.JointTests.{both, all-both, all-parts, all-filter}
 use Rattle.smithy_binding.proofs.Tests.{structure_from_test, structure_test, AreDistinct-from_test, are_distinct-from_facts}
 
@@ -30,6 +25,9 @@ module _ (once kinds plain : Schema → Bool) (ms : List Schema) where
 pub prefix_kinds : (schema : Schema) → list_all is_text_map (members_with (λ t. is_some t.http_prefix_headers) schema) ≡ list_all has_prefix_kind (members_of schema)
 prefix_kinds schema = all-filter is_text_map (λ m. is_some m.node.traits.http_prefix_headers) (members_of schema)
 
+abbrev has_query_map_kind : Schema → Bool
+has_query_map_kind m = not m.node.traits.http_query_params || is_query_map m
+
 query_kinds : (schema : Schema) → list_all is_query_map (members_with (λ t. t.http_query_params) schema) ≡ list_all has_query_map_kind (members_of schema)
 query_kinds schema = all-filter is_query_map (λ m. m.node.traits.http_query_params) (members_of schema)
 
@@ -45,7 +43,7 @@ unfolding checked_input
 IsCheckedInput-from_test schema e =
     let ms = members_of schema in
     let a = and_parts (has_named_members schema) _ e in
-    let b = and_parts _ (has_distinct_names schema) a.0 in
+    let b = and_parts _ (are_distinct (member_names schema)) a.0 in
     let c = and_parts _ (has_defined_members schema) b.0 in
     let d = and_parts _ (has_sound_http schema) a.1 in
     let f = and_parts _ (has_sound_names schema) d.0 in

@@ -1,13 +1,5 @@
 -- The method of a checked schema is a token.
-use Rattle.std.proofs.Common.{◌≡◌, refl, true, ◌&&◌, codes, Option, Some, None, nat_eq}
-use Rattle.std.specs.List.{starts_with}
-use Rattle.std.specs.Option.{option_map_or}
-use Rattle.std.proofs.lemmas.Bool.{and_parts}
-use Rattle.smithy_types.specs.Grammars.{is_token}
-use Rattle.smithy_schema.specs.Nodes.{Schema, Http}
-use Rattle.smithy_binding.specs.Checked.{checked_input}
-use Rattle.smithy_binding.specs.Clear.{is_clear}
-use Rattle.smithy_binding.specs.Placing.{method_of}
+use Rattle.smithy_binding.proofs.Common.{◌≡◌, refl, true, ◌&&◌, codes, Option, Some, None, nat_eq, starts_with, option_map_or, and_parts, is_token, Schema, Http, checked_input, is_clear, method_of}
 use Rattle.smithy_binding.proofs.CheckedLaws.{IsCheckedInput-from_test}
 
 pub is_token-method_of : (schema : Schema) → checked_input schema ≡ true → is_token (method_of schema) ≡ true

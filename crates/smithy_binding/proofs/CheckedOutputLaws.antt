@@ -1,12 +1,6 @@
 -- What the test of an output schema says.
-use Rattle.std.proofs.Common.{◌≡◌, ◌↔◌, sym, ◌∙◌, true, is_some, IsTrue}
-use Rattle.std.specs.List.{list_all}
-use Rattle.std.proofs.lemmas.Bool.{and_parts}
+use Rattle.smithy_binding.proofs.Common.{are_distinct, ◌≡◌, ◌↔◌, sym, ◌∙◌, true, is_some, IsTrue, list_all, and_parts, same_kind, Schema, cites_nodes, members_of, member_names, has_header_kind, is_text_map, has_prefix_kind, members_with, has_at_most_one, has_sound_headers, has_defined_members, has_named_members, is_response_bound_once, has_plain_header_elements, has_code_kind, is_sound_response_member, has_sound_response_payload, checked_output, IsCheckedOutput}
 use Rattle.smithy_ids.specs.declared.shape_type.ShapeType.TheVariants as kind
-use Rattle.smithy_ids.specs.Kinds.{same_kind}
-use Rattle.smithy_schema.specs.Nodes.{Schema, cites_nodes, members_of}
-use Rattle.smithy_binding.specs.Checked.{has_distinct_names, has_header_kind, is_text_map, has_prefix_kind, members_with, has_at_most_one, has_sound_headers, has_defined_members, has_named_members}
-use Rattle.smithy_binding.specs.CheckedOutput.{is_response_bound_once, has_plain_header_elements, has_code_kind, is_sound_response_member, has_sound_response_payload, checked_output, IsCheckedOutput}
 use Rattle.smithy_binding.proofs.CheckedLaws.{members_facts, members_test, prefix_kinds}
 use Rattle.smithy_binding.proofs.JointTests.{both, all-both, all-parts, all-filter}
 use Rattle.smithy_binding.proofs.Tests.{structure_from_test, structure_test, AreDistinct-from_test, are_distinct-from_facts}
@@ -20,7 +14,7 @@ unfolding checked_output
 IsCheckedOutput-from_test schema e =
     let ms = members_of schema in
     let a = and_parts (has_named_members schema) _ e in
-    let b = and_parts _ (has_distinct_names schema) a.0 in
+    let b = and_parts _ (are_distinct (member_names schema)) a.0 in
     let c = and_parts _ (has_defined_members schema) b.0 in
     let d = and_parts _ (has_sound_headers schema) a.1 in
     let f = and_parts _ (has_at_most_one (λ t. t.http_response_code) schema) d.0 in

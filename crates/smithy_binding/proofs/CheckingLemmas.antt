@@ -1,14 +1,5 @@
 -- The tests of a schema over the members that the code lists.
-use Rattle.std.proofs.Common.{◌≡◌, refl, ap, ℕ, Bool, true, false, cond, ◌&&◌, List, [], ◌∷◌, filter, filter_map, Option, Some, None, nat_eq, codes, if◌then◌else◌}
-use Rattle.std.specs.List.{cons_option, starts_with}
-use Rattle.smithy_types.specs.Grammars.{is_token}
-use Rattle.smithy_schema.specs.Nodes.{Schema, Http, members_of}
-use Rattle.smithy_binding.specs.Clear.{is_clear}
-use Rattle.smithy_binding.specs.Checked.{has_named_members, has_sound_headers, has_sound_names, has_sound_http, checked_input}
-use Rattle.smithy_binding.specs.CheckedOutput.{checked_output}
-use Rattle.smithy_binding.specs.Checking.{names_under, is_clear_for, count_of, are_sound, are_sound_response}
-use Rattle.smithy_binding.specs.declared.members.Counted.TheVariants as counted
-use Rattle.smithy_binding.specs.declared.name_check.NameKind.TheVariants as names
+use Rattle.smithy_binding.proofs.Common.{◌≡◌, refl, ap, ℕ, Bool, true, false, cond, ◌&&◌, List, [], ◌∷◌, filter, filter_map, Option, Some, None, nat_eq, codes, if◌then◌else◌, cons_option, starts_with, and_parts, is_token, Schema, Http, members_of, is_clear, has_named_members, has_sound_headers, has_sound_names, has_sound_http, checked_input, checked_output, is_clear_among, are_sound, are_sound_response}
 
 -- the names of those that a test chooses
 pub filter_map-filter : {X Y : Type 0} (f : X → Option Y) (p : X → Bool) (xs : List X) → filter_map f (filter p xs) ≡ filter_map (λ x. if p x then f x else None) xs
@@ -29,15 +20,17 @@ pub checked_output-is : (schema : Schema) → (has_named_members schema && (are_
 unfolding checked_output
 checked_output-is schema = refl
 
--- the template's test over the names of the labels
-is_clear-for : (schema : Schema) (text : List ℕ) → is_clear text schema ≡ is_clear_for text (names_under names.Label (members_of schema)) (count_of counted.Label (members_of schema))
-unfolding is_clear
-is_clear-for schema text = rw (filter_map-filter (λ m. m.node.member_name) (λ m. m.node.traits.http_label) (members_of schema)) refl
+pub named-checked : (schema : Schema) → checked_input schema ≡ true → has_named_members schema ≡ true
+unfolding checked_input
+named-checked schema e = (and_parts (has_named_members schema) _ e).0
 
-pub sound-http : (schema : Schema) (h : Http) (labels : List (List ℕ)) (count : ℕ) → Some h ≡ schema.node.traits.http → labels ≡ names_under names.Label (members_of schema) → count ≡ count_of counted.Label (members_of schema)
-    → has_sound_http schema ≡ (is_token h.method && is_clear_for h.uri labels count && starts_with nat_eq h.uri (codes "/"))
+-- the template's test over the members that the code lists
+pub is_clear-among : (schema : Schema) (text : List ℕ) → is_clear text schema ≡ is_clear_among text (members_of schema)
 unfolding is_clear
-sound-http schema h labels count e names counts = rw (← e, is_clear-for schema h.uri, ← names, ← counts) refl
+is_clear-among schema text = rw (filter_map-filter (λ m. m.node.member_name) (λ m. m.node.traits.http_label) (members_of schema)) refl
+
+pub sound-http : (schema : Schema) (h : Http) → Some h ≡ schema.node.traits.http → has_sound_http schema ≡ (is_token h.method && is_clear h.uri schema && starts_with nat_eq h.uri (codes "/"))
+sound-http schema h e = rw (← e) refl
 
 pub no-http : (schema : Schema) → None ≡ schema.node.traits.http → has_sound_http schema ≡ true
 no-http schema e = rw (← e) refl

@@ -1,21 +1,7 @@
 -- The tests of a template, a hole at a time.
-use Rattle.std.proofs.Common.{◌≡◌, ◌≢◌, refl, ap, sym, ◌∙◌, ℕ, suc, ◌+◌, ◌-◌, ◌<◌, ◌≤◌, Bool, true, false, not, cond, ◌&&◌, ◌==◌, List, [], ◌∷◌, ◌++◌, length, get_or, drop, arith, if◌then◌else◌, Option, Some, None, is_none, is_some, ne_eqb, eq-eqb, map, unwrap_or}
-use Rattle.std.specs.List.{after_last, suffix_len, list_all}
-use Rattle.std.specs.Borrow.{Bor}
-use Rattle.std.specs.Option.{option_copied}
-use Rattle.std.specs.Str.{bytes_eq}
+use Rattle.smithy_binding.proofs.Common.{◌≡◌, ◌≢◌, refl, ap, sym, ◌∙◌, ℕ, suc, ◌+◌, ◌-◌, ◌<◌, ◌≤◌, Bool, true, false, not, cond, ◌&&◌, ◌==◌, List, [], ◌∷◌, ◌++◌, length, get_or, drop, arith, if◌then◌else◌, Option, Some, None, is_none, is_some, ne_eqb, eq-eqb, map, unwrap_or, after_last, suffix_len, list_all, Bor, option_copied, bytes_eq, eqb-true, suffix_len_is, sum_by-append, length-filter, length-map, same_text, Hole, Template, holes_of, CutHole, holes_named, hole_shown, behind_holes, literal_alone, template_shown, is_greedy_last_behind, once_mark, times_named, is_close}
 use Rattle.std.specs.Cmp.Lexicographic.{same_text as same_from_test}
-use Rattle.std.proofs.lemmas.Bool.{eqb-true}
-use Rattle.std.proofs.lemmas.List.Sums.{suffix_len_is, sum_by-append, length-filter}
-use Rattle.std.proofs.lemmas.List.{length-map}
-use Rattle.smithy_types.specs.Texts.{same_text}
-use Rattle.smithy_schema.specs.Templates.{Hole, Template, holes_of}
-use Rattle.smithy_binding.specs.declared.template.CutHole.{CutHole}
 use Rattle.smithy_binding.specs.declared.template.CutTemplate.{CutTemplate}
-use Rattle.smithy_binding.specs.Clear.{holes_named}
-use Rattle.smithy_binding.specs.CutTemplate.{hole_shown, behind_holes, literal_alone, template_shown}
-use Rattle.smithy_binding.specs.ClearParts.{is_greedy_last_behind, once_mark, times_named}
-use Rattle.smithy_binding.specs.TargetParts.{is_close}
 
 -- no `}` stands from this place on, and one stands before it unless it is the start
 pub after_last-at : (xs : List ℕ) (n : ℕ) → n ≤ length xs → ((k : ℕ) → n ≤ k → k < length xs → get_or xs k 0 ≢ 125) → (0 < n → get_or xs (n - 1) 0 ≡ 125) → drop n xs ≡ after_last is_close xs

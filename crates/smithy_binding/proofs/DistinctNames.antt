@@ -1,10 +1,5 @@
 -- Names that are distinct, from the last one on.
-use Rattle.std.proofs.Common.{◌≡◌, refl, ap, sym, ◌∙◌, ℕ, suc, zero, Bool, true, false, not, cond, ◌||◌, List, [], ◌∷◌, drop, map, Option, Some, None, is_some}
-use Rattle.std.specs.Borrow.{Bor}
-use Rattle.std.specs.Option.{option_copied}
-use Rattle.std.specs.Str.{bytes_eq}
-use Rattle.std.proofs.lemmas.Bool.{and_parts}
-use Rattle.smithy_types.specs.Texts.{are_distinct, is_one_of, same_text}
+use Rattle.smithy_binding.proofs.Common.{◌≡◌, refl, ap, sym, ◌∙◌, ℕ, suc, zero, Bool, true, false, not, cond, ◌||◌, List, [], ◌∷◌, drop, map, Option, Some, None, is_some, Bor, option_copied, bytes_eq, and_parts, are_distinct, is_one_of, same_text}
 use Rattle.smithy_binding.proofs.Tests.{same_text_back}
 
 pub same_text-sym : (a b : List ℕ) → same_text a b ≡ same_text b a

@@ -1,18 +1,5 @@
 -- The elements of a list, an element at a time.
-use Rattle.std.proofs.Common.{◌≡◌, refl, ap, sym, ◌∙◌, ℕ, ◌+◌, Bool, true, false, ◌==◌, List, [], ◌∷◌, ◌++◌, append_assoc, length, arith, Option, Some, None, option_map, option_and_then}
-use Rattle.std.proofs.lemmas.Bool.{eqb-true}
-use Rattle.std.proofs.lemmas.List.{append-nil, map-append, length-append}
-use Rattle.smithy_types.specs.Results.{each}
-use Rattle.smithy_ids.specs.declared.shape_type.ShapeType.{ShapeType}
-use Rattle.smithy_schema.specs.Nodes.{Schema, Table}
-use Rattle.smithy_serde.specs.Fits.{fits}
-use Rattle.smithy_serde.specs.StoredValues.{label_at, value_in, listed}
-use Rattle.smithy_serde.specs.Values.{Write, list_of}
-use Rattle.smithy_serde.specs.declared.value.OneWrite.{OneWrite}
-use Rattle.smithy_binding.specs.Bindings.{pairs_with}
-use Rattle.smithy_binding.specs.Faults.{wrong_item_kind, element_fault}
-use Rattle.smithy_binding.specs.Placing.{pair_text}
-use Rattle.smithy_binding.specs.TargetParts.{queries}
+use Rattle.smithy_binding.proofs.Common.{◌≡◌, refl, ap, sym, ◌∙◌, ℕ, ◌+◌, Bool, true, false, ◌==◌, List, [], ◌∷◌, ◌++◌, append_assoc, length, arith, Option, Some, None, option_map, option_and_then, eqb-true, append-nil, map-append, length-append, each, ShapeType, Schema, Table, fits, label_at, value_in, listed, Write, list_of, OneWrite, pairs_with, wrong_item_kind, element_fault, pair_text, queries}
 
 -- an element further
 module _ (t : Table) (m : Schema) (kind : ShapeType) (x : OneWrite) (rest more : List OneWrite) (steps : rest ≡ x ∷ more) where

@@ -1,22 +1,6 @@
 -- The end: the body, the target, and the request.
-use Rattle.std.proofs.Common.{◌≡◌, refl, ap, sym, ◌∙◌, ℕ, List, [], ◌∷◌, ◌++◌, append_assoc, map, subst, Result, Ok, Err, Option, Some, None}
-use Rattle.std.specs.List.{join_with_byte}
-use Rattle.std.proofs.lemmas.List.{append-nil}
-use Rattle.smithy_types.specs.Texts.{has_byte}
-use Rattle.smithy_types.specs.Results.{then_give}
-use Rattle.smithy_schema.specs.Nodes.{Schema}
-use Rattle.smithy_schema.specs.Templates.{pieces}
-use Rattle.smithy_serde.specs.Values.{Write}
-use Rattle.smithy_serde.specs.Writes.{all_resolved}
-use Rattle.smithy_binding.specs.Filling.{fill}
-use Rattle.smithy_binding.specs.Bindings.{pairs, labels}
-use Rattle.smithy_binding.specs.Bodies.{body, BodyParts, body_parts, document_value, document_by, bytes_by, form_in}
-use Rattle.smithy_binding.specs.Placing.{Protocol, Omit, target_of, template_of, method_of, with_query, pair_text, all_headers}
-use Rattle.smithy_binding.specs.Answer.{request_at, answer, legal_request}
+use Rattle.smithy_binding.proofs.Common.{◌≡◌, refl, ap, sym, ◌∙◌, ℕ, List, [], ◌∷◌, ◌++◌, append_assoc, map, subst, Result, Ok, Err, Option, Some, None, join_with_byte, append-nil, has_byte, then_give, Schema, pieces, Write, all_resolved, fill, pairs, labels, body, BodyParts, body_parts, document_value, document_by, bytes_by, form_in, Protocol, OmitFlags, target_of, template_of, method_of, with_query, pair_text, all_headers, request_at, answer, legal_request, Fault, behind, legal_fault, legal_target, legal_or_fault, fault_of_document, writes_fault, body_fault, hole_fault, Gathered, gather, ok_unless, nothing_yet, separator, queries, target_behind, target_with}
 use Rattle.smithy_binding.specs.declared.body_form.BodyForm.{BodyForm}
-use Rattle.smithy_binding.specs.Faults.{Fault, behind, legal_fault, legal_target, legal_or_fault, fault_of_document, writes_fault, body_fault, hole_fault}
-use Rattle.smithy_binding.specs.Gather.{Gathered, gather, ok_unless, nothing_yet}
-use Rattle.smithy_binding.specs.TargetParts.{separator, queries, target_behind, target_with}
 use Rattle.smithy_binding.proofs.Gathers.{gathered, gather-all, IsGathered, IsGathered-all}
 
 joined_queries : (p : List ℕ × List ℕ) (ps : List (List ℕ × List ℕ)) → join_with_byte 38 (map pair_text (p ∷ ps)) ≡ pair_text p ++ queries ps
@@ -61,17 +45,17 @@ target-is schema ws endpoint s g = rw (g.labels, g.query) (go (fill (pieces (tem
     go (Ok path) = ap (λ (t : List ℕ). Ok t) (with_query-behind path (pairs schema ws))
 
 -- a fault of the input is the answer
-answer-err : (protocol : Protocol) (schema : Schema) (ws : List Write) (endpoint : List ℕ) (omit : Omit) (f : Fault) → legal_target schema ws endpoint ≡ Err f → answer protocol schema ws endpoint omit ≡ Err f
+answer-err : (protocol : Protocol) (schema : Schema) (ws : List Write) (endpoint : List ℕ) (omit : OmitFlags) (f : Fault) → legal_target schema ws endpoint ≡ Err f → answer protocol schema ws endpoint omit ≡ Err f
 unfolding answer
 answer-err protocol schema ws endpoint omit f e = rw e refl
 
 -- a fault of the walk is
-pub answer-walk : (protocol : Protocol) (schema : Schema) (ws : List Write) (endpoint : List ℕ) (omit : Omit) (f : Fault) → gather schema (nothing_yet schema) ws ≡ Err f → answer protocol schema ws endpoint omit ≡ Err f
+pub answer-walk : (protocol : Protocol) (schema : Schema) (ws : List Write) (endpoint : List ℕ) (omit : OmitFlags) (f : Fault) → gather schema (nothing_yet schema) ws ≡ Err f → answer protocol schema ws endpoint omit ≡ Err f
 unfolding legal_target
 answer-walk protocol schema ws endpoint omit f e = answer-err protocol schema ws endpoint omit f (rw (walk-fault schema ws f e) refl)
 
 -- Once the writes are gathered, and the form of the body is known.
-module _ (protocol : Protocol) (schema : Schema) (ws : List Write) (endpoint : List ℕ) (omit : Omit) (s : Gathered) (form : BodyForm) (parts : BodyParts) (walk : gather schema (nothing_yet schema) ws ≡ Ok s) (known : form ≡ form_in schema) (same : parts ≡ body_parts schema ws) where
+module _ (protocol : Protocol) (schema : Schema) (ws : List Write) (endpoint : List ℕ) (omit : OmitFlags) (s : Gathered) (form : BodyForm) (parts : BodyParts) (walk : gather schema (nothing_yet schema) ws ≡ Ok s) (known : form ≡ form_in schema) (same : parts ≡ body_parts schema ws) where
   body-fault : body_fault schema ws ≡ fault_of_document (document_by form parts)
   unfolding body_fault document_value
   body-fault = rw (known, same) refl

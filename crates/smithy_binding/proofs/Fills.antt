@@ -1,19 +1,8 @@
 -- A template, cut and filled hole by hole.
-use Rattle.std.proofs.Common.{◌≡◌, ◌≢◌, refl, ap, sym, ◌∙◌, ℕ, ◌+◌, ◌<◌, Bool, true, false, List, [], ◌∷◌, ◌++◌, append_assoc, length, Result, Ok, Err, if◌then◌else◌, codes, arith, cond, not, suc, ◌||◌, ◌-◌, Option, Some, None, MatchOption, lit<, drop, take, length-drop, nat_eq}
-use Rattle.std.specs.Borrow.{Bor}
-use Rattle.std.specs.List.{slice_split, before_first, after_first, position_or_len, onto_first, ends_with}
+use Rattle.smithy_binding.proofs.Common.{◌≡◌, ◌≢◌, refl, ap, sym, ◌∙◌, ℕ, ◌+◌, ◌<◌, Bool, true, false, List, [], ◌∷◌, ◌++◌, append_assoc, length, Result, Ok, Err, if◌then◌else◌, codes, arith, cond, not, suc, ◌||◌, ◌-◌, Option, Some, None, MatchOption, lit<, drop, take, length-drop, nat_eq, Bor, slice_split, before_first, after_first, position_or_len, onto_first, ends_with, append-nil, take-append-drop, length-append, IsSplitOnceResult, split_once_first, has_byte, then_try, then_give, Hole, Template, hole_of, behind_hole, literal_alone, fill_rest, filled_by, Fault, hole_fault, is_close, is_open, text_in}
 use Rattle.std.specs.Cmp.Lexicographic.{same_text as same_from_test}
-use Rattle.std.proofs.lemmas.List.{append-nil, take-append-drop, length-append}
 use Rattle.std.proofs.Math.Seq.{drop-append_seam, take-append_seam}
 use Rattle.std.proofs.lemmas.List.Splits.{slice_split_first}
-use Rattle.std.proofs.lemmas.Str.Pattern.{IsSplitOnceResult, split_once_first}
-use Rattle.smithy_types.specs.Texts.{has_byte}
-use Rattle.smithy_types.specs.Results.{then_try, then_give}
-use Rattle.smithy_schema.specs.Templates.{Hole, Template, hole_of}
-use Rattle.smithy_binding.specs.CutTemplate.{behind_hole, literal_alone}
-use Rattle.smithy_binding.specs.Filling.{fill_rest, filled_by, text_in}
-use Rattle.smithy_binding.specs.Faults.{Fault, hole_fault}
-use Rattle.smithy_binding.specs.TargetParts.{is_close, is_open}
 
 -- a hole further
 pub fill-more : (texts : List ℕ → Option (List ℕ)) (out out2 literal : List ℕ) (hole : Hole) (t u : Template) → u ≡ behind_hole literal hole t

@@ -1,20 +1,7 @@
 -- Which values a member in the headers, the query or a label takes.
-use Rattle.std.proofs.Common.{◌≡◌, refl, ap, sym, ◌∙◌, ℕ, Bool, true, false, not, ◌&&◌, ◌||◌, List, ◌++◌, Option, Some, None, is_none, is_some}
-use Rattle.std.proofs.lemmas.Bool.{and_parts}
-use Rattle.std.proofs.lemmas.List.{append-nil}
-use Rattle.smithy_ids.specs.declared.shape_type.ShapeType.{ShapeType}
+use Rattle.smithy_binding.proofs.Common.{◌≡◌, refl, ap, sym, ◌∙◌, ℕ, Bool, true, false, not, ◌&&◌, ◌||◌, List, ◌++◌, Option, Some, None, is_none, is_some, and_parts, append-nil, ShapeType, same_kind, is_scalar, Schema, key_of, value_of, Binding, to_query_map, to_body, binding_at, binding_of, is_outside_body, is_bound, fits, fits_member, is_null, kind_takes, Value, list, Writes, pairs_at, query_names, is_header_kind, has_element, has_label_kind, has_query_kind, has_header_kind, has_bound_kind, is_plain_string, is_plain_list, has_map_kind, is_placed_at, Gathered, has_placed_kind, is_text_binding, is_list_binding, takes_map, placed_first, IsSingle, queries}
 use Rattle.smithy_ids.specs.declared.shape_type.ShapeType.TheVariants as kind
-use Rattle.smithy_ids.specs.Kinds.{same_kind, is_scalar}
-use Rattle.smithy_schema.specs.Nodes.{Schema, key_of, value_of, Binding, to_query_map, to_body, binding_at, binding_of, is_outside_body, is_bound}
-use Rattle.smithy_serde.specs.Fits.{fits, fits_member, is_null, kind_takes}
-use Rattle.smithy_serde.specs.Values.{Value, list, Writes}
 use Rattle.smithy_serde.specs.Values as value
-use Rattle.smithy_binding.specs.Bindings.{pairs_at, query_names}
-use Rattle.smithy_binding.specs.Checked.{is_header_kind, has_element, has_label_kind, has_query_kind, has_header_kind, has_bound_kind, is_plain_string, is_plain_list, has_map_kind}
-use Rattle.smithy_binding.specs.Faults.{is_placed_at}
-use Rattle.smithy_binding.specs.Gather.{Gathered}
-use Rattle.smithy_binding.specs.Placed.{has_placed_kind, is_text_binding, is_list_binding, takes_map, placed_first, IsSingle}
-use Rattle.smithy_binding.specs.TargetParts.{queries}
 use Rattle.smithy_binding.proofs.FittingKinds.{fits-some}
 
 only-first : (a b : Bool) → b ≡ false → (a || b) ≡ true → a ≡ true

@@ -1,14 +1,6 @@
 -- The fault of the first write of a member in a header, the query or a label.
-use Rattle.std.proofs.Common.{◌≡◌, refl, ap, ◌∙◌, ℕ, true, List, [], ◌∷◌, Option, Some, None, option_map, is_some, if◌then◌else◌}
-use Rattle.std.specs.Option.{option_or}
-use Rattle.smithy_types.specs.Results.{first_of_all, unless}
-use Rattle.smithy_schema.specs.Nodes.{Schema, Binding, to_header, to_query, to_label, binding_of}
-use Rattle.smithy_serde.specs.Values.{Value, list}
+use Rattle.smithy_binding.proofs.Common.{◌≡◌, refl, ap, ◌∙◌, ℕ, true, List, [], ◌∷◌, Option, Some, None, option_map, is_some, if◌then◌else◌, option_or, first_of_all, unless, Schema, Binding, to_header, to_query, to_label, binding_of, Value, list, texts, inserted_at, place_at, member_text, Fault, item_fault, key_fault, value_fault, pairs_fault, is_placed_at, is_text_binding, first_fault, IsSingle, no_year}
 use Rattle.smithy_serde.specs.Values as value
-use Rattle.smithy_binding.specs.Bindings.{place_of, member_text, texts, inserted_at}
-use Rattle.smithy_binding.specs.Faults.{Fault, item_fault, key_fault, value_fault, pairs_fault, is_placed_at}
-use Rattle.smithy_binding.specs.Placed.{is_text_binding, first_fault, IsSingle}
-use Rattle.smithy_binding.specs.Faults.{no_year}
 
 pub text-placed : (b : Binding) → is_text_binding b ≡ true → is_placed_at b ≡ true
 text-placed (to_header name) e = refl
@@ -35,7 +27,7 @@ key_fault-single m (value.map ws) p = absurd p
 key_fault-single m _ p = refl
 
 -- and one text or none
-texts-single : (m : Schema) (v : Value) → IsSingle v → texts m v ≡ option_map (λ t. t ∷ []) (member_text (place_of m) m v)
+texts-single : (m : Schema) (v : Value) → IsSingle v → texts m v ≡ option_map (λ t. t ∷ []) (member_text (place_at (binding_of m)) m v)
 texts-single m (list ws) p = absurd p
 texts-single m (value.map ws) p = absurd p
 texts-single m _ p = refl
@@ -44,7 +36,7 @@ faults : Option Fault → Option Fault → Option (List (List ℕ)) → Option F
 faults item key ts = first_of_all (item ∷ key ∷ unless (is_some ts) no_year ∷ [])
 
 -- where it has none, that is its fault
-pub single-no_year : (m : Schema) (v : Value) → IsSingle v → member_text (place_of m) m v ≡ None → value_fault m v ≡ Some no_year
+pub single-no_year : (m : Schema) (v : Value) → IsSingle v → member_text (place_at (binding_of m)) m v ≡ None → value_fault m v ≡ Some no_year
 unfolding faults
 single-no_year m v p e =
     ap (λ o. faults o (key_fault m v) (texts m v)) (item_fault-single m v p)

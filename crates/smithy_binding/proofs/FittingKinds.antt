@@ -1,9 +1,5 @@
 -- Which values fit a member.
-use Rattle.std.proofs.Common.{◌≡◌, refl, Bool, true, false, ◌||◌, Some}
-use Rattle.smithy_ids.specs.declared.shape_type.ShapeType.{ShapeType}
-use Rattle.smithy_schema.specs.Nodes.{Schema}
-use Rattle.smithy_serde.specs.Values.{Value, scalar, null}
-use Rattle.smithy_serde.specs.Fits.{is_null, fits, fits_member, written_kind}
+use Rattle.smithy_binding.proofs.Common.{◌≡◌, refl, Bool, true, false, ◌||◌, Some, ShapeType, Schema, Value, scalar, null, is_null, fits, fits_member, written_kind}
 
 not_null : (v : Value) (k : ShapeType) → written_kind v ≡ Some k → is_null v ≡ false
 not_null (scalar null) k e = absurd (cc e)

@@ -1,20 +1,6 @@
 -- The joint walk over the writes gives what the definitions say of faults, headers, pairs and labels.
-use Rattle.std.proofs.Common.{◌≡◌, ◌≢◌, refl, ap, sym, ◌∙◌, Bool, true, false, ◌||◌, ◌==◌, List, ℕ, ◌<◌, [], ◌∷◌, ◌++◌, length, get_or, set, flat_map, Option, Some, None, option_map, option_and_then, option_to_list, append_assoc, if◌then◌else◌, eq-eqb, subst, get_or-set_other, get_or-set_same, slice_get}
-use Rattle.std.proofs.lemmas.Bool.{eqb-true}
-use Rattle.std.proofs.lemmas.List.{append-nil, length-set, get_or-replicate, length-replicate}
-use Rattle.std.proofs.lemmas.List.Folds.{list_any-append}
+use Rattle.smithy_binding.proofs.Common.{◌≡◌, ◌≢◌, refl, ap, sym, ◌∙◌, Bool, true, false, ◌||◌, ◌==◌, List, ℕ, ◌<◌, [], ◌∷◌, ◌++◌, length, get_or, set, flat_map, Option, Some, None, option_map, option_and_then, option_to_list, append_assoc, if◌then◌else◌, eq-eqb, subst, get_or-set_other, get_or-set_same, slice_get, eqb-true, append-nil, length-set, get_or-replicate, length-replicate, list_any-append, cons_option, option_or, option_map_or, then_try, Schema, at_place, member_at, Write, Resolved, resolve, resolved, all_resolved, firsts_from, firsts, has_seen, put, put_all, inserted, headers, pairs, labels, Fault, writes_fault, resolved_fault, no_member, queries, Gathered, is_seen, placed, added, ok_unless, fault_at, gather_resolved, gather_one, gather, nothing_yet, pairs_of, labelled}
 use Rattle.std.proofs.lemmas.Option.{slice_get_within}
-use Rattle.std.specs.List.{cons_option}
-use Rattle.std.specs.Option.{option_or, option_map_or}
-use Rattle.smithy_types.specs.Results.{then_try}
-use Rattle.smithy_schema.specs.Nodes.{Schema, at_place, member_at}
-use Rattle.smithy_serde.specs.Values.{Write}
-use Rattle.smithy_serde.specs.Writes.{Resolved, resolve, resolved, all_resolved, firsts_from, firsts, has_seen}
-use Rattle.smithy_http.specs.Headers.{put, put_all}
-use Rattle.smithy_binding.specs.Bindings.{inserted, pairs_of, labelled, headers, pairs, labels}
-use Rattle.smithy_binding.specs.Faults.{Fault, writes_fault, resolved_fault, no_member}
-use Rattle.smithy_binding.specs.TargetParts.{queries}
-use Rattle.smithy_binding.specs.Gather.{Gathered, is_seen, placed, added, ok_unless, fault_at, gather_resolved, gather_one, gather, nothing_yet}
 use Rattle.smithy_binding.proofs.ElementSteps.{queries-append}
 
 put_all-append : (done ps qs : List (List ℕ × List ℕ)) → put_all done (ps ++ qs) ≡ put_all (put_all done ps) qs

@@ -1,8 +1,5 @@
 -- What is wrong with one header.
-use Rattle.std.proofs.Common.{◌≡◌, refl, ℕ, Bool, true, false, codes, List, [], ◌∷◌, Some, None}
-use Rattle.smithy_types.specs.Grammars.{is_token, is_header_value}
-use Rattle.smithy_schema.specs.Nodes.{Schema}
-use Rattle.smithy_binding.specs.Faults.{wrong_header, pairs_fault}
+use Rattle.smithy_binding.proofs.Common.{◌≡◌, refl, ℕ, Bool, true, false, codes, List, [], ◌∷◌, Some, None, is_token, is_header_value, Schema, wrong_header, pairs_fault}
 
 pub true_unless : (b : Bool) → (b ≡ false → ⊥) → b ≡ true
 true_unless true h = refl

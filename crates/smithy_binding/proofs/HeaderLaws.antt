@@ -1,20 +1,5 @@
 -- A placed request has each header name once.
-use Rattle.std.proofs.Common.{◌≡◌, ◌≢◌, refl, ap, subst, sym, ◌∙◌, ℕ, Bool, true, false, not, ◌&&◌, List, [], ◌∷◌, ◌++◌, map, flat_map, length, codes, decimal, Result, Ok, Err, Option, Some, None, option_map, is_none, find, if◌then◌else◌}
-use Rattle.std.specs.List.{AllByRecursion}
-use Rattle.std.specs.Option.{option_map_or}
-use Rattle.std.specs.Result.{result_ok}
-use Rattle.smithy_types.specs.Results.{then_give}
-use Rattle.smithy_types.specs.Texts.{same_text, found, AreDistinct}
-use Rattle.smithy_http.specs.Headers.{without, put, put_all}
-use Rattle.smithy_http.specs.Requests.{Request}
-use Rattle.smithy_schema.specs.Nodes.{Schema}
-use Rattle.smithy_serde.specs.Values.{Write}
-use Rattle.smithy_serde.specs.Writes.{firsts}
-use Rattle.smithy_binding.specs.Bindings.{inserted, headers}
-use Rattle.smithy_binding.specs.Bodies.{Body, body}
-use Rattle.smithy_binding.specs.Placing.{Protocol, Omit, adds_content_type, adds_content_length, with_default, all_headers}
-use Rattle.smithy_binding.specs.Answer.{request_at, answer, place}
-use Rattle.smithy_binding.specs.Faults.{Fault, legal_target}
+use Rattle.smithy_binding.proofs.Common.{◌≡◌, ◌≢◌, refl, ap, subst, sym, ◌∙◌, ℕ, Bool, true, false, not, ◌&&◌, List, [], ◌∷◌, ◌++◌, map, flat_map, length, codes, decimal, Result, Ok, Err, Option, Some, None, option_map, is_none, find, if◌then◌else◌, AllByRecursion, option_map_or, result_ok, then_give, same_text, found, AreDistinct, without, put, put_all, Request, Schema, Write, firsts, inserted, headers, Body, body, Protocol, OmitFlags, adds_content_type, adds_content_length, with_default, all_headers, request_at, answer, place, Fault, legal_target}
 use Rattle.smithy_binding.specs.Laws.{header_names}
 use Rattle.smithy_binding.proofs.Tests.{same_text_self}
 
@@ -80,7 +65,7 @@ AreDistinct-with_default wanted name value pairs h = go wanted (found name pairs
         let P : List (List ℕ × List ℕ) → Type 0 = λ ps. AreDistinct (names ps) in
         subst P (put-new pairs name value e) (AreDistinct-put pairs (name, value) h)
 
-AreDistinct-all_headers : (protocol : Protocol) (b : Body) (omit : Omit) (pairs : List (List ℕ × List ℕ)) → AreDistinct (names pairs) → AreDistinct (names (all_headers protocol b omit pairs))
+AreDistinct-all_headers : (protocol : Protocol) (b : Body) (omit : OmitFlags) (pairs : List (List ℕ × List ℕ)) → AreDistinct (names pairs) → AreDistinct (names (all_headers protocol b omit pairs))
 AreDistinct-all_headers protocol b omit pairs h =
     let typed = with_default (adds_content_type b omit) (codes "content-type") protocol.content_type pairs in
     AreDistinct-with_default (adds_content_length b omit) (codes "content-length") (decimal (length b.bytes)) typed
@@ -95,7 +80,7 @@ of_target f (Ok t) request h e =
     let P : Option Request → Type 0 = λ o. AreDistinct (option_map_or header_names o []) in subst P e (h t)
 of_target f (Err fault) request h e = absurd (cc e)
 
-pub headers_stand_once : (protocol : Protocol) (schema : Schema) (ws : List Write) (endpoint : List ℕ) (omit : Omit) (request : Request) → place protocol schema ws endpoint omit ≡ Some request → AreDistinct (header_names request)
+pub headers_stand_once : (protocol : Protocol) (schema : Schema) (ws : List Write) (endpoint : List ℕ) (omit : OmitFlags) (request : Request) → place protocol schema ws endpoint omit ≡ Some request → AreDistinct (header_names request)
 unfolding answer
 headers_stand_once protocol schema ws endpoint omit request e =
     of_target (request_at protocol schema ws omit) (legal_target schema ws endpoint) request

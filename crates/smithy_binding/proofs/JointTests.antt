@@ -1,7 +1,5 @@
 -- Tests that are asked together.
-use Rattle.std.proofs.Common.{◌≡◌, refl, ap, Bool, true, false, not, cond, ◌&&◌, ◌||◌, List, [], ◌∷◌, filter}
-use Rattle.std.specs.List.{list_all}
-use Rattle.std.proofs.lemmas.Bool.{and_parts}
+use Rattle.smithy_binding.proofs.Common.{◌≡◌, refl, ap, Bool, true, false, not, cond, ◌&&◌, ◌||◌, List, [], ◌∷◌, filter, list_all, and_parts}
 
 pub both : (a b : Bool) → a ≡ true → b ≡ true → (a && b) ≡ true
 both true b p q = q

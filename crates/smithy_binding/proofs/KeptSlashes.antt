@@ -1,12 +1,15 @@
 -- The kit's set of bytes without `/` escapes what a greedy hole escapes.
-use Rattle.std.proofs.Common.{◌≡◌, refl, ap, ℕ, zero, suc, ◌<◌, Bool, true, ◌&&◌, List, [], ◌∷◌, ◌++◌, get_or}
-use Rattle.std.specs.Str.{bytes_eq}
+use Rattle.smithy_binding.proofs.Common.{◌≡◌, refl, ap, ℕ, zero, suc, ◌<◌, Bool, true, ◌&&◌, List, [], ◌∷◌, ◌++◌, get_or, if◌then◌else◌, ◌==◌, bytes_eq, keep_slashes}
+use Rattle.smithy_strings.specs.Escapes.{escape_byte}
 use Rattle.std.proofs.lemmas.Bool.Decides.{Decides-below_and}
 use Rattle.std.proofs.lemmas.Slice.Eq.{bytes_eq-Decides}
 use Rattle.percent_encoding.specs.AsciiSet.{should_percent_encode}
 use Rattle.percent_encoding.specs.Percent.{percent_encode_byte, percent_encode, encode_byte}
 use Rattle.smithy_binding.specs.declared.target.TheConstants.{ESCAPED_BUT_SLASH}
-use Rattle.smithy_binding.specs.Filling.{kept_byte, keep_slashes}
+
+-- what stands for a byte
+abbrev kept_byte : ℕ → List ℕ
+kept_byte b = if b == 47 then b ∷ [] else escape_byte b
 
 abbrev bytes_match : ℕ → Bool
 bytes_match zero = true

@@ -1,27 +1,10 @@
 -- What is kept for the body, a write at a time.
-use Rattle.std.proofs.Common.{◌≡◌, refl, ap, sym, ◌∙◌, ℕ, Bool, true, false, not, ◌||◌, ◌==◌, cond, List, [], ◌∷◌, ◌++◌, append_assoc, map, filter, find, slice_set, subst, Option, Some, None, option_map, Ok, if◌then◌else◌, IfSome}
-use Rattle.std.specs.List.{cons_option}
-use Rattle.std.specs.Option.{option_or, option_map_or}
-use Rattle.std.proofs.lemmas.Bool.{eqb-true}
-use Rattle.std.proofs.lemmas.List.{append-nil, map-append}
-use Rattle.smithy_schema.specs.Nodes.{Schema, Table, Binding, to_body, to_payload, binding_of, is_bound, is_outside_body, member_at}
-use Rattle.smithy_serde.specs.Fits.{fits_member}
-use Rattle.smithy_serde.specs.StoredValues.{label_at, HasNode, value_in, IsDefined, listed, AreListedDefined}
-use Rattle.smithy_serde.specs.Values.{Value, Write, list_of, label_of}
-use Rattle.smithy_serde.specs.declared.value.OneWrite.{OneWrite}
-use Rattle.smithy_serde.specs.Writes.{Resolved, resolve, resolved, all_resolved, firsts_from, has_seen}
-use Rattle.smithy_http.specs.Headers.{put_all}
-use Rattle.smithy_binding.specs.Bindings.{inserted_at, pairs_at, labelled_at, query_names}
-use Rattle.smithy_binding.specs.Bodies.{BodyParts, body_parts, is_payload}
-use Rattle.smithy_binding.specs.Faults.{is_placed_at, bound_fault}
-use Rattle.smithy_binding.specs.Gather.{Gathered, is_seen, add_or_fault}
-use Rattle.smithy_binding.specs.Placed.{first_fault}
-use Rattle.smithy_binding.specs.TargetParts.{queries}
-use Rattle.smithy_binding.specs.KeptWrites.{no_parts, kept_at, keep, keep_all, value_of, write_in, unbound_in, kept_in, IsEmpty, AreDefinedWrites, IsKeptDefined}
+use Rattle.smithy_binding.proofs.Common.{◌≡◌, refl, ap, sym, ◌∙◌, ℕ, Bool, true, false, not, ◌||◌, ◌==◌, cond, List, [], ◌∷◌, ◌++◌, append_assoc, map, filter, find, slice_set, subst, Option, Some, None, option_map, Ok, if◌then◌else◌, IfSome, cons_option, option_or, option_map_or, eqb-true, append-nil, map-append, Schema, Table, Binding, to_body, to_payload, binding_of, is_bound, is_outside_body, member_at, fits_member, label_at, HasNode, value_in, IsDefined, listed, AreListedDefined, Value, Write, list_of, label_of, OneWrite, Resolved, resolved, all_resolved, firsts_from, has_seen, put_all, inserted_at, pairs_at, labelled_at, query_names, BodyParts, body_parts, is_payload, is_placed_at, bound_fault, Gathered, is_seen, add_or_fault, first_fault, finds, queries, no_parts, kept_at, keep, keep_all, write_in, unbound_in, kept_in, IsEmpty, AreDefinedWrites, IsKeptDefined}
+use Rattle.smithy_binding.specs.views.KeptWrites.{value_of}
 use Rattle.smithy_binding.specs.declared.body_writes.BodyWrite.{BodyWrite}
 use Rattle.smithy_binding.specs.declared.body_writes.BodyWrites.{BodyWrites}
 use Rattle.smithy_binding.proofs.Gathers.{resolve-resolved, seen_next}
-use Rattle.smithy_binding.proofs.WriteSteps.{add-first}
+use Rattle.smithy_binding.proofs.WriteSteps.{add-first, kept-at}
 
 -- the first write of a member of the body is marked alone
 pub add-unplaced : (schema : Schema) (s : Gathered) (r : Resolved) → fits_member r.member r.value ≡ true → is_seen s r.position ≡ false → is_placed_at (binding_of r.member) ≡ false
@@ -42,9 +25,9 @@ add-unplaced schema s r fits unseen unplaced =
     go _ e = absurd (cc e)
 
 -- a write to this member
-pub kept-one : (schema : Schema) (parts : BodyParts) (w : Write) (i : ℕ) (m : Schema) → resolve schema w.label ≡ Some i → member_at schema i ≡ Some m
+pub kept-one : (schema : Schema) (parts : BodyParts) (w : Write) (i : ℕ) (m : Schema) → finds schema w.label ≡ Some (i, m)
     → keep_all parts (all_resolved schema (w ∷ [])) ≡ keep parts (record { position = i; member = m; value = w.value })
-kept-one schema parts w i m e at = rw (e, at) refl
+kept-one schema parts w i m e = ap (keep_all parts) (kept-at schema w i m e)
 
 kept-cons : (schema : Schema) (parts : BodyParts) (w : Write) (ws : List Write) → keep_all parts (all_resolved schema (w ∷ ws)) ≡ keep_all (keep_all parts (all_resolved schema (w ∷ []))) (all_resolved schema ws)
 kept-cons schema parts w ws = go (resolved schema w)

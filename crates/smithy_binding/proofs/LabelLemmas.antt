@@ -1,17 +1,7 @@
 -- The map from names to texts, a label at a time.
-use Rattle.std.proofs.Common.{◌≡◌, ap, ◌∙◌, ℕ, ◌+◌, ◌<◌, Bool, true, false, cond, List, length, get_or, map, find, drop, Option, Some, option_map}
-use Rattle.std.specs.Borrow.{Bor}
+use Rattle.smithy_binding.proofs.Common.{◌≡◌, ap, ◌∙◌, ℕ, ◌+◌, ◌<◌, Bool, true, false, cond, List, length, get_or, map, find, drop, Option, Some, option_map, Bor, drop_more, btree_map_updates_str, BTreeMap, UpdatesBy, get_by, slice_cmp, nat_cmp, bytes_eq, found, same_text, text_in_map, label_pair}
 use Rattle.std.specs.Cow.{cow_str_bytes}
-use Rattle.std.proofs.lemmas.List.{drop_more}
-use Rattle.std.proofs.lemmas.Map.Text.{btree_map_updates_str}
-use Rattle.std.specs.BTreeMap.{BTreeMap, UpdatesBy, get_by}
-use Rattle.std.specs.Cmp.Lexicographic.{slice_cmp}
-use Rattle.std.specs.Ordering.{nat_cmp}
-use Rattle.std.specs.Str.{bytes_eq}
-use Rattle.smithy_types.specs.Texts.{found, same_text}
 use Rattle.smithy_binding.specs.declared.labels.Label.{Label}
-use Rattle.smithy_binding.specs.LabelTexts.{text_in_map}
-use Rattle.smithy_binding.specs.Seen.{label_pair}
 
 -- the label at p goes in before those behind it
 pub text-more : (labels : List Label) (p q : ℕ) (label : Label) (old new : BTreeMap (Bor (List ℕ)) (Bor (List ℕ))) (text : Bor (List ℕ)) → p < length labels → q ≡ p + 1

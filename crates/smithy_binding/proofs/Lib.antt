@@ -1,3 +1,4 @@
+pub mod Common
 pub mod CheckedLaws
 pub mod CheckedMethods
 pub mod CheckedOutputLaws
@@ -18,6 +19,7 @@ pub mod JointTests
 pub mod KeptSlashes
 pub mod KeptSteps
 pub mod LabelLemmas
+pub mod ListWrites
 pub mod LowerNames
 pub mod MapEntries
 pub mod MemberSteps
@@ -33,5 +35,4 @@ pub mod Tests
 pub mod UnboundMembers
 mod Walks
 pub mod WriteSteps
-pub mod EachWrite
 pub mod RpcAnswers

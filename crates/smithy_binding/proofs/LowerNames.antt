@@ -1,10 +1,6 @@
 -- A name in lower case is a token where the name is one.
-use Rattle.std.proofs.Common.{◌≡◌, refl, ap, sym, ◌∙◌, ℕ, suc, ◌≤◌, nat_lt, Bool, true, false, not, ◌&&◌, ◌==◌, List, [], ◌∷◌, length, arith, ltb-true, ltb-false, ne_eqb}
+use Rattle.smithy_binding.proofs.Common.{◌≡◌, refl, ap, sym, ◌∙◌, ℕ, suc, ◌≤◌, nat_lt, Bool, true, false, not, ◌&&◌, ◌==◌, List, [], ◌∷◌, length, arith, ltb-true, ltb-false, ne_eqb, list_all, str_to_ascii_lowercase, agree_below, agree_below_at, le-ltb, is_token, is_token_byte}
 use Rattle.std.specs.Char.{to_ascii_lowercase}
-use Rattle.std.specs.List.{list_all}
-use Rattle.std.specs.Str.{str_to_ascii_lowercase}
-use Rattle.std.proofs.lemmas.Bool.{agree_below, agree_below_at, le-ltb}
-use Rattle.smithy_types.specs.Grammars.{is_token, is_token_byte}
 
 agree : agree_below (λ b. is_token_byte (to_ascii_lowercase b)) is_token_byte 128 ≡ true
 agree = refl

@@ -1,21 +1,7 @@
 -- The entries of a map, an entry at a time.
-use Rattle.std.proofs.Common.{◌≡◌, refl, ap, sym, ◌∙◌, ℕ, zero, suc, ◌+◌, ◌*◌, ◌/◌, ◌%◌, ◌<◌, ◌≤◌, Bool, true, false, not, ◌||◌, ◌==◌, cond, List, [], ◌∷◌, ◌++◌, append_assoc, length, drop, filter, filter_map, flat_map, map, slice_get, arith, Option, Some, None, is_some, option_and_then, if◌then◌else◌}
-use Rattle.std.specs.List.{cons_option}
-use Rattle.std.specs.Option.{option_map_or, option_or}
-use Rattle.std.specs.Str.{bytes_eq, str_to_ascii_lowercase}
-use Rattle.std.proofs.Math.ListN.{drop_of_length-le}
-use Rattle.std.proofs.lemmas.List.{append-nil}
-use Rattle.smithy_types.specs.Texts.{is_one_of, same_text}
-use Rattle.smithy_schema.specs.Nodes.{Schema, Table, member_at, to_query_map}
-use Rattle.smithy_serde.specs.Fits.{fits}
-use Rattle.smithy_serde.specs.StoredValues.{value_in, listed}
-use Rattle.smithy_serde.specs.Values.{Value, list, Writes, no_writes, write, Write, list_of, text_of_key}
+use Rattle.smithy_binding.proofs.Common.{◌≡◌, refl, ap, sym, ◌∙◌, ℕ, zero, suc, ◌+◌, ◌*◌, ◌/◌, ◌%◌, ◌<◌, ◌≤◌, Bool, true, false, not, ◌||◌, ◌==◌, cond, List, [], ◌∷◌, ◌++◌, append_assoc, length, drop, filter, filter_map, flat_map, map, slice_get, arith, Option, Some, None, is_some, option_and_then, if◌then◌else◌, cons_option, option_map_or, option_or, bytes_eq, str_to_ascii_lowercase, drop_of_length-le, append-nil, is_one_of, same_text, Schema, Table, member_at, to_query_map, fits, value_in, listed, Value, list, Writes, no_writes, write, Write, list_of, text_of_key, OneWrite, kind_or_none, entries_of, pairs_at, text_at, pairs_at_place, entry_pairs, Fault, wrong_item_kind, nested_fault, part_fault, entry_fault, item_fault, key_fault, value_fault, ends_with_value, pair_fault, pairs_fault, queries}
 use Rattle.smithy_serde.specs.Values as value
-use Rattle.smithy_serde.specs.declared.value.OneWrite.{OneWrite}
-use Rattle.smithy_binding.specs.Bindings.{kind_or_none, entries_of, entry_pairs, has_key_outside, pairs_at}
-use Rattle.smithy_binding.specs.Entries.{text_at, pairs_at_place}
-use Rattle.smithy_binding.specs.Faults.{Fault, wrong_item_kind, nested_fault, part_fault, entry_fault, item_fault, key_fault, value_fault, ends_with_value, pair_fault, pairs_fault}
-use Rattle.smithy_binding.specs.TargetParts.{queries}
+use Rattle.smithy_binding.specs.NormalForm.{has_key_outside}
 use Rattle.smithy_binding.proofs.DistinctNames.{same_text-sym}
 use Rattle.smithy_binding.proofs.ElementSteps.{queries-append}
 use Rattle.smithy_binding.proofs.MemberSteps.{members_from, members_from-more}

@@ -1,7 +1,5 @@
 -- The members of a schema, a member at a time.
-use Rattle.std.proofs.Common.{◌≡◌, refl, ap, sym, ◌∙◌, ℕ, ◌+◌, zero, suc, arith, Bool, false, List, [], ◌∷◌, drop, filter_map, slice_get, Option, Some, None, is_some, option_and_then}
-use Rattle.std.specs.List.{list_all, cons_option}
-use Rattle.smithy_schema.specs.Nodes.{Schema, at_place, member_at}
+use Rattle.smithy_binding.proofs.Common.{◌≡◌, refl, ap, sym, ◌∙◌, ℕ, ◌+◌, zero, suc, arith, Bool, false, List, [], ◌∷◌, drop, filter_map, slice_get, Option, Some, None, is_some, option_and_then, list_all, cons_option, Schema, at_place, member_at}
 use Rattle.smithy_binding.proofs.WriteSteps.{drop-some}
 
 abbrev pub members_from : Schema → ℕ → List Schema

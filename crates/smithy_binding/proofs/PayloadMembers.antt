@@ -1,12 +1,6 @@
 -- The kind of the payload member, a member at a time.
-use Rattle.std.proofs.Common.{◌≡◌, refl, ap, ◌∙◌, ℕ, ◌+◌, ◌<◌, ◌≤◌, cond, List, length, find, Option, Some, None, option_map}
-use Rattle.std.specs.List.{cons_option}
-use Rattle.std.specs.Option.{option_or}
-use Rattle.std.proofs.Math.ListN.{drop_of_length-le}
-use Rattle.smithy_ids.specs.declared.shape_type.ShapeType.{ShapeType}
-use Rattle.smithy_schema.specs.Nodes.{Schema, member_at, Binding, to_payload, binding_of}
-use Rattle.smithy_binding.specs.Bodies.{is_payload}
-use Rattle.smithy_binding.specs.PayloadKinds.{kind_at, kind_if_payload}
+use Rattle.smithy_binding.proofs.Common.{◌≡◌, refl, ap, ◌∙◌, ℕ, ◌+◌, ◌<◌, ◌≤◌, cond, List, length, find, Option, Some, None, option_map, cons_option, option_or, drop_of_length-le, ShapeType, Schema, member_at, Binding, to_payload, binding_of, is_payload}
+use Rattle.smithy_binding.specs.views.PayloadKinds.{kind_at, kind_if_payload}
 use Rattle.smithy_binding.proofs.MemberSteps.{members_from, members_from-more}
 
 abbrev pub kind_in : List Schema → Option ShapeType

@@ -1,14 +1,6 @@
 -- A template cut at its first hole.
-use Rattle.std.proofs.Common.{◌≡◌, refl, ap, ◌∙◌, ℕ, ◌+◌, Bool, true, false, not, cond, ◌||◌, ◌==◌, List, [], ◌∷◌, ◌++◌, length, codes, if◌then◌else◌, arith, count_by, suc, take, drop}
-use Rattle.std.proofs.lemmas.Bool.{eqb-true}
-use Rattle.std.proofs.lemmas.List.{append-nil}
-use Rattle.std.specs.List.{slice_split, before_first, after_first, onto_first, position_or_len}
+use Rattle.smithy_binding.proofs.Common.{◌≡◌, refl, ap, ◌∙◌, ℕ, ◌+◌, Bool, true, false, not, cond, ◌||◌, ◌==◌, List, [], ◌∷◌, ◌++◌, length, codes, if◌then◌else◌, arith, count_by, suc, take, drop, eqb-true, append-nil, slice_split, before_first, after_first, onto_first, position_or_len, has_byte, Template, hole_of, pieces, pieces_of_parts, CutHole, hole_shown, behind_hole, behind_holes, literal_alone, is_close, is_open}
 use Rattle.std.proofs.lemmas.List.Splits.{length-slice_split}
-use Rattle.smithy_types.specs.Texts.{has_byte}
-use Rattle.smithy_schema.specs.Templates.{Template, hole_of, pieces, pieces_of_parts}
-use Rattle.smithy_binding.specs.declared.template.CutHole.{CutHole}
-use Rattle.smithy_binding.specs.CutTemplate.{hole_shown, behind_hole, behind_holes, literal_alone}
-use Rattle.smithy_binding.specs.TargetParts.{is_close, is_open}
 
 -- a byte before the first literal
 abbrev pub behind_byte : ℕ → Template → Template

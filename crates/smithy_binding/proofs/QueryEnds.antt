@@ -1,9 +1,5 @@
 -- What stands behind the first `&` of a query.
-use Rattle.std.proofs.Common.{◌≡◌, ◌≢◌, refl, ap, ℕ, Bool, true, false, ◌==◌, List, [], ◌∷◌, ◌++◌, if◌then◌else◌, Option, Some, None, MatchOption}
-use Rattle.std.proofs.lemmas.Bool.{eqb-true}
-use Rattle.std.specs.Borrow.{Bor}
-use Rattle.smithy_types.specs.Texts.{has_byte}
-use Rattle.smithy_binding.specs.TargetParts.{separator, target_behind}
+use Rattle.smithy_binding.proofs.Common.{◌≡◌, ◌≢◌, refl, ap, ℕ, Bool, true, false, ◌==◌, List, [], ◌∷◌, ◌++◌, if◌then◌else◌, Option, Some, None, MatchOption, eqb-true, Bor, has_byte, separator, target_behind}
 
 abbrev pub IsBehindFirst : List ℕ → List ℕ → Option (Bor (List ℕ)) → Type 0
 IsBehindFirst path query r =

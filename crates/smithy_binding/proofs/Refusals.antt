@@ -1,10 +1,6 @@
 -- What follows from a refusal.
-use Rattle.std.proofs.Common.{◌≡◌, Result, Ok, Err, IsErr, IfErr}
-use Rattle.smithy_schema.specs.Nodes.{Table}
-use Rattle.smithy_serde.specs.declared.error.SerdeError.{SerdeError}
+use Rattle.smithy_binding.proofs.Common.{◌≡◌, Result, Ok, Err, IsErr, IfErr, Table, SerdeError, Fault, TellsFault, Answers}
 use Rattle.smithy_serde.specs.declared.error.SerdeError.TheVariants.{UnknownMember, InvalidInput, UnsupportedOperation, Custom, OutOfMemory}
-use Rattle.smithy_binding.specs.Faults.{Fault}
-use Rattle.smithy_binding.specs.Refusing.{TellsFault, Answers}
 
 -- what follows from a fault that is told
 pub TellsFault-then : (e : SerdeError) (P Q : Fault → Type 0) → ((f : Fault) → P f → Q f) → TellsFault e P → TellsFault e Q

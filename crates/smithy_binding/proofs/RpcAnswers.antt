@@ -1,20 +1,10 @@
 -- The answer of a remote procedure call, by the text of its document.
-use Rattle.std.proofs.Common.{◌≡◌, ap, sym, ◌∙◌, ℕ, List, Ok, Err, Some}
-use Rattle.smithy_http.specs.Requests.{Request}
-use Rattle.smithy_serde.specs.DocumentOf.{document_fault}
-use Rattle.smithy_serde.specs.Finishing.{IsTextOf}
-use Rattle.smithy_serde.specs.Refusing.{IsFaultRefusal}
-use Rattle.smithy_serde.specs.Values.{structure, Writes}
-use Rattle.smithy_serde.specs.declared.error.SerdeError.{SerdeError}
-use Rattle.smithy_binding.specs.Bodies.{text_of_document}
-use Rattle.smithy_binding.specs.Faults.{Fault, behind, fault_of_document}
-use Rattle.smithy_binding.specs.Placing.{Protocol, Omit}
-use Rattle.smithy_binding.specs.Refusing.{Answers}
+use Rattle.smithy_binding.proofs.Common.{◌≡◌, ap, sym, ◌∙◌, ℕ, List, Ok, Err, Some, Request, document_fault, IsTextOf, IsFaultRefusal, structure, Writes, SerdeError, text_of_document, Fault, behind, fault_of_document, Protocol, OmitFlags, Answers}
 use Rattle.smithy_binding.specs.Rpc.{posted, rpc_answer}
 use Rattle.smithy_binding.proofs.Refusals.{TellsFault-then}
 use Rattle.smithy_binding.proofs.TellingUnbound.{refused-document, text-fault, text-bytes}
 
-module _ (protocol : Protocol) (ws : Writes) (endpoint : List ℕ) (omit : Omit) where
+module _ (protocol : Protocol) (ws : Writes) (endpoint : List ℕ) (omit : OmitFlags) where
   rpc-fault : (f : Fault) → fault_of_document (Some (structure ws)) ≡ Some f → rpc_answer protocol ws endpoint omit ≡ Err f
   unfolding rpc_answer
   rpc-fault f e = ap (λ o. behind o (posted protocol.content_type endpoint omit (text_of_document protocol.text_of (Some (structure ws))))) e

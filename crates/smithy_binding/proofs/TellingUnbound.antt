@@ -1,27 +1,8 @@
 -- A loop that tells the writes of the body.
-use Rattle.std.proofs.Common.{◌≡◌, refl, ap, sym, ◌∙◌, arith, ℕ, ◌<◌, List, [], ◌∷◌, ◌++◌, length, get_or, Option, Some, None, Result, Ok, Err, IfOk, IfErr, option_map, subst, zero, suc, unwrap_or}
-use Rattle.std.proofs.lemmas.List.{map-append}
-use Rattle.std.specs.Result.{result_ok, result_err}
+use Rattle.smithy_binding.proofs.Common.{◌≡◌, refl, ap, sym, ◌∙◌, arith, ℕ, ◌<◌, List, [], ◌∷◌, ◌++◌, length, get_or, Option, Some, None, Result, Ok, Err, IfOk, IfErr, option_map, subst, zero, suc, unwrap_or, map-append, result_ok, result_err, Table, SerdeError, Value, write, Write, writes_of, appended, DocumentFault, document_fault, document_fault_text, IsFaultRefusal, IsTextOf, IsDefined, TellsInOrder, text_of_document, custom, fault_of_document, TellsFault, write_in, unbound_in, told, AreDefinedWrites}
 use Rattle.smithy_types.specs.Documents.{Document}
-use Rattle.smithy_schema.specs.Nodes.{Table}
-use Rattle.smithy_serde.specs.declared.error.SerdeError.{SerdeError}
 use Rattle.smithy_serde.specs.declared.error.SerdeError.TheVariants.{Custom, OutOfMemory}
-use Rattle.smithy_serde.specs.Values.{Value, Writes, write, Write, writes_of}
-use Rattle.smithy_serde.specs.Told.{appended}
-use Rattle.smithy_serde.specs.DocumentOf.{DocumentFault, document_fault, document_fault_text}
-use Rattle.smithy_serde.specs.Refusing.{IsFaultRefusal}
-use Rattle.smithy_serde.specs.Finishing.{IsTextOf}
-use Rattle.smithy_serde.specs.StoredValues.{IsDefined}
-use Rattle.smithy_serde.proofs.InOrder.{TellsInOrder}
 use Rattle.smithy_binding.specs.declared.body_writes.BodyWrite.{BodyWrite}
-use Rattle.smithy_binding.specs.Bodies.{text_of_document}
-use Rattle.smithy_binding.specs.Faults.{custom, fault_of_document}
-use Rattle.smithy_binding.specs.Refusing.{TellsFault}
-use Rattle.smithy_binding.specs.KeptWrites.{write_in, unbound_in, AreDefinedWrites}
-
--- the writes, as they stand inside a value
-abbrev pub told : Table → List BodyWrite → Writes
-told t us = writes_of (unbound_in t us)
 
 writes_of-append : (vs ws : List Write) → writes_of (vs ++ ws) ≡ appended (writes_of vs) (writes_of ws)
 writes_of-append [] ws = refl

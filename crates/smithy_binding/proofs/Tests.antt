@@ -1,12 +1,7 @@
 -- Tests of kinds and of distinct texts, and what they say.
-use Rattle.std.proofs.Common.{◌≡◌, ◌≢◌, refl, ap, sym, ◌∙◌, ℕ, Bool, true, false, not, ◌||◌, ◌==◌, List, [], ◌∷◌, eq-eqb}
-use Rattle.std.specs.List.{AllByRecursion}
+use Rattle.smithy_binding.proofs.Common.{◌≡◌, ◌≢◌, refl, ap, sym, ◌∙◌, ℕ, Bool, true, false, not, ◌||◌, ◌==◌, List, [], ◌∷◌, eq-eqb, AllByRecursion, and_parts, and_from, or_parts, not-true, same_text, is_one_of, are_distinct, AreDistinct, ShapeType, same_kind}
 use Rattle.std.specs.Cmp.Lexicographic.{same_text as same_from_test}
-use Rattle.std.proofs.lemmas.Bool.{and_parts, and_from, or_parts, not-true}
-use Rattle.smithy_types.specs.Texts.{same_text, is_one_of, are_distinct, AreDistinct}
-use Rattle.smithy_ids.specs.declared.shape_type.ShapeType.{ShapeType}
 use Rattle.smithy_ids.specs.declared.shape_type.ShapeType.TheVariants as kind
-use Rattle.smithy_ids.specs.Kinds.{same_kind}
 
 -- a kind with the number of Structure is Structure
 pub structure_from_test : (k : ShapeType) → same_kind k kind.Structure ≡ true → k ≡ kind.Structure

@@ -1,9 +1,6 @@
 -- Whether some member is unbound, a member at a time.
-use Rattle.std.proofs.Common.{◌≡◌, refl, ap, ◌∙◌, ℕ, ◌+◌, ◌<◌, ◌≤◌, Bool, false, not, ◌||◌, List, length, Option, Some, None}
-use Rattle.std.specs.List.{list_any, cons_option}
-use Rattle.std.specs.Option.{option_map_or}
-use Rattle.std.proofs.Math.ListN.{drop_of_length-le}
-use Rattle.smithy_schema.specs.Nodes.{Schema, member_at, is_bound}
+use Rattle.smithy_binding.proofs.Common.{◌≡◌, refl, ap, ◌∙◌, ℕ, ◌+◌, ◌<◌, ◌≤◌, Bool, false, not, ◌||◌, List, length, Option, Some, None, list_any, cons_option, option_map_or, drop_of_length-le, Schema, member_at, is_bound}
+use Rattle.smithy_binding.specs.views.PayloadKinds.{is_unbound_at}
 use Rattle.smithy_binding.proofs.MemberSteps.{members_from, members_from-more}
 
 -- the same from a position on
@@ -11,7 +8,7 @@ abbrev pub unbound_from : Schema → ℕ → Bool
 unbound_from schema i = list_any (λ m. not (is_bound m)) (members_from schema i)
 
 pub unbound_from-more : (schema : Schema) (i : ℕ) → i < length schema.node.members
-    → unbound_from schema i ≡ (option_map_or (λ m. not (is_bound m)) (member_at schema i) false || unbound_from schema (i + 1))
+    → unbound_from schema i ≡ (is_unbound_at schema i || unbound_from schema (i + 1))
 unbound_from-more schema i l = ap (list_any (λ m. not (is_bound m))) (members_from-more schema i) ∙ place (member_at schema i) (members_from schema (i + 1))
   where
     place : (o : Option Schema) (ms : List Schema) → list_any (λ m. not (is_bound m)) (cons_option o ms) ≡ (option_map_or (λ m. not (is_bound m)) o false || list_any (λ m. not (is_bound m)) ms)

@@ -1,10 +1,7 @@
 -- What a walk over a list answers, whose items are read through a view.
-use Rattle.std.proofs.Common.{◌≡◌, refl, ap, sym, ◌∙◌, ℕ, zero, suc, ◌<◌, Bool, true, false, ◌||◌, List, [], ◌∷◌, map, length, arith}
+use Rattle.smithy_binding.proofs.Common.{◌≡◌, refl, ap, sym, ◌∙◌, ℕ, zero, suc, ◌<◌, Bool, true, false, ◌||◌, List, [], ◌∷◌, map, length, arith, list_all, list_any, AllWithin, HoldsAt, list_all-map, list_all_at, list_all-from_AllPass}
 use Rattle.std.specs.Bool.{MatchBool}
-use Rattle.std.specs.List.{list_all, list_any, AllWithin, HoldsAt}
-use Rattle.std.proofs.lemmas.List.Folds.{list_all-map, list_all_at}
 use Rattle.std.proofs.lemmas.List.Elements.{All-from_all_within}
-use Rattle.std.proofs.lemmas.List.Sums.{list_all-from_AllPass}
 
 -- each item passes, or one does not
 abbrev pub Checks : {X : Type 0} → (X → Bool) → List X → Bool → Type 0

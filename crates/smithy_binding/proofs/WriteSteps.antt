@@ -1,16 +1,6 @@
 -- A list of writes, a write at a time.
-use Rattle.std.proofs.Common.{◌≡◌, refl, ap, ◌∙◌, subst, ℕ, zero, suc, ◌+◌, Bool, true, false, ◌&&◌, List, [], ◌∷◌, drop, filter_map, slice_get, slice_set, arith, Option, Some, None, option_and_then, Ok, Err, if◌then◌else◌}
-use Rattle.std.specs.List.{list_all, cons_option}
-use Rattle.std.proofs.lemmas.Bool.{and_parts}
-use Rattle.smithy_schema.specs.Nodes.{Schema, Table, at_place, member_at, members_of, binding_of}
-use Rattle.smithy_serde.specs.StoredValues.{label_at, value_in, listed}
-use Rattle.smithy_serde.specs.Values.{Write, list_of}
-use Rattle.smithy_serde.specs.declared.value.OneWrite.{OneWrite}
-use Rattle.smithy_serde.specs.Writes.{Resolved, resolve}
-use Rattle.smithy_serde.specs.Fits.{fits_member}
-use Rattle.smithy_binding.specs.Faults.{Fault, no_member, wrong_kind, bound_fault, is_placed_at}
-use Rattle.smithy_binding.specs.Gather.{Gathered, is_seen, placed, ok_unless, gather, gather_one, add_or_fault}
-use Rattle.smithy_binding.specs.Placed.{placed_first, first_fault}
+use Rattle.smithy_binding.proofs.Common.{◌≡◌, refl, ap, ◌∙◌, subst, ℕ, zero, suc, ◌+◌, Bool, true, false, ◌&&◌, List, [], ◌∷◌, drop, filter_map, slice_get, slice_set, arith, Option, Some, None, option_map, option_and_then, Ok, Err, if◌then◌else◌, list_all, cons_option, option_map_or, and_parts, Schema, Table, at_place, member_at, members_of, binding_of, label_at, value_in, listed, Write, list_of, OneWrite, Resolved, resolve, resolved, all_resolved, fits_member, Fault, no_member, wrong_kind, bound_fault, is_placed_at, Gathered, is_seen, placed, ok_unless, gather, gather_one, gather_resolved, add_or_fault, placed_first, first_fault, found_at, finds}
+use Rattle.smithy_serde.specs.Values.{Label}
 
 pub drop-some : {X : Type 0} (xs : List X) (i : ℕ) (x : X) → slice_get xs i ≡ Some x → drop i xs ≡ x ∷ drop (i + 1) xs
 drop-some [] i x e = absurd (cc e)
@@ -39,18 +29,47 @@ pub gather-end : (t : Table) (schema : Schema) (s : Gathered) (rest : List OneWr
 unfolding gather
 gather-end t schema s rest none = rw none refl
 
-pub gather_one-at : (schema : Schema) (s : Gathered) (w : Write) (i : ℕ) (m : Schema) → resolve schema w.label ≡ Some i → member_at schema i ≡ Some m
+-- the member that a write is for, if there is one
+resolved-is : (schema : Schema) (w : Write) → resolved schema w ≡ option_map (λ r. record { position = r.0; member = r.1; value = w.value }) (finds schema w.label)
+resolved-is schema w = go (resolve schema w.label)
+  where
+    member : (i : ℕ) (o : Option Schema) → ◌≡◌ {A = Option Resolved} (option_map (λ m. record { position = i; member = m; value = w.value }) o)
+        (option_map (λ (r : ℕ × Schema). record { position = r.0; member = r.1; value = w.value }) (option_map (λ m. (i, m)) o))
+    member i None = refl
+    member i (Some m) = refl
+
+    go : (o : Option ℕ) → ◌≡◌ {A = Option Resolved} (option_and_then (λ i. option_map (λ m. record { position = i; member = m; value = w.value }) (member_at schema i)) o)
+        (option_map (λ (r : ℕ × Schema). record { position = r.0; member = r.1; value = w.value }) (option_and_then (found_at schema) o))
+    go None = refl
+    go (Some i) = member i (member_at schema i)
+
+pub gather_one-at : (schema : Schema) (s : Gathered) (w : Write) (i : ℕ) (m : Schema) → finds schema w.label ≡ Some (i, m)
     → gather_one schema s w ≡ add_or_fault schema s (record { position = i; member = m; value = w.value })
 unfolding gather_one
-gather_one-at schema s w i m e at = rw (e, at) refl
+gather_one-at schema s w i m e = ap (gather_resolved schema s w) (resolved-is schema w ∙ ap (option_map (λ (r : ℕ × Schema). record { position = r.0; member = r.1; value = w.value })) e)
 
-pub gather_one-none : (schema : Schema) (s : Gathered) (w : Write) → resolve schema w.label ≡ None → gather_one schema s w ≡ Err (no_member w.label)
+pub gather_one-none : (schema : Schema) (s : Gathered) (w : Write) → finds schema w.label ≡ None → gather_one schema s w ≡ Err (no_member w.label)
 unfolding gather_one
-gather_one-none schema s w e = rw e refl
+gather_one-none schema s w e = ap (gather_resolved schema s w) (resolved-is schema w ∙ ap (option_map (λ (r : ℕ × Schema). record { position = r.0; member = r.1; value = w.value })) e)
 
-pub gather_one-hole : (schema : Schema) (s : Gathered) (w : Write) (i : ℕ) → resolve schema w.label ≡ Some i → member_at schema i ≡ None → gather_one schema s w ≡ Err (no_member w.label)
-unfolding gather_one
-gather_one-hole schema s w i e at = rw (e, at) refl
+-- and its place
+pub found-member : (schema : Schema) (l : Label) (i : ℕ) (m : Schema) → finds schema l ≡ Some (i, m) → member_at schema i ≡ Some m
+found-member schema l i m e = go (resolve schema l) e
+  where
+    at : (j : ℕ) (o : Option Schema) → member_at schema j ≡ o → option_map {U = ℕ × Schema} (λ (n : Schema). (j, n)) o ≡ Some (i, m) → member_at schema i ≡ Some m
+    at j None h e = absurd (cc e)
+    at j (Some n) h e =
+        let position : j ≡ i = ap (λ (o : Option (ℕ × Schema)). option_map_or (λ p. p.0) o 0) e in
+        let member : n ≡ m = ap (λ (o : Option (ℕ × Schema)). option_map_or (λ p. p.1) o n) e in
+        rw (← position, ← member) h
+
+    go : (o : Option ℕ) → option_and_then (found_at schema) o ≡ Some (i, m) → member_at schema i ≡ Some m
+    go None e = absurd (cc e)
+    go (Some j) e = at j (member_at schema j) refl e
+
+-- what is kept of it
+pub kept-at : (schema : Schema) (w : Write) (i : ℕ) (m : Schema) → finds schema w.label ≡ Some (i, m) → all_resolved schema (w ∷ []) ≡ record { position = i; member = m; value = w.value } ∷ []
+kept-at schema w i m e = ap (λ (o : Option Resolved). cons_option o []) (resolved-is schema w ∙ ap (option_map (λ (r : ℕ × Schema). record { position = r.0; member = r.1; value = w.value })) e)
 
 -- a value that doesn't fit
 pub add-wrong : (schema : Schema) (s : Gathered) (r : Resolved) → fits_member r.member r.value ≡ false → add_or_fault schema s r ≡ Err (wrong_kind r.member r.value)

@@ -1,16 +1,8 @@
 -- What a bound write puts into labels, headers and the query (Smithy, HTTP protocol bindings).
-use Rattle.std.specs.Prelude.{ℕ, Bool, false, not, List, [], ◌∷◌, ◌++◌, map, filter, flat_map, filter_map, Option, Some, option_map, unwrap_or, is_some}
-use Rattle.std.specs.Option.{option_map_or}
-use Rattle.std.specs.Str.{str_to_ascii_lowercase}
-use Rattle.smithy_types.specs.Texts.{is_one_of}
-use Rattle.smithy_types.specs.Results.{each}
-use Rattle.smithy_ids.specs.declared.shape_type.ShapeType.{ShapeType}
+use Rattle.std.specs.Prelude.{ℕ, false, not, List, [], ◌∷◌, ◌++◌, map, filter, flat_map, filter_map, Option, Some, option_map, unwrap_or, is_some}
+use Rattle.smithy_binding.specs.Words.{option_map_or, str_to_ascii_lowercase, is_one_of, each, ShapeType, put_all, Schema, element_of, members_of, name_of, Binding, to_header, to_prefix, to_query, to_query_map, to_label, binding_of, Value, list, Writes, no_writes, write, Write, list_of, text_of_key, Resolved, firsts}
 use Rattle.smithy_ids.specs.declared.shape_type.ShapeType.TheVariants as kind
-use Rattle.smithy_http.specs.Headers.{put_all}
-use Rattle.smithy_schema.specs.Nodes.{Schema, element_of, members_of, name_of, Binding, to_header, to_prefix, to_query, to_query_map, to_label, binding_of}
-use Rattle.smithy_serde.specs.Values.{Value, list, Writes, no_writes, write, Write, list_of, text_of_key}
 use Rattle.smithy_serde.specs.Values as value
-use Rattle.smithy_serde.specs.Writes.{Resolved, firsts}
 use Rattle.smithy_strings.specs.declared.wire.Place.{Place}
 use Rattle.smithy_strings.specs.declared.wire.Place.TheVariants.{Header, Query, Label}
 use Rattle.smithy_strings.specs.Wire.{wire}
@@ -23,21 +15,9 @@ place_at (to_prefix prefix) = Header
 place_at to_label = Label
 place_at _ = Query
 
--- where the texts of a member stand
-abbrev pub place_of : Schema → Place
-place_of m = place_at (binding_of m)
-
 -- of a node that is not there, a kind that no value has
 abbrev pub kind_or_none : Option Schema → ShapeType
 kind_or_none schema = option_map_or (λ s. s.node.kind) schema kind.Member
-
--- the text of a value of a member, by the member's time format and media type
-abbrev pub member_text : Place → Schema → Value → Option (List ℕ)
-member_text place m v = wire m.node.traits.timestamp_format (is_some m.node.traits.media_type) place v
-
--- the text of an element, by the format of the node with which it was written
-abbrev pub element_text : Place → Write → Option (List ℕ)
-element_text place w = wire w.label.time_format false place w.value
 
 -- keys with their values, in the order of the writes; a last key without a value is left out
 abbrev pub entries_of : Writes → List (List ℕ × Value)
@@ -56,11 +36,12 @@ abbrev pub entry_texts : Value → List (List ℕ)
 entry_texts (list ws) = map (λ w. text_of_key w.value) (list_of ws)
 entry_texts v = text_of_key v ∷ []
 
--- The texts of a value at its member's place: one of a scalar, one for each element of a list. There are none at all where one of them is missing.
+-- The texts of a value at its member's place: of a scalar one, by the member's time format and media type, and of a list one
+-- for each element, by the format of the node with which it was written. There are none at all where one of them is missing.
 abbrev pub texts : Schema → Value → Option (List (List ℕ))
-texts m (list ws) = each (element_text (place_of m)) (list_of ws)
+texts m (list ws) = each (λ w. wire w.label.time_format false (place_at (binding_of m)) w.value) (list_of ws)
 texts m (value.map ws) = Some []
-texts m v = option_map (λ t. t ∷ []) (member_text (place_of m) m v)
+texts m v = option_map (λ t. t ∷ []) (wire m.node.traits.timestamp_format (is_some m.node.traits.media_type) (place_at (binding_of m)) v)
 
 -- a list is one text in a header (httpHeader)
 abbrev pub header_texts : Schema → Value → List (List ℕ) → List (List ℕ)
@@ -89,38 +70,22 @@ headers schema ws = put_all [] (flat_map inserted (firsts schema ws))
 abbrev pub query_names : Schema → List (List ℕ)
 query_names schema = filter_map (λ m. m.node.traits.http_query) (members_of schema)
 
--- the key of an entry is none of these names
-abbrev pub has_key_outside : List (List ℕ) → List ℕ × Value → Bool
-has_key_outside names e = not (is_one_of e.0 names)
-
--- each text of an entry under its key
-abbrev pub entry_pairs : List ℕ × Value → List (List ℕ × List ℕ)
-entry_pairs e = pairs_with e.0 (entry_texts e.1)
-
--- The pairs of a query write. An entry of the query map whose key is one of these names, those of the query members, is
+-- The pairs of a query write: each text under the member's name or the entry's key. An entry of the query map whose key is one of these names, those of the query members, is
 -- left out (httpQuery, httpQueryParams).
 abbrev pub pairs_at : Binding → List (List ℕ) → Schema → Value → List (List ℕ × List ℕ)
 pairs_at (to_query name) names m v = pairs_with name (unwrap_or (texts m v) [])
-pairs_at to_query_map names m v = flat_map entry_pairs (filter (has_key_outside names) (map_entries v))
+pairs_at to_query_map names m v = flat_map (λ e. pairs_with e.0 (entry_texts e.1)) (filter (λ e. not (is_one_of e.0 names)) (map_entries v))
 pairs_at _ names m v = []
-
--- the pairs that a write gives to the query
-abbrev pub pairs_of : Schema → Resolved → List (List ℕ × List ℕ)
-pairs_of schema r = pairs_at (binding_of r.member) (query_names schema) r.member r.value
 
 -- the query pairs of the first writes, in the order of the writes
 unfoldable pub pairs : Schema → List Write → List (List ℕ × List ℕ)
-pairs schema ws = flat_map (pairs_of schema) (firsts schema ws)
+pairs schema ws = flat_map (λ r. pairs_at (binding_of r.member) (query_names schema) r.member r.value) (firsts schema ws)
 
 -- the text of a label write, under its member's name (httpLabel)
 abbrev pub labelled_at : Binding → Schema → Value → List (List ℕ × List ℕ)
 labelled_at to_label m v = pairs_with (name_of m) (unwrap_or (texts m v) [])
 labelled_at _ m v = []
 
--- the texts that a write gives to the labels
-abbrev pub labelled : Resolved → List (List ℕ × List ℕ)
-labelled r = labelled_at (binding_of r.member) r.member r.value
-
 -- the label texts of the first writes, by the names of their members
 unfoldable pub labels : Schema → List Write → List (List ℕ × List ℕ)
-labels schema ws = flat_map labelled (firsts schema ws)
+labels schema ws = flat_map (λ r. labelled_at (binding_of r.member) r.member r.value) (firsts schema ws)

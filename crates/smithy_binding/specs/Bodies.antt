@@ -1,13 +1,7 @@
 -- What a request's body is (Smithy, HTTP protocol bindings, httpPayload; unbound members are the document of the body).
 use Rattle.std.specs.Prelude.{ℕ, Bool, true, false, not, List, [], find, Option, Some, None, option_map, option_and_then, unwrap_or, if◌then◌else◌}
-use Rattle.std.specs.List.{list_any}
-use Rattle.smithy_types.specs.Documents.{Document}
-use Rattle.smithy_ids.specs.declared.shape_type.ShapeType.{ShapeType}
+use Rattle.smithy_binding.specs.Words.{list_any, Document, ShapeType, Schema, members_of, is_bound, Binding, to_payload, binding_of, Value, scalar, text, blob, structure, Write, writes_of, doc_of, firsts, unbound}
 use Rattle.smithy_ids.specs.declared.shape_type.ShapeType.TheVariants as kind
-use Rattle.smithy_schema.specs.Nodes.{Schema, members_of, is_bound, Binding, to_payload, binding_of}
-use Rattle.smithy_serde.specs.Values.{Value, scalar, text, blob, structure, Write, writes_of}
-use Rattle.smithy_serde.specs.DocumentOf.{doc_of}
-use Rattle.smithy_serde.specs.Writes.{firsts, unbound}
 use Rattle.smithy_binding.specs.declared.body_form.BodyForm.{BodyForm}
 use Rattle.smithy_binding.specs.declared.body_form.BodyForm.TheVariants as form
 
@@ -39,16 +33,10 @@ is_codec_kind kind.Map = true
 is_codec_kind kind.Document = true
 is_codec_kind _ = false
 
--- without a payload the unbound members are the body, where there are some
-abbrev pub unbound_form : Bool → BodyForm
-unbound_form true = form.Unbound
-unbound_form false = form.Nothing
-
--- the form for a payload of this kind, if there is one, and beside it an unbound member or none
+-- the form for a payload of this kind, if there is one, and else of the unbound members, where there are some
 abbrev pub form_at : Option ShapeType → Bool → BodyForm
-form_at None has_unbound = unbound_form has_unbound
-form_at (Some k) has_unbound =
-    if is_raw_kind k then form.Raw else if is_codec_kind k then form.Payload else unbound_form has_unbound
+form_at None has_unbound = if has_unbound then form.Unbound else form.Nothing
+form_at (Some k) has_unbound = if is_raw_kind k then form.Raw else form.Payload
 
 -- the form of a schema's bodies
 abbrev pub form_in : Schema → BodyForm

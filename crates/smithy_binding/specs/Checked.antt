@@ -1,19 +1,11 @@
 -- Schemas that a request can be placed by (Smithy, HTTP protocol bindings: where each trait may stand, and beside which).
-use denote.Enum.Declared.{tag_of}
 use Rattle.std.specs.Prelude.{◌≡◌, ℕ, ◌+◌, nat_eq, nat_le, Bool, true, false, not, ◌&&◌, ◌||◌, ◌==◌, codes, List, length, map, filter, filter_map, Option, is_some, is_none, IsTrue, All}
-use Rattle.std.specs.List.{list_all, list_any, starts_with}
-use Rattle.std.specs.Option.{option_eq, option_map_or}
-use Rattle.std.specs.Str.{str_to_ascii_lowercase}
-use Rattle.smithy_ids.specs.declared.traits.TimestampFormat.{TimestampFormat}
+use Rattle.smithy_binding.specs.Words.{list_all, list_any, starts_with, option_eq, option_map_or, str_to_ascii_lowercase, TimestampFormat, are_distinct, AreDistinct, is_token, ShapeType, same_kind, is_scalar, is_unwritable, is_structure_or_union, Schema, Traits, at_place, cites_nodes, members_of, element_of, key_of, value_of}
+use denote.Enum.Declared.{tag_of}
 use Rattle.smithy_ids.specs.contracts.traits.TimestampFormat.{the_type}
-use Rattle.smithy_types.specs.Texts.{are_distinct, AreDistinct}
-use Rattle.smithy_types.specs.Grammars.{is_token}
-use Rattle.smithy_ids.specs.declared.shape_type.ShapeType.{ShapeType}
 use Rattle.smithy_ids.specs.declared.shape_type.ShapeType.TheVariants as kind
 use Rattle.smithy_ids.specs.declared.payload_hint.PayloadHint.{PayloadHint}
 use Rattle.smithy_ids.specs.declared.payload_hint.PayloadHint.TheVariants.{Unknown, NoStructPayload, StructPayload}
-use Rattle.smithy_ids.specs.Kinds.{same_kind, is_scalar, is_unwritable, is_structure_or_union}
-use Rattle.smithy_schema.specs.Nodes.{Schema, Traits, at_place, cites_nodes, members_of, element_of, key_of, value_of}
 use Rattle.smithy_binding.specs.Clear.{is_clear}
 use Rattle.smithy_binding.specs.Bindings.{query_names}
 use Rattle.smithy_binding.specs.Bodies.{payload_kind, has_unbound_member, is_raw_kind, is_codec_kind}
@@ -27,28 +19,17 @@ has_cited_nodes schema =
 abbrev pub member_names : Schema → List (List ℕ)
 member_names schema = filter_map (λ m. m.node.member_name) (members_of schema)
 
--- no two members have one name
-abbrev pub has_distinct_names : Schema → Bool
-has_distinct_names schema = are_distinct (member_names schema)
-
 -- 1 where the test passes, so that passed tests can be counted
 abbrev pub one_if : Bool → ℕ
 one_if true = 1
 one_if false = 0
 
--- how many of the six request bindings a node has (httpHeader, httpQuery, httpLabel, httpPrefixHeaders, httpQueryParams, httpPayload)
-abbrev pub binding_count : Traits → ℕ
-binding_count t =
-    one_if (is_some t.http_header) + one_if (is_some t.http_query) + one_if t.http_label
-    + one_if (is_some t.http_prefix_headers) + one_if t.http_query_params + one_if t.http_payload
-
--- a member has at most one request binding
+-- a member has at most one of the six request bindings (httpHeader, httpQuery, httpLabel, httpPrefixHeaders, httpQueryParams, httpPayload)
 abbrev pub is_bound_once : Schema → Bool
-is_bound_once m = nat_le (binding_count m.node.traits) 1
-
--- the member's kind has values here: not Float, Double or Member
-abbrev pub is_writable : Schema → Bool
-is_writable m = not (is_unwritable m.node.kind)
+is_bound_once m =
+    let t = m.node.traits in
+    nat_le (one_if (is_some t.http_header) + one_if (is_some t.http_query) + one_if t.http_label
+    + one_if (is_some t.http_prefix_headers) + one_if t.http_query_params + one_if t.http_payload) 1
 
 -- a list whose element's kind passes the test
 abbrev pub has_element : (ShapeType → Bool) → Schema → Bool
@@ -78,33 +59,23 @@ has_bound_kind m = has_label_kind m && has_query_kind m && has_header_kind m
 abbrev pub same_format : Option TimestampFormat → Option TimestampFormat → Bool
 same_format f g = option_eq (λ x y. tag_of the_type x == tag_of the_type y) f g
 
--- the element has no media type, and the member's time format or none where that has none (mediaType, timestampFormat)
-abbrev pub is_plain_element : Schema → Schema → Bool
-is_plain_element m e = is_none e.node.traits.media_type && same_format e.node.traits.timestamp_format m.node.traits.timestamp_format
-
--- so is the element of a list, if it has one
+-- the element of a list, if it has one, has no media type, and the list's time format or none where that has none (mediaType, timestampFormat)
 abbrev pub is_element_plain : Schema → Bool
-is_element_plain m = not (same_kind m.node.kind kind.List) || option_map_or (is_plain_element m) (element_of m) true
+is_element_plain m =
+    not (same_kind m.node.kind kind.List)
+    || option_map_or (λ e. is_none e.node.traits.media_type && same_format e.node.traits.timestamp_format m.node.traits.timestamp_format) (element_of m) true
 
 -- the elements of a list in a header or the query are plain
 abbrev pub has_plain_elements : Schema → Bool
 has_plain_elements m = (is_none m.node.traits.http_query && is_none m.node.traits.http_header) || is_element_plain m
 
--- the members whose traits pass the test
-abbrev pub members_with : (Traits → Bool) → Schema → List Schema
-members_with test schema = filter (λ m. test m.node.traits) (members_of schema)
-
 -- one member or none passes the test
 abbrev pub has_at_most_one : (Traits → Bool) → Schema → Bool
-has_at_most_one test schema = nat_le (length (members_with test schema)) 1
+has_at_most_one test schema = nat_le (length (filter (λ m. test m.node.traits) (members_of schema))) 1
 
--- the kinds of a payload (httpPayload)
-abbrev pub is_payload_kind : ShapeType → Bool
-is_payload_kind k = is_raw_kind k || is_codec_kind k
-
--- a payload, if there is one, has such a kind, and no member is unbound beside it
+-- a payload, if there is one, has bytes or a document, and no member is unbound beside it (httpPayload)
 abbrev pub is_sound_payload : Option ShapeType → Bool → Bool
-is_sound_payload payload is_beside_unbound = option_map_or (λ k. is_payload_kind k && not is_beside_unbound) payload true
+is_sound_payload payload is_beside_unbound = option_map_or (λ k. (is_raw_kind k || is_codec_kind k) && not is_beside_unbound) payload true
 
 -- at most one payload, of a payload's kind, beside which no member is unbound (httpPayload)
 abbrev pub has_sound_payload : Schema → Bool
@@ -128,6 +99,10 @@ is_text_map m = same_kind m.node.kind kind.Map && is_plain_string (key_of m) && 
 abbrev pub is_query_map : Schema → Bool
 is_query_map m =
     same_kind m.node.kind kind.Map && is_plain_string (key_of m) && (is_plain_string (value_of m) || is_plain_list (value_of m))
+
+-- the members whose traits pass the test
+abbrev pub members_with : (Traits → Bool) → Schema → List Schema
+members_with test schema = filter (λ m. test m.node.traits) (members_of schema)
 
 -- At most one prefix map, from texts to texts, and one query map, from texts to texts or to lists of texts
 -- (httpPrefixHeaders, httpQueryParams).
@@ -182,17 +157,13 @@ has_sound_http schema =
 abbrev pub has_prefix_kind : Schema → Bool
 has_prefix_kind m = not (is_some m.node.traits.http_prefix_headers) || is_text_map m
 
--- a query map is one from texts to texts or to lists of these (httpQueryParams)
-abbrev pub has_query_map_kind : Schema → Bool
-has_query_map_kind m = not m.node.traits.http_query_params || is_query_map m
-
--- so a map has a kind of its binding
+-- and a query map one from texts to texts or to lists of these (httpQueryParams)
 abbrev pub has_map_kind : Schema → Bool
-has_map_kind m = has_prefix_kind m && has_query_map_kind m
+has_map_kind m = has_prefix_kind m && (not m.node.traits.http_query_params || is_query_map m)
 
 -- what is asked of each member
 abbrev pub is_sound_member : Schema → Bool
-is_sound_member m = cites_nodes m && is_bound_once m && is_writable m && has_bound_kind m && has_plain_elements m && has_map_kind m
+is_sound_member m = cites_nodes m && is_bound_once m && not (is_unwritable m.node.kind) && has_bound_kind m && has_plain_elements m && has_map_kind m
 
 -- the place of each member has a node
 abbrev pub has_defined_members : Schema → Bool
@@ -200,7 +171,7 @@ has_defined_members schema = list_all (λ p. is_some (at_place schema.table p)) 
 
 -- a structure whose members are defined and have distinct names
 abbrev pub has_named_members : Schema → Bool
-has_named_members schema = same_kind schema.node.kind kind.Structure && has_defined_members schema && has_distinct_names schema
+has_named_members schema = same_kind schema.node.kind kind.Structure && has_defined_members schema && are_distinct (member_names schema)
 
 -- a checked input schema, as a test
 unfoldable pub checked_input : Schema → Bool
@@ -213,6 +184,10 @@ checked_input schema =
     && has_true_flags schema
     && has_sound_names schema
     && has_sound_http schema)
+
+-- the member's kind has values here: not Float, Double or Member
+abbrev pub is_writable : Schema → Bool
+is_writable m = not (is_unwritable m.node.kind)
 
 -- a checked input schema, as facts, one for each rule
 pub record IsCheckedInput (schema : Schema) : Type 0 where

@@ -1,21 +1,14 @@
 -- Schemas that a response can be read by: the rules of an input, for the bindings of a response.
-use Rattle.std.specs.Prelude.{◌≡◌, ℕ, ◌+◌, nat_le, Bool, not, ◌&&◌, ◌||◌, Option, is_some, is_none, option_map, find, IsTrue, All}
-use Rattle.std.specs.List.{list_all, list_any}
-use Rattle.smithy_types.specs.Texts.{AreDistinct}
-use Rattle.smithy_ids.specs.declared.shape_type.ShapeType.{ShapeType}
+use Rattle.std.specs.Prelude.{◌≡◌, ◌+◌, nat_le, Bool, not, ◌&&◌, ◌||◌, Option, is_some, is_none, option_map, find, IsTrue, All}
+use Rattle.smithy_binding.specs.Words.{list_all, list_any, AreDistinct, ShapeType, same_kind, is_unwritable, Schema, cites_nodes, members_of, is_response_bound}
 use Rattle.smithy_ids.specs.declared.shape_type.ShapeType.TheVariants as kind
-use Rattle.smithy_ids.specs.Kinds.{same_kind}
-use Rattle.smithy_schema.specs.Nodes.{Schema, Traits, cites_nodes, members_of, is_response_bound}
 use Rattle.smithy_binding.specs.Checked.{has_cited_nodes, has_named_members, member_names, one_if, is_writable, has_header_kind, is_element_plain, members_with, has_at_most_one, is_sound_payload, is_text_map, has_prefix_kind, has_sound_headers}
 
--- how many of the four response bindings a node has (httpHeader, httpPrefixHeaders, httpResponseCode, httpPayload)
-abbrev pub response_binding_count : Traits → ℕ
-response_binding_count t =
-    one_if (is_some t.http_header) + one_if (is_some t.http_prefix_headers) + one_if t.http_response_code + one_if t.http_payload
-
--- a member has at most one response binding
+-- a member has at most one of the four response bindings (httpHeader, httpPrefixHeaders, httpResponseCode, httpPayload)
 abbrev pub is_response_bound_once : Schema → Bool
-is_response_bound_once m = nat_le (response_binding_count m.node.traits) 1
+is_response_bound_once m =
+    let t = m.node.traits in
+    nat_le (one_if (is_some t.http_header) + one_if (is_some t.http_prefix_headers) + one_if t.http_response_code + one_if t.http_payload) 1
 
 -- the elements of a list in a header are plain
 abbrev pub has_plain_header_elements : Schema → Bool
@@ -52,7 +45,7 @@ has_code_kind m = not m.node.traits.http_response_code || same_kind m.node.kind 
 -- what is asked of each member
 abbrev pub is_sound_response_member : Schema → Bool
 is_sound_response_member m =
-    cites_nodes m && is_response_bound_once m && is_writable m && has_header_kind m && has_plain_header_elements m && has_prefix_kind m && has_code_kind m
+    cites_nodes m && is_response_bound_once m && not (is_unwritable m.node.kind) && has_header_kind m && has_plain_header_elements m && has_prefix_kind m && has_code_kind m
 
 -- a checked output schema, as a test
 unfoldable pub checked_output : Schema → Bool

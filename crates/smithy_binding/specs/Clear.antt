@@ -1,10 +1,6 @@
 -- Templates that leave no doubt which text a hole has (Smithy, HTTP protocol bindings, http: the rules of URI patterns).
 use Rattle.std.specs.Prelude.{ℕ, nat_eq, Bool, true, not, ◌&&◌, ◌||◌, ◌==◌, codes, List, [], ◌∷◌, ◌++◌, length, drop, map, filter, filter_map}
-use Rattle.std.specs.List.{list_all, starts_with, ends_with, concat}
-use Rattle.smithy_types.specs.Texts.{same_text, has_byte}
-use Rattle.smithy_types.specs.Grammars.{is_legal_target, scheme_len, before_query}
-use Rattle.smithy_schema.specs.Nodes.{Schema, members_of}
-use Rattle.smithy_schema.specs.Templates.{Hole, Piece, Template, pieces, holes_of, has_unclosed_brace}
+use Rattle.smithy_binding.specs.Words.{list_all, starts_with, ends_with, concat, same_text, has_byte, is_legal_target, scheme_len, before_query, Schema, members_of, Hole, Piece, Template, pieces, holes_of, has_unclosed_brace}
 
 -- each hole filled by `a`
 abbrev pub filled_by_a : Template → List ℕ
@@ -37,18 +33,13 @@ label_members schema = filter (λ m. m.node.traits.http_label) (members_of schem
 abbrev pub holes_named : List ℕ → Template → List Hole
 holes_named name template = filter (λ h. same_text h.name name) (holes_of template)
 
--- one hole for each label member, and no other
-abbrev pub matches_labels : Schema → Template → Bool
-matches_labels schema template =
-    list_all (λ name. length (holes_named name template) == 1) (filter_map (λ m. m.node.member_name) (label_members schema))
-    && (length (holes_of template) == length (label_members schema))
-
 -- only the last hole may be greedy, so at most one is
 abbrev pub is_greedy_last : List Hole → Bool
 is_greedy_last [] = true
 is_greedy_last (h ∷ hs) = (not h.greedy || (length hs == 0)) && is_greedy_last hs
 
--- The template is clear for the labels of the schema: no brace is left open, with `a` in its holes it is a legal target, and its holes are whole path segments, one for each label.
+-- The template is clear for the labels of the schema: no brace is left open, with `a` in its holes it is a legal target, and
+-- its holes are whole path segments, one for each label and no other.
 unfoldable pub is_clear : List ℕ → Schema → Bool
 is_clear text schema =
     let template = pieces text in
@@ -56,5 +47,6 @@ is_clear text schema =
     && is_legal_target (filled_by_a template)
     && are_whole_segments template.first template.rest
     && has_whole_authority template
-    && matches_labels schema template
+    && (list_all (λ name. length (holes_named name template) == 1) (filter_map (λ m. m.node.member_name) (label_members schema))
+    && (length (holes_of template) == length (label_members schema)))
     && is_greedy_last (holes_of template)

@@ -1,18 +1,8 @@
 -- What is wrong with an input: the first fault in one order, as a variant and a text.
-use Rattle.std.specs.Prelude.{ℕ, Bool, true, false, not, ◌&&◌, ◌==◌, codes, List, [], ◌∷◌, ◌++◌, Result, Ok, Err, Option, Some, None, option_map, option_and_then, option_to_list, unwrap_or, is_some, if◌then◌else◌}
-use Rattle.std.specs.List.{list_any}
-use Rattle.std.specs.Option.{option_map_or, option_or}
+use Rattle.std.specs.Prelude.{ℕ, Bool, true, false, not, ◌&&◌, codes, List, [], ◌∷◌, ◌++◌, Result, Ok, Err, Option, Some, None, option_map, option_and_then, option_to_list, unwrap_or, is_some, if◌then◌else◌}
+use Rattle.smithy_binding.specs.Words.{option_map_or, option_or, is_token, is_header_value, is_short_target, is_target, first_of_all, unless, ShapeType, kind_word, Schema, element_of, key_of, value_of, name_of, Binding, to_payload, to_body, binding_of, Label, Value, list, Writes, no_writes, write, Write, fits, fits_member, written_word, document_fault, document_fault_text, Resolved, resolve, resolved, has_seen}
 use Rattle.std.specs.Result.{result_err}
-use Rattle.smithy_types.specs.Grammars.{is_token, is_header_value, is_short_target, is_target}
-use Rattle.smithy_types.specs.Results.{first_of_all, unless}
-use Rattle.smithy_ids.specs.declared.shape_type.ShapeType.{ShapeType}
-use Rattle.smithy_ids.specs.Kinds.{kind_word}
-use Rattle.smithy_schema.specs.Nodes.{Schema, element_of, key_of, value_of, name_of, Binding, to_payload, to_body, binding_of}
-use Rattle.smithy_serde.specs.Values.{Label, Value, list, Writes, no_writes, write, Write, list_of}
 use Rattle.smithy_serde.specs.Values as value
-use Rattle.smithy_serde.specs.Fits.{fits, fits_member, written_word}
-use Rattle.smithy_serde.specs.DocumentOf.{document_fault, document_fault_text}
-use Rattle.smithy_serde.specs.Writes.{Resolved, resolve, resolved}
 use Rattle.smithy_binding.specs.Bindings.{kind_or_none, texts, inserted}
 use Rattle.smithy_binding.specs.Bodies.{document_value}
 use Rattle.smithy_binding.specs.Placing.{target_of}
@@ -126,15 +116,12 @@ is_placed_at to_payload = false
 is_placed_at to_body = false
 is_placed_at _ = true
 
--- the first write of such a member, behind writes to the members at these positions
-abbrev pub is_placed : List ℕ → Resolved → Bool
-is_placed seen r = is_placed_at (binding_of r.member) && not (list_any (λ i. i == r.position) seen)
-
--- the fault of a write that has a member, behind writes to the members at these positions
+-- the fault of a write that has a member, behind writes to the members at these positions: of the first write of a placed
+-- member that of its value too
 abbrev pub resolved_fault : List ℕ → Resolved → Option Fault
 resolved_fault seen r =
     option_or (unless (fits_member r.member r.value) (wrong_kind r.member r.value))
-    (if is_placed seen r then bound_fault r else None)
+    (if is_placed_at (binding_of r.member) && not (has_seen seen r.position) then bound_fault r else None)
 
 -- the fault of a write, behind such writes
 abbrev pub write_fault : Schema → List ℕ → Write → Option Fault

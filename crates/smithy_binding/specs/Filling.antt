@@ -1,17 +1,11 @@
 -- A template with its holes filled (Smithy, HTTP protocol bindings, httpLabel and http, greedy labels).
 use Rattle.std.specs.Prelude.{ℕ, ◌==◌, List, [], ◌∷◌, ◌++◌, flat_map, Result, Ok, Err, Option, Some, None, if◌then◌else◌}
-use Rattle.smithy_types.specs.Results.{then_try, then_give}
-use Rattle.smithy_types.specs.Texts.{found}
-use Rattle.smithy_schema.specs.Templates.{Hole, Piece, Template}
+use Rattle.smithy_binding.specs.Words.{then_try, then_give, found, Hole, Piece, Template}
 use Rattle.smithy_strings.specs.Escapes.{escape, escape_byte}
-
--- a `/` stands, every other byte is escaped
-abbrev pub kept_byte : ℕ → List ℕ
-kept_byte b = if b == 47 then b ∷ [] else escape_byte b
 
 -- the escape of the text in which each `/` stands
 abbrev pub keep_slashes : List ℕ → List ℕ
-keep_slashes text = flat_map kept_byte text
+keep_slashes text = flat_map (λ b. if b == 47 then b ∷ [] else escape_byte b) text
 
 -- what stands in a hole for a text: the segments of a greedy one keep their `/`
 abbrev pub hole_text : Hole → List ℕ → List ℕ
@@ -24,14 +18,10 @@ filled_hole hole None = Err hole.name
 filled_hole hole (Some []) = Err hole.name
 filled_hole hole (Some (b ∷ text)) = Ok (hole_text hole (b ∷ text))
 
--- the hole with its text, where `texts` gives the text of a label by its name
-abbrev pub text_in : (List ℕ → Option (List ℕ)) → Hole → Result (List ℕ) (List ℕ)
-text_in texts hole = filled_hole hole (texts hole.name)
-
--- the holes and the literals behind them, in order
+-- the holes and the literals behind them, in order, where `texts` gives the text of a label by its name
 abbrev pub fill_rest : (List ℕ → Option (List ℕ)) → List Piece → Result (List ℕ) (List ℕ)
 fill_rest texts [] = Ok []
-fill_rest texts (p ∷ ps) = then_try (text_in texts p.hole) λ text. then_give (fill_rest texts ps) λ rest. text ++ p.literal ++ rest
+fill_rest texts (p ∷ ps) = then_try (filled_hole p.hole (texts p.hole.name)) λ text. then_give (fill_rest texts ps) λ rest. text ++ p.literal ++ rest
 
 -- The template with the text of each hole. The name of the first hole without a non-empty text is the error.
 abbrev pub filled_by : (List ℕ → Option (List ℕ)) → Template → Result (List ℕ) (List ℕ)

@@ -1,14 +1,11 @@
 -- The laws of these definitions, each the contract of a function of the module `laws`.
 use Rattle.std.specs.Prelude.{◌≡◌, ◌↔◌, ℕ, List, map, Some, None, IsTrue, IsSome}
-use Rattle.smithy_types.specs.Texts.{AreDistinct}
-use Rattle.smithy_http.specs.Requests.{Request}
-use Rattle.smithy_schema.specs.Nodes.{Schema}
-use Rattle.smithy_serde.specs.Values.{Write}
+use Rattle.smithy_binding.specs.Words.{AreDistinct, Request, Schema, Write}
 use Rattle.smithy_binding.specs.Checked.{checked_input, IsCheckedInput}
 use Rattle.smithy_binding.specs.CheckedOutput.{checked_output, IsCheckedOutput}
 use Rattle.smithy_binding.specs.Faults.{fault}
 use Rattle.smithy_binding.specs.Answer.{place}
-use Rattle.smithy_binding.specs.Placing.{Protocol, Omit}
+use Rattle.smithy_binding.specs.Placing.{Protocol, OmitFlags}
 
 -- the test of an input schema and its facts say the same
 abbrev pub CheckedInputIff : Type 0
@@ -21,7 +18,7 @@ CheckedOutputIff = (schema : Schema) → IsTrue (checked_output schema) ↔ IsCh
 -- an input without a fault has a request
 abbrev pub ConformingIsPlaced : Type 0
 ConformingIsPlaced =
-    (protocol : Protocol) (schema : Schema) (ws : List Write) (endpoint : List ℕ) (omit : Omit) →
+    (protocol : Protocol) (schema : Schema) (ws : List Write) (endpoint : List ℕ) (omit : OmitFlags) →
     fault schema ws endpoint ≡ None → IsSome (place protocol schema ws endpoint omit)
 
 -- the names of a request's headers, in order
@@ -31,5 +28,5 @@ header_names request = map (λ p. p.0) request.headers
 -- a placed request has each header name once
 abbrev pub HeadersStandOnce : Type 0
 HeadersStandOnce =
-    (protocol : Protocol) (schema : Schema) (ws : List Write) (endpoint : List ℕ) (omit : Omit) (request : Request) →
+    (protocol : Protocol) (schema : Schema) (ws : List Write) (endpoint : List ℕ) (omit : OmitFlags) (request : Request) →
     place protocol schema ws endpoint omit ≡ Some request → AreDistinct (header_names request)

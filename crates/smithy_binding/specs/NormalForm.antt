@@ -1,15 +1,10 @@
 -- The normal form of an input: what a request tells of it.
 use Rattle.std.specs.Prelude.{ℕ, Bool, true, false, not, ◌&&◌, List, [], filter, filter_map, map, Option, Some, None, option_map, option_and_then, if◌then◌else◌}
-use Rattle.std.specs.List.{enumerate_from, last_or}
-use Rattle.std.specs.Str.{str_to_ascii_lowercase}
+use Rattle.smithy_binding.specs.Words.{enumerate_from, last_or, str_to_ascii_lowercase, is_one_of, same_kind, Schema, element_of, value_of, members_of, Binding, to_header, to_prefix, to_query, to_query_map, to_payload, binding_of, is_bound, Value, scalar, text, blob, list, no_writes, Write, label_of, Resolved, all_resolved, first, is_of}
 use Rattle.smithy_ids.specs.declared.shape_type.ShapeType.TheVariants as kind
-use Rattle.smithy_ids.specs.Kinds.{same_kind}
-use Rattle.smithy_schema.specs.Nodes.{Schema, element_of, value_of, members_of, Binding, to_header, to_prefix, to_query, to_query_map, to_payload, binding_of, is_bound}
-use Rattle.smithy_serde.specs.Values.{Value, scalar, text, blob, list, no_writes, Write, label_of}
 use Rattle.smithy_serde.specs.Values as value
-use Rattle.smithy_serde.specs.Writes.{Resolved, all_resolved, first, is_of}
 use Rattle.smithy_serde.specs.NormalBody.{in_key_order, map_value, settled, settled_elements, settled_entries}
-use Rattle.smithy_binding.specs.Bindings.{query_names, has_key_outside}
+use Rattle.smithy_binding.specs.Bindings.{query_names}
 use Rattle.smithy_binding.specs.Bodies.{is_codec_kind}
 
 -- the entries of a map, over the schema's own nodes
@@ -42,6 +37,10 @@ with_own_elements m v = v
 abbrev pub is_empty_list : Value → Bool
 is_empty_list (list no_writes) = true
 is_empty_list _ = false
+
+-- the key of an entry is none of these names
+abbrev pub has_key_outside : List (List ℕ) → List ℕ × Value → Bool
+has_key_outside names e = not (is_one_of e.0 names)
 
 -- the entry leaves a pair in the query, beside query members of these names
 abbrev pub has_pairs : List (List ℕ) → List ℕ × Value → Bool

@@ -1,27 +1,16 @@
 -- The request of an input (Smithy, HTTP protocol bindings).
 use Rattle.std.specs.Prelude.{ℕ, Bool, not, ◌&&◌, ◌||◌, ◌==◌, codes, List, [], ◌∷◌, ◌++◌, length, map, Result, is_none, decimal, if◌then◌else◌}
-use Rattle.std.specs.List.{join_with_byte}
-use Rattle.std.specs.Option.{option_map_or}
-use Rattle.smithy_types.specs.Texts.{found, has_byte}
-use Rattle.smithy_types.specs.Results.{then_give}
-use Rattle.smithy_types.specs.Documents.{Document}
-use Rattle.smithy_schema.specs.Nodes.{Schema}
-use Rattle.smithy_schema.specs.Templates.{pieces}
-use Rattle.smithy_serde.specs.Values.{Write}
+use Rattle.smithy_binding.specs.Words.{join_with_byte, option_map_or, found, has_byte, then_give, Document, Schema, pieces, Write}
 use Rattle.smithy_strings.specs.Escapes.{escape}
 use Rattle.smithy_binding.specs.Filling.{fill}
 use Rattle.smithy_binding.specs.Bindings.{pairs, labels}
 use Rattle.smithy_binding.specs.Bodies.{Body, is_codec}
+pub use Rattle.smithy_serde.specs.declared.header_omit_settings.OmitFlags.{OmitFlags}
 
 -- a protocol: the content type of its bodies, and the text of a document in its codec
 pub record Protocol : Type 0 where
   pub content_type : List ℕ
   pub text_of : Document → List ℕ
-
--- the default headers that are left out
-pub record Omit : Type 0 where
-  pub content_type : Bool
-  pub content_length : Bool
 
 -- the method of `@http`, or else `GET` (http, method)
 abbrev pub method_of : Schema → List ℕ
@@ -55,16 +44,22 @@ abbrev pub with_default : Bool → List ℕ → List ℕ → List (List ℕ × L
 with_default wanted name value pairs =
     if wanted && is_none (found name pairs) then pairs ++ (name, value) ∷ [] else pairs
 
+-- Behind the headers the default content type and then the length, of a body of so many bytes that is the codec's or not:
+-- the type where it is the codec's (RFC 7231, section 3.1.1.5), the length there and where it is not empty (RFC 7230,
+-- section 3.3.2), each unless it is left out.
+abbrev pub with_defaults : List ℕ → Bool → ℕ → OmitFlags → List (List ℕ × List ℕ) → List (List ℕ × List ℕ)
+with_defaults content_type is_codec length omit pairs =
+    with_default ((not (length == 0) || is_codec) && not omit.content_length) (codes "content-length") (decimal length)
+    (with_default (is_codec && not omit.content_type) (codes "content-type") content_type pairs)
+
 -- the default content type is wanted: the body is the codec's, and the default is not left out (RFC 7231, section 3.1.1.5)
-abbrev pub adds_content_type : Body → Omit → Bool
+abbrev pub adds_content_type : Body → OmitFlags → Bool
 adds_content_type b omit = is_codec b.form && not omit.content_type
 
 -- the length is wanted: the body is the codec's or not empty, and the default is not left out (RFC 7230, section 3.3.2)
-abbrev pub adds_content_length : Body → Omit → Bool
+abbrev pub adds_content_length : Body → OmitFlags → Bool
 adds_content_length b omit = (not (length b.bytes == 0) || is_codec b.form) && not omit.content_length
 
--- the headers of the members, and behind them the default content type and then the length
-abbrev pub all_headers : Protocol → Body → Omit → List (List ℕ × List ℕ) → List (List ℕ × List ℕ)
-all_headers protocol b omit pairs =
-    with_default (adds_content_length b omit) (codes "content-length") (decimal (length b.bytes))
-    (with_default (adds_content_type b omit) (codes "content-type") protocol.content_type pairs)
+-- the headers of the members, and behind them the defaults
+abbrev pub all_headers : Protocol → Body → OmitFlags → List (List ℕ × List ℕ) → List (List ℕ × List ℕ)
+all_headers protocol b omit pairs = with_defaults protocol.content_type (is_codec b.form) (length b.bytes) omit pairs

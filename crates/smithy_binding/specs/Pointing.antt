@@ -1,13 +1,10 @@
 -- What pointing a request at an endpoint does.
 use Rattle.std.specs.Prelude.{◌≡◌, ◌≢◌, ℕ, codes, List, [], ◌∷◌, ◌++◌, map, Option, unwrap_or, Ok, Err}
-use Rattle.std.specs.Str.{str_to_ascii_lowercase}
+use Rattle.smithy_binding.specs.Words.{str_to_ascii_lowercase, without, Request, Answer}
 use Rattle.smithy_http.specs.Endpoints.{Endpoint, SetsEndpoint}
-use Rattle.smithy_http.specs.Headers.{without}
 use Rattle.smithy_http.specs.Refusals.{refusal_text}
-use Rattle.smithy_http.specs.Requests.{Request}
 use Rattle.smithy_http.specs.declared.error.HttpError.{HttpError}
 use Rattle.smithy_http.specs.declared.error.HttpError.TheVariants as error
-use Rattle.smithy_serde.specs.Held.{Answer}
 use Rattle.smithy_binding.specs.Faults.{Fault, custom, message}
 use Rattle.smithy_binding.specs.Refusing.{TellsFault}
 

@@ -1,22 +1,13 @@
 -- Inputs that a request tells apart, up to their normal form.
 use Rattle.std.specs.Prelude.{◌≡◌, ℕ, nat_le, Bool, true, not, ◌&&◌, ◌||◌, codes, List, [], ◌∷◌, filter, Option, Some, None, option_and_then, is_some, IsTrue}
-use Rattle.std.specs.List.{list_all, AllByRecursion}
-use Rattle.std.specs.Option.{option_map_or}
-use Rattle.std.specs.Str.{str_to_ascii_lowercase}
-use Rattle.smithy_types.specs.Texts.{found, same_text, is_one_of, are_distinct}
-use Rattle.smithy_types.specs.Documents.{Document, nesting}
-use Rattle.smithy_ids.specs.declared.traits.TimestampFormat.{TimestampFormat}
-use Rattle.smithy_schema.specs.Nodes.{Schema, element_of, members_of, Binding, to_header, binding_of, is_bound}
-use Rattle.smithy_serde.specs.Values.{Value, list, Writes, Write, list_of, keys_of}
+use Rattle.smithy_binding.specs.Words.{list_all, AllByRecursion, option_map_or, str_to_ascii_lowercase, found, same_text, is_one_of, are_distinct, Document, nesting, TimestampFormat, Schema, element_of, members_of, Binding, to_header, binding_of, is_bound, Value, list, Write, list_of, keys_of, doc_of, Resolved, all_resolved, firsts}
 use Rattle.smithy_serde.specs.Values as value
 use Rattle.smithy_serde.specs.Ranges.{are_in_range}
 use Rattle.smithy_serde.specs.Lawful.{max_nesting}
-use Rattle.smithy_serde.specs.DocumentOf.{doc_of}
 use Rattle.smithy_serde.specs.Shaped.{is_shaped}
-use Rattle.smithy_serde.specs.Writes.{Resolved, all_resolved, firsts}
 use Rattle.smithy_binding.specs.Bindings.{headers, inserted}
 use Rattle.smithy_binding.specs.Bodies.{Body, is_payload, is_codec_kind, body, document_value}
-use Rattle.smithy_binding.specs.Placing.{Protocol, Omit, adds_content_type, adds_content_length, template_of}
+use Rattle.smithy_binding.specs.Placing.{Protocol, OmitFlags, adds_content_type, adds_content_length, template_of}
 use Rattle.smithy_binding.specs.Faults.{fault, is_placed_at}
 use Rattle.smithy_binding.specs.Clear.{is_clear}
 use Rattle.smithy_binding.specs.Checked.{same_format}
@@ -61,17 +52,17 @@ abbrev pub default_names : List (List ℕ)
 default_names = codes "content-type" ∷ codes "content-length" ∷ []
 
 -- the default header with this name is added unless such a name stands
-abbrev pub wants_default : Body → Omit → List ℕ → Bool
+abbrev pub wants_default : Body → OmitFlags → List ℕ → Bool
 wants_default b omit name =
     (same_text name (codes "content-type") && adds_content_type b omit)
     || (same_text name (codes "content-length") && adds_content_length b omit)
 
 -- no default is added under this name, among these headers
-abbrev pub leaves_default : Body → Omit → List (List ℕ × List ℕ) → List ℕ → Bool
+abbrev pub leaves_default : Body → OmitFlags → List (List ℕ × List ℕ) → List ℕ → Bool
 leaves_default b omit pairs name = not (wants_default b omit name) || is_some (found name pairs)
 
 -- a header member with a default's name is written where that default would be added
-abbrev pub writes_default : Body → Omit → List (List ℕ × List ℕ) → Binding → Bool
+abbrev pub writes_default : Body → OmitFlags → List (List ℕ × List ℕ) → Binding → Bool
 writes_default b omit pairs (to_header name) = leaves_default b omit pairs (str_to_ascii_lowercase name)
 writes_default b omit pairs _ = true
 
@@ -89,7 +80,7 @@ abbrev pub is_shallow : Option Document → Bool
 is_shallow d = option_map_or (λ d. nat_le (nesting d) max_nesting) d true
 
 -- The inputs of a protocol, schema, endpoint and omit choice that a request tells apart, up to their normal form.
-pub record IsTyped (protocol : Protocol) (schema : Schema) (endpoint : List ℕ) (omit : Omit) (ws : List Write) : Type 0 where
+pub record IsTyped (protocol : Protocol) (schema : Schema) (endpoint : List ℕ) (omit : OmitFlags) (ws : List Write) : Type 0 where
   pub in_range : IsTrue (are_in_range ws)
   pub conforming : fault schema ws endpoint ≡ None
   pub unbound_shaped : AllByRecursion (λ r. IsTrue (is_shaped_write r)) (bodied schema ws)

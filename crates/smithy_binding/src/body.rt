@@ -1,17 +1,12 @@
 // The body of a request: a payload, or the document of the unbound members (Smithy, HTTP protocol bindings).
-ghost use Rattle.std.specs.Prelude.{◌≡◌, None, IfOk, IfErr, IfSome, option_map, unwrap_or, []};
-ghost use Rattle.smithy_schema.specs.Nodes.{Table};
-ghost use Rattle.smithy_schema.specs.References.{schema_of};
-ghost use Rattle.smithy_serde.specs.Values.{writes_of, structure};
+ghost use Rattle.std.specs.Prelude.{◌≡◌, None, IfOk, IfErr, IfSome};
+ghost use Rattle.smithy_binding.specs.Words.{Table, structure, document_fault, IsTextOf, IsReady, value_in, IsDefined};
 ghost use Rattle.smithy_serde.specs.Writing.{Tells};
-ghost use Rattle.smithy_serde.specs.DocumentOf.{document_fault};
 ghost use Rattle.smithy_serde.specs.Refusing.{IsFaultRefusal};
-ghost use Rattle.smithy_serde.specs.Finishing.{IsTextOf, IsReady};
-ghost use Rattle.smithy_serde.specs.StoredValues.{value_in, IsDefined};
-ghost use Rattle.smithy_binding.specs.Bodies.{raw_bytes, text_of_document, document_by, bytes_by};
+ghost use Rattle.smithy_binding.specs.Bodies.{raw_bytes, document_by, bytes_by};
 ghost use Rattle.smithy_binding.specs.Faults.{fault_of_document};
 ghost use Rattle.smithy_binding.specs.Refusing.{IsTold};
-ghost use Rattle.smithy_binding.specs.KeptWrites.{value_of, unbound_in, AreDefinedWrites, kept_in, IsKeptDefined};
+ghost use Rattle.smithy_binding.specs.views.KeptWrites.{told, kept_payload, AreRaw, AreText, AreDefinedWrites, kept_in, IsKeptDefined};
 
 use crate::body_form::BodyForm;
 use crate::body_writes::{BodyWrite, BodyWrites};
@@ -29,8 +24,7 @@ fn tell_writes<S: ShapeSerializer>(
     writes: &[BodyWrite<'_, '_>],
 ) -> Result<(), SerdeError>
     requires { AreDefinedWrites table.now writes.now }
-    ensures { Tells (writes_of (unbound_in table.now writes.now))
-        (S.seen serializer.old) (S.seen serializer.new) result }
+    ensures { Tells (told table.now writes.now) (S.seen serializer.old) (S.seen serializer.new) result }
 {
     for write in writes {
         tell(serializer, write.member, table, write.value)?;
@@ -38,21 +32,18 @@ fn tell_writes<S: ShapeSerializer>(
     Ok(())
 }
 
-/// The text of the structure of these writes. `Custom` for the first rule of documents that it breaks. Takes memory.
-pub fn text_of_writes<S: FinishSerializer + Drop>(
-    serializer: S,
+// The text of the structure of these writes. `Custom` for the first rule of documents that it breaks. Takes memory.
+fn text_of_writes<S: FinishSerializer + Drop>(
+    mut serializer: S,
     schema: SchemaRef<'_>,
     table: &Schemas,
     writes: &[BodyWrite<'_, '_>],
 ) -> Result<Blob, SerdeError>
     requires defined { AreDefinedWrites table.now writes.now }
     requires ready { IsReady (S.seen serializer) }
-    ensures ok { IfOk result
-        (IsTextOf ((S.seen serializer).text) (structure (writes_of (unbound_in table.now writes.now)))) }
-    ensures err { IfErr result
-        (IsFaultRefusal (document_fault (structure (writes_of (unbound_in table.now writes.now))))) }
+    ensures ok { IfOk result (IsTextOf ((S.seen serializer).text) (structure (told table.now writes.now))) }
+    ensures err { IfErr result (IsFaultRefusal (document_fault (structure (told table.now writes.now)))) }
 {
-    let mut serializer = serializer;
     serializer.open_struct(schema)?;
     tell_writes(&mut serializer, table, writes)?;
     finish_struct(serializer)
@@ -72,8 +63,7 @@ fn raw_bytes(value: &ShapeValue) -> &[u8]
 
 // The bytes of a text or blob payload, none where it was not written.
 fn raw_body(alloc: Global, payload: Option<BodyWrite<'_, '_>>) -> Result<Blob, OutOfMemory>
-    ensures { IfOk result (λ b. (t : Table) →
-        b ≡ unwrap_or (option_map raw_bytes (option_map (value_of t) payload.entry)) []) }
+    ensures { IfOk result (AreRaw payload.entry) }
 {
     match payload {
         Some(write) => Blob::new(alloc, raw_bytes(write.value)),
@@ -90,10 +80,9 @@ fn payload_body<S: FinishSerializer + Drop>(
 ) -> Result<Blob, SerdeError>
     requires defined { IfSome payload (λ w. IsDefined table.now w.value.now) }
     requires ready { IsReady (S.seen serializer) }
-    ensures ok { IfOk result (λ _. fault_of_document (option_map (value_of table.now) payload.entry) ≡ None) }
-    ensures bytes { IfOk result (λ b.
-        b ≡ text_of_document ((S.seen serializer).text) (option_map (value_of table.now) payload.entry)) }
-    ensures err { IfErr result (IsTold (fault_of_document (option_map (value_of table.now) payload.entry))) }
+    ensures ok { IfOk result (λ _. fault_of_document (kept_payload table.now payload.entry) ≡ None) }
+    ensures bytes { IfOk result (AreText (S.seen serializer).text table.now payload.entry) }
+    ensures err { IfErr result (IsTold (fault_of_document (kept_payload table.now payload.entry))) }
 {
     match payload {
         Some(write) => value_text(serializer, write.member, table, write.value),
@@ -117,7 +106,7 @@ pub fn request_body<S: FinishSerializer + Drop>(
     ensures ok { IfOk result
         (λ _. fault_of_document (document_by form (kept_in table.now writes.now)) ≡ None) }
     ensures bytes { IfOk result
-        (λ b. b ≡ bytes_by form ((S.seen serializer).text) (kept_in table.now writes.now)) }
+        (λ b. b ≡ bytes_by form (S.seen serializer).text (kept_in table.now writes.now)) }
     ensures err { IfErr result
         (IsTold (fault_of_document (document_by form (kept_in table.now writes.now)))) }
 {

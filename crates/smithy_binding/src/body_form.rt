@@ -1,12 +1,10 @@
 // What a body is, by the members of a schema (Smithy, HTTP protocol bindings, httpPayload).
-ghost use Rattle.std.specs.Prelude.{◌≡◌, Some, false, not};
-ghost use Rattle.std.specs.Option.{option_map_or};
-ghost use Rattle.smithy_schema.specs.Nodes.{member_at, is_bound};
-ghost use Rattle.smithy_schema.specs.References.{schema_of};
-ghost use Rattle.smithy_binding.specs.Bodies.{has_unbound_member, form_at, form_in, is_codec, is_raw_kind, is_codec_kind, unbound_form};
-ghost use Rattle.smithy_binding.specs.PayloadKinds.{kind_if_payload};
+ghost use Rattle.std.specs.Prelude.{◌≡◌, Some, None, true, not};
+ghost use Rattle.smithy_binding.specs.Words.{member_at, is_bound, schema_of};
+ghost use Rattle.smithy_binding.specs.Bodies.{form_at, form_in, is_codec, is_raw_kind, is_codec_kind};
+ghost use Rattle.smithy_binding.specs.views.PayloadKinds.{kind_if_payload, is_unbound_at};
 
-use crate::binding::{has_unbound_members, member_count};
+use crate::binding::member_count;
 use smithy_ids::ShapeType;
 use smithy_schema::{Binding, SchemaRef};
 
@@ -83,8 +81,7 @@ fn part_of(member: SchemaRef<'_>) -> BodyPart
 
 fn part_at(schema: SchemaRef<'_>, position: usize) -> BodyPart
     ensures payload { result.payload ≡ kind_if_payload (member_at (schema_of schema.entry) position) }
-    ensures unbound { result.is_unbound
-        ≡ option_map_or (λ m. not (is_bound m)) (member_at (schema_of schema.entry) position) false }
+    ensures unbound { result.is_unbound ≡ is_unbound_at (schema_of schema.entry) position }
 {
     match schema.member_schema_by_index(position) {
         Some(member) => part_of(member),
@@ -95,26 +92,25 @@ fn part_at(schema: SchemaRef<'_>, position: usize) -> BodyPart
     }
 }
 
+// The form for a payload of this kind, whatever stands beside it.
+fn payload_form(kind: ShapeType) -> BodyForm
+    ensures { result ≡ form_at (Some kind) true }
+{
+    if is_raw_kind(kind) {
+        BodyForm::Raw
+    } else {
+        BodyForm::Payload
+    }
+}
+
+// The form without a payload.
 fn unbound_form(has_unbound: bool) -> BodyForm
-    ensures { result ≡ unbound_form has_unbound }
+    ensures { result ≡ form_at None has_unbound }
 {
     if has_unbound {
         BodyForm::Unbound
     } else {
         BodyForm::Nothing
-    }
-}
-
-// The form beside a payload of this kind.
-fn payload_form(schema: SchemaRef<'_>, kind: ShapeType) -> BodyForm
-    ensures { result ≡ form_at (Some kind) (has_unbound_member (schema_of schema.entry)) }
-{
-    if is_raw_kind(kind) {
-        BodyForm::Raw
-    } else if is_codec_kind(kind) {
-        BodyForm::Payload
-    } else {
-        unbound_form(has_unbound_members(schema))
     }
 }
 
@@ -127,7 +123,7 @@ pub fn body_form(schema: SchemaRef<'_>) -> BodyForm
     for position in 0..member_count(schema) {
         let part = part_at(schema, position);
         if let Some(kind) = part.payload {
-            return payload_form(schema, kind);
+            return payload_form(kind);
         }
         has_unbound = has_unbound || part.is_unbound;
     }

@@ -1,8 +1,7 @@
 // The writes that a body is made of (Smithy, HTTP protocol bindings).
 ghost use Rattle.std.specs.Prelude.{OnOk};
-ghost use Rattle.smithy_schema.specs.Nodes.{Table};
-ghost use Rattle.smithy_schema.specs.ShownBindings.{binding_shown};
-ghost use Rattle.smithy_binding.specs.KeptWrites.{IsEmpty, Keeps, KeepsDefined};
+ghost use Rattle.smithy_binding.specs.Words.{Table, binding_shown};
+ghost use Rattle.smithy_binding.specs.views.KeptWrites.{IsEmpty, Keeps, KeepsDefined};
 
 use smithy_schema::{Binding, SchemaRef};
 use smithy_serde::ShapeValue;

@@ -1,14 +1,8 @@
 // The text of a value where its member is bound (Smithy, HTTP protocol bindings; timestampFormat, mediaType).
-ghost use Rattle.std.specs.Prelude.{◌≡◌, IfOk, IfErr, Some, false, is_some};
-ghost use Rattle.std.specs.Cow.{cow_str_bytes};
-ghost use Rattle.smithy_schema.specs.Nodes.{Table};
-ghost use Rattle.smithy_schema.specs.References.{schema_of};
-ghost use Rattle.smithy_schema.specs.ShownBindings.{binding_shown};
-ghost use Rattle.smithy_serde.specs.StoredValues.{value_in, label_at};
-ghost use Rattle.smithy_strings.specs.Wire.{wire};
-ghost use Rattle.smithy_binding.specs.Bindings.{place_at, member_text, element_text};
-ghost use Rattle.smithy_binding.specs.Refusing.{LacksYear};
-ghost use Rattle.smithy_binding.specs.Seen.{write_at};
+ghost use Rattle.std.specs.Prelude.{◌≡◌, IfOk, IfErr, is_some};
+ghost use Rattle.smithy_binding.specs.Words.{schema_of, binding_shown, label_at};
+ghost use Rattle.smithy_binding.specs.Bindings.{place_at};
+ghost use Rattle.smithy_binding.specs.views.StoredTexts.{write_at, IsThere, IsText, IsMemberText, LacksYear, LacksText, LacksMemberText, element_text};
 
 use crate::refusal::no_year;
 use smithy_ids::TimestampFormat;
@@ -54,10 +48,9 @@ fn text_or_no_year<'w>(
     place: Place,
     value: &'w ShapeValue,
 ) -> Result<CowStr<'w, Global>, SerdeError>
-    ensures ok { IfOk result (λ s. (t : Table) →
-        wire format has_media_type place (value_in t value.now) ≡ Some (cow_str_bytes s)) }
-    ensures err { IfErr result
-        (λ e. (t : Table) → LacksYear (wire format has_media_type place (value_in t value.now)) e) }
+    ensures ok { IfOk result
+        (IsText format has_media_type place value.now) }
+    ensures err { IfErr result (LacksText format has_media_type place value.now) }
 {
     match text_or_none(alloc, format, has_media_type, place, value)? {
         Some(text) => Ok(text),
@@ -74,10 +67,9 @@ pub fn text_of<'w>(
     place: Place,
     value: &'w ShapeValue,
 ) -> Result<CowStr<'w, Global>, SerdeError>
-    ensures ok { IfOk result (λ s. (t : Table) →
-        member_text place (schema_of member.entry) (value_in t value.now) ≡ Some (cow_str_bytes s)) }
-    ensures err { IfErr result
-        (λ e. (t : Table) → LacksYear (member_text place (schema_of member.entry) (value_in t value.now)) e) }
+    ensures ok { IfOk result
+        (IsMemberText (schema_of member.entry) place value.now) }
+    ensures err { IfErr result (LacksMemberText (schema_of member.entry) place value.now) }
 {
     text_or_no_year(
         alloc,
@@ -97,8 +89,7 @@ pub fn element_text<'w>(
     node: SchemaIndex,
     value: &'w ShapeValue,
 ) -> Result<CowStr<'w, Global>, SerdeError>
-    ensures ok { IfOk result
-        (λ s. element_text place (write_at table.now node.0 value.now) ≡ Some (cow_str_bytes s)) }
+    ensures ok { IfOk result (IsThere (element_text place (write_at table.now node.0 value.now))) }
     ensures err { IfErr result (LacksYear (element_text place (write_at table.now node.0 value.now))) }
 {
     text_or_no_year(alloc, format_at(table, node), false, place, value)

@@ -1,19 +1,16 @@
 // Schemas that a request can be placed by (Smithy, HTTP protocol bindings).
-ghost use Rattle.std.specs.Prelude.{◌≡◌, ◌&&◌, IfOk, false};
-ghost use Rattle.std.specs.Option.{option_map_or};
-ghost use Rattle.smithy_ids.specs.Kinds.{is_structure_or_union};
-ghost use Rattle.smithy_schema.specs.Nodes.{members_of};
-ghost use Rattle.smithy_schema.specs.References.{schema_of};
-ghost use Rattle.smithy_binding.specs.Checked.{checked_input, agrees, has_sound_names, has_sound_http};
-ghost use Rattle.smithy_binding.specs.Checking.{shown, are_sound, has_true_flags_for};
+ghost use Rattle.std.specs.Prelude.{◌≡◌, IfOk, false};
+ghost use Rattle.smithy_binding.specs.Words.{option_map_or, is_structure_or_union, members_of, schema_of};
+ghost use Rattle.smithy_binding.specs.Checked.{checked_input, agrees, has_sound_http};
+ghost use Rattle.smithy_binding.specs.views.Checking.{shown, are_sound, is_sound_input, has_true_flags_for};
 
-use crate::clear::is_clear;
+use crate::clear_template::is_clear_among;
 use crate::member_check::{Direction, is_structure_or_union};
 use crate::members::{
     Counted, are_sound_members, count, has_sound_payload, has_unbound_member, named_members,
     payload_kind,
 };
-use crate::name_check::{NameKind, have_sound_names, names_of};
+use crate::name_check::have_sound_names;
 use smithy_ids::{PayloadHint, ShapeType};
 use smithy_schema::SchemaRef;
 use smithy_types::{OutOfMemory, is_token};
@@ -74,9 +71,7 @@ fn is_sound_http<'t>(
     if !is_token(http.method()) {
         return Ok(false);
     }
-    let labels = names_of(alloc, members, NameKind::Label)?;
-    let count = count(members, Counted::Label);
-    let is_clear = is_clear(alloc, http.uri(), labels.as_slice(), count)?;
+    let is_clear = is_clear_among(alloc, http.uri(), members)?;
     if !is_clear {
         return Ok(false);
     }
@@ -90,8 +85,7 @@ fn are_checked<'t>(
     members: &[SchemaRef<'t>],
 ) -> Result<bool, AllocError>
     requires { shown members.now ≡ members_of (schema_of schema) }
-    ensures { let s = schema_of schema.entry in
-        IfOk result (λ b. b ≡ (are_sound s (members_of s) && has_sound_names s && has_sound_http s)) }
+    ensures { IfOk result (λ b. b ≡ is_sound_input (schema_of schema.entry)) }
 {
     if !are_sound(schema, members) {
         return Ok(false);

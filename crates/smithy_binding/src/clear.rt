@@ -1,13 +1,11 @@
 // Templates that leave no doubt which text a hole has.
-ghost use Rattle.std.specs.Prelude.{◌≡◌, ◌&&◌, ◌==◌, ℕ, List, IfOk, length, map, string_bytes};
-ghost use Rattle.std.specs.List.{after_last, list_all};
-ghost use Rattle.smithy_types.specs.Grammars.{is_legal_target};
-ghost use Rattle.smithy_schema.specs.Templates.{has_unclosed_brace, holes_of};
-ghost use Rattle.smithy_binding.specs.Clear.{filled_by_a, ends_segment, begins_segment, are_whole_segments, has_whole_authority, is_greedy_last, holes_named};
-ghost use Rattle.smithy_binding.specs.Checking.{is_clear_for, texts_shown};
-ghost use Rattle.smithy_binding.specs.ClearParts.{mark_in, is_marked_once, once_mark, times_named};
-ghost use Rattle.smithy_binding.specs.CutTemplate.{hole_shown, template_shown};
-ghost use Rattle.smithy_binding.specs.TargetParts.{is_close};
+ghost use Rattle.std.specs.Prelude.{◌≡◌, IfOk, length, map, string_bytes};
+ghost use Rattle.smithy_binding.specs.Words.{after_last, list_all, has_unclosed_brace, holes_of};
+ghost use Rattle.smithy_binding.specs.Clear.{filled_by_a, ends_segment, begins_segment, are_whole_segments, has_whole_authority, is_greedy_last};
+ghost use Rattle.smithy_binding.specs.views.Checking.{is_clear_for, texts_shown};
+ghost use Rattle.smithy_binding.specs.views.ClearParts.{is_marked_once, MarksOnce, have_one_hole, is_clear_path, are_clear_holes};
+ghost use Rattle.smithy_binding.specs.views.CutTemplate.{hole_shown, template_shown};
+ghost use Rattle.smithy_binding.specs.views.TargetParts.{is_close};
 
 use crate::template::{CutHole, CutTemplate, cut};
 use smithy_types::{before_query, behind_scheme, legal_target};
@@ -118,8 +116,7 @@ fn names_once<'t>(
     alloc: Global,
     holes: &[CutHole<'t>],
 ) -> Result<BTreeMap<&'t str, bool>, AllocError>
-    ensures { IfOk result
-        (λ m. (name : List ℕ) → mark_in m name ≡ once_mark (times_named name (map hole_shown holes.now))) }
+    ensures { IfOk result (MarksOnce (map hole_shown holes.now)) }
 {
     let mut once = BTreeMap::new(alloc);
     for hole in holes {
@@ -130,7 +127,7 @@ fn names_once<'t>(
 }
 
 // Whether the name stands once.
-#[tactic(auto, unfolding(crate::specs::ClearParts::is_marked_once))]
+#[tactic(auto, unfolding(crate::specs::views::ClearParts::is_marked_once))]
 fn is_once<'t>(once: &BTreeMap<&'t str, bool>, name: &'t str) -> bool
     ensures { result ≡ is_marked_once once.now name.now }
 {
@@ -154,8 +151,7 @@ pub fn have_one_hole<'t>(
     template: &CutTemplate<'t>,
     names: &[&'t str],
 ) -> Result<bool, AllocError>
-    ensures { IfOk result (λ b.
-        b ≡ list_all (λ name. length (holes_named name.now (template_shown template.now)) == 1) names.now) }
+    ensures { IfOk result (λ b. b ≡ have_one_hole names.now (template_shown template.now)) }
 {
     let once = names_once(alloc, template.holes.as_slice())?;
     Ok(are_once(&once, names))
@@ -169,17 +165,14 @@ fn hole_count(template: &CutTemplate<'_>) -> usize
 
 // With `a` in each hole it is a legal target, and the holes are whole segments of its path.
 fn is_clear_path(template: &CutTemplate<'_>, filled: &str) -> bool
-    ensures { let shown = template_shown template.now in
-        result ≡ (is_legal_target filled.now && are_whole_segments shown.first shown.rest
-        && has_whole_authority shown) }
+    ensures { result ≡ is_clear_path (template_shown template.now) filled.now }
 {
     legal_target(filled) && are_whole_segments(template) && has_whole_authority(template)
 }
 
 // Of the label names `have_one` says whether each is that of one hole; there is no other hole, and only the last is greedy.
 fn are_clear_holes(template: &CutTemplate<'_>, have_one: bool, count: usize) -> bool
-    ensures { let holes = holes_of (template_shown template.now) in
-        result ≡ (have_one && (length holes == count) && is_greedy_last holes) }
+    ensures { result ≡ are_clear_holes (holes_of (template_shown template.now)) have_one count }
 {
     have_one && hole_count(template) == count && is_greedy_last(template)
 }

@@ -1,13 +1,11 @@
 // The protocols of this crate, as what makes the requests of a client.
 ghost use Rattle.std.specs.Prelude.{IsTrue};
-ghost use Rattle.smithy_serde.specs.Values.{list_of};
+ghost use Rattle.smithy_binding.specs.Words.{list_of};
 ghost use Rattle.smithy_binding.specs.Answer.{answer};
 ghost use Rattle.smithy_binding.specs.Checked.{checked_input};
-ghost use Rattle.smithy_binding.specs.DefaultHeaders.{omit_of};
 ghost use Rattle.smithy_binding.specs.Pointing.{IsPointed};
-ghost use Rattle.smithy_binding.specs.Protocols.{protocol_id_of, codec_of, protocol_of};
+ghost use Rattle.smithy_binding.specs.Protocols.{protocol_of, AnswersCall};
 ghost use Rattle.smithy_binding.specs.Refusing.{Answers};
-ghost use Rattle.smithy_binding.specs.Rpc.{AnswersCall};
 
 use crate::endpoint::apply_http_endpoint;
 use crate::http_binding_protocol::HttpBindingProtocol;
@@ -25,12 +23,12 @@ impl<C: Codec> ClientProtocolInner for HttpBindingProtocol<C> {
 
     type Prefix = EndpointPrefix;
 
-    ghost id = { protocol_id_of };
+    ghost id = { λ p. p.protocol_id };
 
-    ghost takes = { λ p schema. IsTrue (checked_input schema) × C.lawful (codec_of p) };
+    ghost takes = { λ p schema. IsTrue (checked_input schema) × C.lawful p.codec };
 
     ghost answers = { λ p schema ws endpoint omit result. Answers result
-        (answer (protocol_of C.text p) schema (list_of ws) endpoint (omit_of omit)) };
+        (answer (protocol_of C.text p) schema (list_of ws) endpoint omit) };
 
     ghost points = { λ _ old endpoint prefix new result. IsPointed old endpoint prefix new result };
 

@@ -1,10 +1,7 @@
 // The headers that a request has by default.
 ghost use Rattle.std.specs.Prelude.{◌≡◌, ◌++◌, ◌∷◌, [], IsTrue, OnOk, is_some, codes, decimal};
-ghost use Rattle.std.specs.Str.{str_to_ascii_lowercase};
-ghost use Rattle.smithy_types.specs.Grammars.{is_token, is_header_value};
-ghost use Rattle.smithy_types.specs.Texts.{found};
-ghost use Rattle.smithy_binding.specs.DefaultHeaders.{with_defaults, omit_of};
-ghost use Rattle.smithy_binding.specs.Placing.{with_default};
+ghost use Rattle.smithy_binding.specs.Words.{str_to_ascii_lowercase, is_token, is_header_value, found};
+ghost use Rattle.smithy_binding.specs.Placing.{with_default, with_defaults};
 
 use smithy_http::{Headers, HttpError};
 use smithy_serde::OmitFlags;
@@ -39,35 +36,31 @@ fn append_default(headers: &mut Headers, name: &str, value: &str) -> Result<(), 
 }
 
 // Adds the content type, where it is wanted and none stands.
-fn add_content_type(
-    headers: &mut Headers,
-    is_wanted: bool,
-    content_type: &str,
-) -> Result<(), OutOfMemory>
-    requires { IsTrue (is_header_value content_type.now) }
+fn add_content_type(headers: &mut Headers, wanted: bool, value: &str) -> Result<(), OutOfMemory>
+    requires { IsTrue (is_header_value value.now) }
     ensures { OnOk result
-        (headers.new ≡ with_default is_wanted (codes "content-type") content_type.now headers.old) }
+        (headers.new ≡ with_default wanted (codes "content-type") value.now headers.old) }
 {
-    if !is_wanted || has_name(headers, "content-type") {
+    if !wanted || has_name(headers, "content-type") {
         return Ok(());
     }
-    append_default(headers, "content-type", content_type)
+    append_default(headers, "content-type", value)
 }
 
 // Adds the length, where it is wanted and none stands.
 fn add_length(
     alloc: Global,
     headers: &mut Headers,
-    is_wanted: bool,
-    length: usize,
+    wanted: bool,
+    len: usize,
 ) -> Result<(), OutOfMemory>
     ensures { OnOk result
-        (headers.new ≡ with_default is_wanted (codes "content-length") (decimal length) headers.old) }
+        (headers.new ≡ with_default wanted (codes "content-length") (decimal len) headers.old) }
 {
-    if !is_wanted || has_name(headers, "content-length") {
+    if !wanted || has_name(headers, "content-length") {
         return Ok(());
     }
-    let text = format!(in alloc; "{length}")?;
+    let text = format!(in alloc; "{len}")?;
     append_default(headers, "content-length", text.as_str())
 }
 
@@ -83,7 +76,7 @@ pub fn add_defaults(
 ) -> Result<(), OutOfMemory>
     requires { IsTrue (is_header_value content_type.now) }
     ensures { OnOk result
-        (headers.new ≡ with_defaults content_type.now is_codec length (omit_of omit) headers.old) }
+        (headers.new ≡ with_defaults content_type.now is_codec length omit headers.old) }
 {
     let wants_type = is_codec && !omit.content_type;
     add_content_type(headers, wants_type, content_type)?;

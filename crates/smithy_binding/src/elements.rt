@@ -1,16 +1,11 @@
 // The elements of a list in a header or the query (Smithy, HTTP protocol bindings, httpHeader and httpQuery).
-ghost use Rattle.std.specs.Prelude.{◌≡◌, ◌++◌, OnOk, IfOk, IfErr, Some, option_map, string_bytes};
-ghost use Rattle.smithy_types.specs.Results.{each};
-ghost use Rattle.smithy_schema.specs.Nodes.{element_of};
-ghost use Rattle.smithy_schema.specs.References.{schema_of};
-ghost use Rattle.smithy_serde.specs.StoredValues.{writes_in};
-ghost use Rattle.smithy_serde.specs.Values.{list_of};
-ghost use Rattle.smithy_strings.specs.Lists.{listed};
+ghost use Rattle.std.specs.Prelude.{◌≡◌, OnOk, IfOk, IfErr, option_map};
+ghost use Rattle.smithy_binding.specs.Words.{element_of, schema_of, writes_in};
 ghost use Rattle.smithy_strings.specs.declared.wire.Place.TheVariants as at;
-ghost use Rattle.smithy_binding.specs.Bindings.{element_text, kind_or_none, pairs_with};
+ghost use Rattle.smithy_binding.specs.Bindings.{kind_or_none};
 ghost use Rattle.smithy_binding.specs.Faults.{element_fault};
-ghost use Rattle.smithy_binding.specs.Refusing.{LacksYear, Reports};
-ghost use Rattle.smithy_binding.specs.TargetParts.{queries};
+ghost use Rattle.smithy_binding.specs.Refusing.{Reports};
+ghost use Rattle.smithy_binding.specs.views.StoredTexts.{element_texts, IsListed, AddsElements, LacksYear};
 
 use crate::bound_text::element_text;
 use crate::refusal::wrong_item;
@@ -66,10 +61,8 @@ pub fn listed_text(
     kind: ShapeType,
     elements: &WriteList,
 ) -> Result<Text, SerdeError>
-    ensures ok { IfOk result (λ s. option_map (listed kind)
-        (each (element_text at.Header) (list_of (writes_in table.now elements.now))) ≡ Some s) }
-    ensures err { IfErr result
-        (LacksYear (each (element_text at.Header) (list_of (writes_in table.now elements.now)))) }
+    ensures ok { IfOk result (IsListed kind (element_texts at.Header table.now elements.now)) }
+    ensures err { IfErr result (LacksYear (element_texts at.Header table.now elements.now)) }
 {
     let mut list = String::new(alloc);
     let mut is_first = true;
@@ -90,12 +83,8 @@ pub fn push_elements(
     name: &str,
     elements: &WriteList,
 ) -> Result<(), SerdeError>
-    ensures ok { OnOk result
-        (option_map (λ texts. string_bytes query.old ++ queries (pairs_with name.now texts))
-        (each (element_text at.Query) (list_of (writes_in table.now elements.now)))
-        ≡ Some (string_bytes query.new)) }
-    ensures err { IfErr result
-        (LacksYear (each (element_text at.Query) (list_of (writes_in table.now elements.now)))) }
+    ensures ok { OnOk result (AddsElements name.now table.now elements.now query.old query.new) }
+    ensures err { IfErr result (LacksYear (element_texts at.Query table.now elements.now)) }
 {
     for (node, value) in elements.iter() {
         let text = element_text(alloc, table, Place::Query, node, value)?;

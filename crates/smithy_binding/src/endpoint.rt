@@ -1,7 +1,6 @@
 // Requests pointed at endpoints.
 ghost use Rattle.std.specs.Prelude.{◌≡◌, ◌≢◌, ◌++◌, ◌∷◌, [], map, IsTrue, IfOk, OnOk, OnErr};
-ghost use Rattle.std.specs.Option.{option_copied};
-ghost use Rattle.smithy_types.specs.Grammars.{is_legal_target};
+ghost use Rattle.smithy_binding.specs.Words.{option_copied, is_legal_target};
 ghost use Rattle.smithy_binding.specs.Pointing.{IsPointed, endpoint_fault, in_lower_case, overridden, without_all};
 ghost use Rattle.smithy_binding.specs.Refusing.{TellsFault};
 

@@ -1,35 +1,46 @@
 // The protocol that places requests by the HTTP binding traits (Smithy, HTTP protocol bindings).
-ghost use Rattle.std.specs.Prelude.{IsTrue};
-ghost use Rattle.smithy_types.specs.Grammars.{is_header_value};
 
-use crate::place::place_writes;
+use crate::place::{Plan, place_writes};
 use smithy_http::Request;
 use smithy_ids::ShapeId;
 use smithy_schema::SchemaRef;
 use smithy_serde::{Codec, OmitFlags, SerdeError, SerializableStruct, record_members};
 use std::alloc::Global;
+use std::marker::Model;
 
-/// Places each bound member where its trait names it, and writes the others into a body by its codec.
+/// Places each bound member where its trait names it, and writes the others into a body by its codec. Seen as its parts.
 #[derive(Drop)]
 pub struct HttpBindingProtocol<C> {
     protocol_id: ShapeId<'static>,
     codec: C,
     content_type: &'static str,
-    ghost legal: { IsTrue (is_header_value content_type.now) },
+}
+
+impl<C> Model for HttpBindingProtocol<C> {
+    ghost use Rattle.std.specs.Prelude.{IsTrue};
+    ghost use Rattle.smithy_types.specs.Grammars.{is_header_value};
+    ghost use Rattle.smithy_binding.specs.Protocols as protocol;
+
+    ghost Value = { protocol.Parts C };
+
+    ghost view = { λ p.
+        record { protocol_id = p.protocol_id; codec = p.codec; content_type = p.content_type.now } };
+
+    ghost invariant = { λ p. IsTrue (is_header_value p.content_type.now) };
 }
 
 impl<C> HttpBindingProtocol<C> {
-    ghost use Rattle.std.specs.Prelude.{◌≡◌, codes};
+    ghost use Rattle.std.specs.Prelude.{◌≡◌, codes, IsTrue};
     ghost use Rattle.smithy_ids.specs.ShapeIdParts.{parts_of};
-    ghost use Rattle.smithy_binding.specs.Protocols.{protocol_id_of, codec_of, content_type_of};
+    ghost use Rattle.smithy_types.specs.Grammars.{is_header_value};
 
     /// The protocol of this name, whose bodies are the codec's and have this content type. Condition: the content type may
     /// stand as a header's value (RFC 7230, section 3.2). Takes no memory.
     pub fn new(protocol_id: ShapeId<'static>, codec: C, content_type: &'static str) -> Self
         requires { IsTrue (is_header_value content_type.now) }
-        ensures protocol_id { protocol_id_of result ≡ protocol_id.entry }
-        ensures codec { codec_of result ≡ codec }
-        ensures content_type { content_type_of result ≡ content_type.now }
+        ensures protocol_id { result.protocol_id ≡ protocol_id.entry }
+        ensures codec { result.codec ≡ codec }
+        ensures content_type { result.content_type ≡ content_type.now }
     {
         HttpBindingProtocol {
             protocol_id,
@@ -40,9 +51,9 @@ impl<C> HttpBindingProtocol<C> {
 
     /// REST with bodies of JSON by this codec, mostly `JsonCodec` (AWS restJson1). Takes no memory.
     pub fn rest_json(codec: C) -> Self
-        ensures name { (parts_of (protocol_id_of result)).full_name ≡ codes "aws.protocols#restJson1" }
-        ensures codec { codec_of result ≡ codec }
-        ensures content_type { content_type_of result ≡ codes "application/json" }
+        ensures name { (parts_of result.protocol_id).full_name ≡ codes "aws.protocols#restJson1" }
+        ensures codec { result.codec ≡ codec }
+        ensures content_type { result.content_type ≡ codes "application/json" }
     {
         let id = ShapeId::from_parts("aws.protocols#restJson1", "aws.protocols", "restJson1");
         HttpBindingProtocol::new(id, codec, "application/json")
@@ -50,21 +61,21 @@ impl<C> HttpBindingProtocol<C> {
 
     /// The name of the protocol. Takes no memory.
     pub fn protocol_id(&self) -> ShapeId<'_>
-        ensures { result ≡ protocol_id_of self.now }
+        ensures { result ≡ self.now.protocol_id }
     {
         self.protocol_id
     }
 
     /// The codec. Takes no memory.
     pub fn codec(&self) -> &C
-        ensures { result.now ≡ codec_of self.now }
+        ensures { result.now ≡ self.now.codec }
     {
         &self.codec
     }
 
     /// The content type of the bodies. Takes no memory.
     pub fn content_type(&self) -> &'static str
-        ensures value { result.now ≡ content_type_of self.now }
+        ensures value { result.now ≡ self.now.content_type }
         ensures legal { IsTrue (is_header_value result.now) }
     {
         self.content_type
@@ -73,13 +84,10 @@ impl<C> HttpBindingProtocol<C> {
 
 impl<C: Drop> HttpBindingProtocol<C> {
     ghost use Rattle.std.specs.Prelude.{◌≡◌};
-    ghost use Rattle.smithy_binding.specs.Protocols.{protocol_id_of, codec_of, content_type_of};
 
     /// The same protocol with another codec. Takes no memory.
     pub fn with_codec(self, codec: C) -> Self
-        ensures protocol_id { protocol_id_of result ≡ protocol_id_of self }
-        ensures codec { codec_of result ≡ codec }
-        ensures content_type { content_type_of result ≡ content_type_of self }
+        ensures { result ≡ record self { codec = codec } }
     {
         HttpBindingProtocol {
             protocol_id: self.protocol_id,
@@ -94,7 +102,7 @@ impl<C: Codec> HttpBindingProtocol<C> {
     ghost use Rattle.smithy_schema.specs.References.{schema_of};
     ghost use Rattle.smithy_serde.specs.Finishing.{IsReady};
     ghost use Rattle.smithy_binding.specs.Checked.{checked_input};
-    ghost use Rattle.smithy_binding.specs.Protocols.{codec_of, AnswersBy};
+    ghost use Rattle.smithy_binding.specs.Protocols.{AnswersBy};
 
     /// The request of an input, by its schema (Smithy, HTTP protocol bindings). Without `@http` the method is `GET`, and
     /// the template is `endpoint`, or `/` where that is empty. Each bound member's first write stands where its trait
@@ -120,7 +128,7 @@ impl<C: Codec> HttpBindingProtocol<C> {
         omit: OmitFlags,
     ) -> Result<Request, SerdeError>
         requires checked { IsTrue (checked_input (schema_of schema)) }
-        requires lawful { C.lawful (codec_of self.now) }
+        requires lawful { C.lawful self.now.codec }
         ensures { AnswersBy C.text self.now schema.entry (writes input.now) endpoint.now omit result }
     {
         let body = self.codec.create_serializer(alloc)?;
@@ -140,32 +148,19 @@ impl<C: Codec> HttpBindingProtocol<C> {
     ) -> Result<Request, SerdeError>
         requires checked { IsTrue (checked_input (schema_of schema)) }
         requires ready { IsReady (C.Serializer.seen body) }
-        requires text { (C.Serializer.seen body).text ≡ C.text (codec_of self.now) }
+        requires text { (C.Serializer.seen body).text ≡ C.text self.now.codec }
         ensures { AnswersBy C.text self.now schema.entry (writes input.now) endpoint.now omit result }
     {
-        let content_type = self.content_type;
-        if let Some((table, writes)) = input.stored_writes() {
-            return place_writes(
-                alloc,
-                body,
-                table,
-                writes,
-                schema,
-                endpoint,
-                content_type,
-                omit,
-            );
-        }
-        let recorded = record_members(alloc, input)?;
-        place_writes(
-            alloc,
-            body,
-            recorded.table(),
-            recorded.writes(),
+        let plan = Plan {
             schema,
             endpoint,
-            content_type,
+            content_type: self.content_type,
             omit,
-        )
+        };
+        if let Some((table, writes)) = input.stored_writes() {
+            return place_writes(alloc, body, table, writes, plan);
+        }
+        let recorded = record_members(alloc, input)?;
+        place_writes(alloc, body, recorded.table(), recorded.writes(), plan)
     }
 }

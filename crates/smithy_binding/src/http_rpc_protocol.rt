@@ -1,25 +1,20 @@
 // The protocol that posts each input whole.
-ghost use Rattle.std.specs.Prelude.{◌≡◌, None, Some, IfOk, IfErr};
-ghost use Rattle.smithy_schema.specs.References.{schema_of};
-ghost use Rattle.smithy_serde.specs.DocumentOf.{document_fault};
-ghost use Rattle.smithy_serde.specs.Finishing.{IsTextOf, IsReady};
+ghost use Rattle.std.specs.Prelude.{◌≡◌, IfOk, IfErr};
+ghost use Rattle.smithy_binding.specs.Words.{schema_of, document_fault, IsTextOf, IsReady, label_at, writes_in, HasNode, AreDefined, label_of, structure};
 ghost use Rattle.smithy_serde.specs.Refusing.{IsFaultRefusal};
-ghost use Rattle.smithy_serde.specs.StoredValues.{label_at, writes_in, HasNode, AreDefined};
-ghost use Rattle.smithy_serde.specs.Values.{label_of, list_of, structure};
-ghost use Rattle.smithy_binding.specs.KeptWrites.{unbound_in, AreDefinedWrites};
+ghost use Rattle.smithy_serde.specs.Writing.{Tells};
 
-use crate::body::text_of_writes;
-use crate::body_writes::BodyWrite;
 use crate::default_headers::add_defaults;
 use crate::place::{endpoint_or_slash, request_with};
 use smithy_http::{Headers, Request};
 use smithy_ids::ShapeId;
 use smithy_schema::{SchemaIndex, SchemaRef, Schemas};
 use smithy_serde::{
-    Codec, FinishSerializer, OmitFlags, SerdeError, SerializableStruct, WriteList, record_members,
+    Codec, FinishSerializer, OmitFlags, SerdeError, SerializableStruct, ShapeSerializer, WriteList,
+    finish_struct, record_members, tell,
 };
 use smithy_types::Blob;
-use std::alloc::{AllocError, Global};
+use std::alloc::Global;
 use std::marker::Model;
 
 /// Posts the document of a whole input, as its codec's text, to the endpoint. Seen as its parts.
@@ -33,9 +28,9 @@ pub struct HttpRpcProtocol<C> {
 impl<C> Model for HttpRpcProtocol<C> {
     ghost use Rattle.std.specs.Prelude.{IsTrue};
     ghost use Rattle.smithy_types.specs.Grammars.{is_header_value};
-    ghost use Rattle.smithy_binding.specs.Rpc as rpc;
+    ghost use Rattle.smithy_binding.specs.Protocols as protocol;
 
-    ghost Value = { rpc.Parts C };
+    ghost Value = { protocol.Parts C };
 
     ghost view = { λ p.
         record { protocol_id = p.protocol_id; codec = p.codec; content_type = p.content_type.now } };
@@ -52,8 +47,9 @@ impl<C> HttpRpcProtocol<C> {
     /// stand as a header's value (RFC 7230, section 3.2). Takes no memory.
     pub fn new(protocol_id: ShapeId<'static>, codec: C, content_type: &'static str) -> Self
         requires { IsTrue (is_header_value content_type.now) }
-        ensures { result
-            ≡ record { protocol_id = protocol_id.entry; codec = codec; content_type = content_type.now } }
+        ensures protocol_id { result.protocol_id ≡ protocol_id.entry }
+        ensures codec { result.codec ≡ codec }
+        ensures content_type { result.content_type ≡ content_type.now }
     {
         HttpRpcProtocol {
             protocol_id,
@@ -110,7 +106,7 @@ impl<C: Drop> HttpRpcProtocol<C> {
 }
 
 impl<C: Codec> HttpRpcProtocol<C> {
-    ghost use Rattle.smithy_binding.specs.Rpc.{AnswersCall};
+    ghost use Rattle.smithy_binding.specs.Protocols.{AnswersCall};
 
     /// The request of an input: a `POST` to the endpoint, or to `/` where that is empty, whose body is the codec's text of the
     /// document of the whole input. The schema may be any, and its traits of HTTP are not looked at. The default headers
@@ -151,22 +147,15 @@ fn input_text<S: FinishSerializer + Drop>(
     ensures err { IfErr result (IsFaultRefusal (document_fault (structure (writes input.now)))) }
 {
     if let Some((table, writes)) = input.stored_writes() {
-        return stored_text(alloc, serializer, schema, table, writes);
+        return stored_text(serializer, schema, table, writes);
     }
     let recorded = record_members(alloc, input)?;
-    stored_text(
-        alloc,
-        serializer,
-        schema,
-        recorded.table(),
-        recorded.writes(),
-    )
+    stored_text(serializer, schema, recorded.table(), recorded.writes())
 }
 
 // The text of the document of stored writes.
 fn stored_text<S: FinishSerializer + Drop>(
-    alloc: Global,
-    serializer: S,
+    mut serializer: S,
     schema: SchemaRef<'_>,
     table: &Schemas,
     writes: &WriteList,
@@ -178,27 +167,24 @@ fn stored_text<S: FinishSerializer + Drop>(
     ensures err { IfErr result
         (IsFaultRefusal (document_fault (structure (writes_in table.now writes.now)))) }
 {
-    let each = each_write(alloc, table, writes)?;
-    text_of_writes(serializer, schema, table, each.as_slice())
+    serializer.open_struct(schema)?;
+    tell_stored(&mut serializer, table, writes)?;
+    finish_struct(serializer)
 }
 
-// The writes, each with its own node.
-fn each_write<'t, 'w>(
-    alloc: Global,
-    table: &'t Schemas,
-    writes: &'w WriteList,
-) -> Result<Vec<BodyWrite<'t, 'w>>, AllocError>
+// Tells the writes in order, each by its own node.
+fn tell_stored<S: ShapeSerializer>(
+    serializer: &mut S,
+    table: &Schemas,
+    writes: &WriteList,
+) -> Result<(), SerdeError>
     requires { AreDefined table.now writes.now }
-    ensures writes { IfOk result
-        (λ each. unbound_in table.now each.items ≡ list_of (writes_in table.now writes.now)) }
-    ensures defined { IfOk result (λ each. AreDefinedWrites table.now each.items) }
+    ensures { Tells (writes_in table.now writes.now) (S.seen serializer.old) (S.seen serializer.new) result }
 {
-    let mut each = Vec::new(alloc);
     for (node, value) in writes.iter() {
-        let member = node_at(table, node);
-        each.push(BodyWrite { member, value })?;
+        tell(serializer, node_at(table, node), table, value)?;
     }
-    Ok(each)
+    Ok(())
 }
 
 // The node of a write.

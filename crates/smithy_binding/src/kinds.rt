@@ -1,9 +1,6 @@
 // Which values a member takes.
 ghost use Rattle.std.specs.Prelude.{◌≡◌};
-ghost use Rattle.smithy_schema.specs.Nodes.{Table};
-ghost use Rattle.smithy_schema.specs.References.{schema_of};
-ghost use Rattle.smithy_serde.specs.Fits.{fits_member};
-ghost use Rattle.smithy_serde.specs.StoredValues.{value_in};
+ghost use Rattle.smithy_binding.specs.Words.{Table, schema_of, fits_member, value_in};
 
 use crate::binding::is_bound;
 use smithy_schema::SchemaRef;

@@ -1,8 +1,8 @@
 // The texts of label members (Smithy, HTTP protocol bindings, httpLabel).
 ghost use Rattle.std.specs.Prelude.{◌≡◌, IfOk, map, option_map};
-ghost use Rattle.smithy_types.specs.Texts.{found};
-ghost use Rattle.smithy_binding.specs.Seen.{label_pair};
-ghost use Rattle.smithy_binding.specs.LabelTexts.{text_in_map, text_under};
+ghost use Rattle.smithy_binding.specs.Words.{found};
+ghost use Rattle.smithy_binding.specs.views.Seen.{label_pair};
+ghost use Rattle.smithy_binding.specs.views.LabelTexts.{text_in_map, text_under};
 
 use std::alloc::{AllocError, Global};
 use std::borrow::CowStr;
@@ -26,7 +26,7 @@ pub struct LabelTexts<'l> {
 }
 
 // The texts in a map, where of each name the first label's text stays.
-#[tactic(auto, unfolding(crate::specs::LabelTexts::text_in_map))]
+#[tactic(auto, unfolding(crate::specs::views::LabelTexts::text_in_map))]
 fn texts_in_map<'l>(
     alloc: Global,
     labels: &'l [Label<'l, 'l>],
@@ -71,7 +71,7 @@ fn first_text<'l>(labels: &'l [Label<'l, 'l>], name: &str) -> Option<&'l str>
 }
 
 /// The text under a name.
-#[tactic(auto, unfolding(crate::specs::LabelTexts::text_in_map))]
+#[tactic(auto, unfolding(crate::specs::views::LabelTexts::text_in_map))]
 pub fn text_of_label<'l>(texts: &LabelTexts<'l>, name: &'l str) -> Option<&'l str>
     ensures { option_map (λ t. t.now) result ≡ text_under texts.now name.now }
 {

@@ -1,17 +1,12 @@
 // The entries of a map in the headers or the query (Smithy, HTTP protocol bindings, httpPrefixHeaders and httpQueryParams).
-ghost use Rattle.std.specs.Prelude.{◌≡◌, ◌∷◌, ◌++◌, [], ℕ, List, IfOk, IfErr, OnOk, None, option_map, option_and_then, string_bytes};
-ghost use Rattle.std.specs.Str.{str_to_ascii_lowercase};
-ghost use Rattle.smithy_types.specs.Texts.{is_one_of};
-ghost use Rattle.smithy_schema.specs.Nodes.{Schema, Table, element_of, member_at, to_prefix, to_query_map};
-ghost use Rattle.smithy_schema.specs.References.{schema_of};
-ghost use Rattle.smithy_serde.specs.StoredValues.{value_in, writes_in};
-ghost use Rattle.smithy_serde.specs.Values.{list, map, text_of_key};
-ghost use Rattle.smithy_http.specs.Headers.{put_all};
-ghost use Rattle.smithy_binding.specs.Bindings.{inserted_at, entry_pairs, pairs_at, query_names};
-ghost use Rattle.smithy_binding.specs.Entries.{text_at, pairs_at_place, has_key, unnamed};
-ghost use Rattle.smithy_binding.specs.Faults.{nested_fault, part_fault, item_fault, value_fault, pairs_fault, ends_with_value};
-ghost use Rattle.smithy_binding.specs.Refusing.{IsTold, Reports};
-ghost use Rattle.smithy_binding.specs.TargetParts.{queries};
+ghost use Rattle.std.specs.Prelude.{◌≡◌, ◌++◌, IfOk, OnOk, option_map, option_and_then};
+ghost use Rattle.smithy_binding.specs.Words.{Table, element_of, schema_of, value_in, writes_in, text_of_key};
+ghost use Rattle.smithy_binding.specs.Bindings.{query_names};
+ghost use Rattle.smithy_binding.specs.views.Entries.{text_at, nested_in, part_in, query_name_at, has_key, HasKeys, list_pairs, value_pairs, pairs_unless, AddsQuery, AddsEntries};
+ghost use Rattle.smithy_binding.specs.Faults.{item_fault, value_fault, ends_with_value};
+ghost use Rattle.smithy_binding.specs.Refusing.{Reports};
+ghost use Rattle.smithy_binding.specs.views.PutHeaders.{prefixed, PutsHeader, PutsPairs};
+ghost use Rattle.smithy_binding.specs.views.StoredTexts.{map_in};
 
 use crate::binding::member_count;
 use crate::elements::{kind_of, test_elements};
@@ -46,8 +41,7 @@ fn test_nested(
     node: Option<SchemaRef<'_>>,
     value: &ShapeValue,
 ) -> Result<(), SerdeError>
-    ensures { Reports (nested_fault (schema_of member.entry)
-        (option_map schema_of node.entry) (value_in table.now value.now)) result }
+    ensures { Reports (nested_in member.entry node.entry table.now value.now) result }
 {
     match value {
         ShapeValue::List(elements) => {
@@ -66,8 +60,7 @@ fn test_part(
     node: Option<SchemaRef<'_>>,
     value: &ShapeValue,
 ) -> Result<(), SerdeError>
-    ensures { Reports (part_fault (schema_of member.entry)
-        (option_map schema_of node.entry) (value_in table.now value.now)) result }
+    ensures { Reports (part_in member.entry node.entry table.now value.now) result }
 {
     let kind = kind_of(node);
     if !value.fits(kind) {
@@ -84,7 +77,7 @@ pub fn test_entries(
     member: SchemaRef<'_>,
     entries: &WriteList,
 ) -> Result<(), SerdeError>
-    ensures { Reports (item_fault (schema_of member.entry) (map (writes_in table.now entries.now))) result }
+    ensures { Reports (item_fault (schema_of member.entry) (map_in table.now entries.now)) result }
 {
     let mut node = member.key();
     let mut next = member.value();
@@ -112,7 +105,7 @@ pub fn test_map(
     member: SchemaRef<'_>,
     entries: &WriteList,
 ) -> Result<(), SerdeError>
-    ensures { Reports (value_fault (schema_of member.entry) (map (writes_in table.now entries.now))) result }
+    ensures { Reports (value_fault (schema_of member.entry) (map_in table.now entries.now)) result }
 {
     test_entries(alloc, table, member, entries)?;
     if !ends_with_value(entries) {
@@ -151,12 +144,7 @@ fn put_entry(
     key: &str,
     value: &str,
 ) -> Result<(), SerdeError>
-    ensures ok { OnOk result (pairs_fault (schema_of member.entry)
-        ((str_to_ascii_lowercase (prefix.now ++ key.now), value.now) ∷ []) ≡ None) }
-    ensures put { OnOk result (headers.new
-        ≡ put_all headers.old ((str_to_ascii_lowercase (prefix.now ++ key.now), value.now) ∷ [])) }
-    ensures err { IfErr result (IsTold (pairs_fault (schema_of member.entry)
-        ((str_to_ascii_lowercase (prefix.now ++ key.now), value.now) ∷ []))) }
+    ensures { PutsHeader member.entry (prefix.now ++ key.now) value.now headers.old headers.new result }
 {
     let mut name = String::with_capacity(alloc, prefix.len() + key.len())?;
     name.push_str(prefix)?;
@@ -181,12 +169,8 @@ pub fn put_entries(
     prefix: &str,
     entries: &WriteList,
 ) -> Result<(), SerdeError>
-    ensures ok { OnOk result (pairs_fault (schema_of member.entry) (inserted_at (to_prefix prefix.now)
-        (schema_of member.entry) (map (writes_in table.now entries.now))) ≡ None) }
-    ensures put { OnOk result (headers.new ≡ put_all headers.old (inserted_at
-        (to_prefix prefix.now) (schema_of member.entry) (map (writes_in table.now entries.now)))) }
-    ensures err { IfErr result (IsTold (pairs_fault (schema_of member.entry) (inserted_at
-        (to_prefix prefix.now) (schema_of member.entry) (map (writes_in table.now entries.now))))) }
+    ensures { PutsPairs
+        member.entry (prefixed prefix.now table.now entries.now) headers.old headers.new result }
 {
     for place in 0..entries.len() / 2 {
         let key = text_at(entries, 2 * place);
@@ -204,17 +188,15 @@ fn query_name<'t>(member: SchemaRef<'t>) -> Option<&'t str>
 
 // The query name of the member at a position.
 fn query_name_at<'t>(schema: SchemaRef<'t>, position: usize) -> Option<&'t str>
-    ensures { option_map (λ n. n.now) result
-        ≡ option_and_then (λ m. m.node.traits.http_query) (member_at (schema_of schema.entry) position) }
+    ensures { option_map (λ n. n.now) result ≡ query_name_at (schema_of schema.entry) position }
 {
     query_name(schema.member_schema_by_index(position)?)
 }
 
 // The names of the schema's query members, written or not.
-#[tactic(auto, unfolding(crate::specs::Entries::has_key))]
+#[tactic(auto, unfolding(crate::specs::views::Entries::has_key))]
 fn query_names<'t>(alloc: Global, schema: SchemaRef<'t>) -> Result<QueryNames<'t>, AllocError>
-    ensures { IfOk result (λ names. (name : List ℕ) → has_key names name
-        ≡ is_one_of name (query_names (schema_of schema.entry))) }
+    ensures { IfOk result (HasKeys (query_names (schema_of schema.entry))) }
 {
     let mut names = BTreeMap::new(alloc);
     for position in 0..member_count(schema) {
@@ -225,7 +207,7 @@ fn query_names<'t>(alloc: Global, schema: SchemaRef<'t>) -> Result<QueryNames<'t
     Ok(names)
 }
 
-#[tactic(auto, unfolding(crate::specs::Entries::has_key))]
+#[tactic(auto, unfolding(crate::specs::views::Entries::has_key))]
 fn is_named<'n>(names: &QueryNames<'n>, name: &'n str) -> bool
     ensures { result ≡ has_key names.now name.now }
 {
@@ -234,8 +216,7 @@ fn is_named<'n>(names: &QueryNames<'n>, name: &'n str) -> bool
 
 // Adds a pair of the key and each text of a list.
 fn push_texts(query: &mut String, key: &str, texts: &WriteList) -> Result<(), OutOfMemory>
-    ensures { OnOk result ((t : Table) → string_bytes query.new ≡ string_bytes query.old
-        ++ queries (entry_pairs (key.now, list (writes_in t texts.now)))) }
+    ensures { OnOk result (AddsQuery (list_pairs key.now texts.now) query.old query.new) }
 {
     for (_, text) in texts.iter() {
         push_pair(query, key, text_or_empty(text))?;
@@ -246,8 +227,7 @@ fn push_texts(query: &mut String, key: &str, texts: &WriteList) -> Result<(), Ou
 // Adds the pairs of an entry.
 #[tactic(auto, unfolding(smithy_serde::specs::StoredValues::value_in))]
 fn push_value(query: &mut String, key: &str, value: &ShapeValue) -> Result<(), OutOfMemory>
-    ensures { OnOk result ((t : Table) → string_bytes query.new ≡ string_bytes query.old
-        ++ queries (entry_pairs (key.now, value_in t value.now))) }
+    ensures { OnOk result (AddsQuery (value_pairs key.now value.now) query.old query.new) }
 {
     match value {
         ShapeValue::List(texts) => push_texts(query, key, texts),
@@ -263,8 +243,8 @@ fn push_entry<'n>(
     entries: &WriteList,
     place: usize,
 ) -> Result<(), OutOfMemory>
-    ensures { OnOk result ((t : Table) → string_bytes query.new ≡ string_bytes query.old
-        ++ queries (unnamed names.now key.now (pairs_at_place (writes_in t entries.now) place key.now))) }
+    ensures { OnOk result
+        (AddsQuery (pairs_unless names.now key.now entries.now place) query.old query.new) }
 {
     if is_named(names, key) {
         return Ok(());
@@ -284,9 +264,8 @@ pub fn push_entries<'n>(
     query: &mut String,
     entries: &'n WriteList,
 ) -> Result<(), OutOfMemory>
-    ensures { OnOk result ((t : Table) (m : Schema) →
-        string_bytes query.new ≡ string_bytes query.old ++ queries (pairs_at to_query_map
-        (query_names (schema_of schema.entry)) m (map (writes_in t entries.now)))) }
+    ensures { OnOk result
+        (AddsEntries (query_names (schema_of schema.entry)) entries.now query.old query.new) }
 {
     let names = query_names(alloc, schema)?;
     for place in 0..entries.len() / 2 {

@@ -1,13 +1,11 @@
 // What is asked of each member of a checked schema.
-ghost use Rattle.std.specs.Prelude.{◌≡◌, ◌&&◌, false, true, option_map, if◌then◌else◌, None};
-ghost use Rattle.smithy_ids.specs.Kinds.{same_kind, is_scalar, is_unwritable, is_structure_or_union};
+ghost use Rattle.std.specs.Prelude.{◌≡◌, ◌||◌, option_map};
+ghost use Rattle.smithy_binding.specs.Words.{same_kind, is_scalar, is_unwritable, is_structure_or_union, binding_of, schema_of};
 ghost use Rattle.smithy_ids.specs.declared.shape_type.ShapeType.TheVariants as kind;
-ghost use Rattle.smithy_schema.specs.Nodes.{element_of, binding_of as binding};
-ghost use Rattle.smithy_schema.specs.References.{schema_of};
-ghost use Rattle.smithy_binding.specs.Checked.{one_if, is_bound_once, is_header_kind, has_label_kind, has_query_kind, has_header_kind, is_plain_element, is_element_plain, has_plain_elements, is_plain_string, is_plain_list, is_text_map, is_query_map, has_prefix_kind, has_map_kind, is_payload_kind, is_sound_member};
+ghost use Rattle.smithy_binding.specs.Checked.{one_if, is_bound_once, is_header_kind, has_label_kind, has_query_kind, has_header_kind, is_element_plain, has_plain_elements, is_plain_string, is_plain_list, is_text_map, is_query_map, has_prefix_kind, has_map_kind, is_sound_member};
 ghost use Rattle.smithy_binding.specs.CheckedOutput.{is_response_bound_once, has_plain_header_elements, has_code_kind, is_sound_response_member};
-ghost use Rattle.smithy_binding.specs.Checking.{is_sound_in, is_payload_in, is_bound_in};
-ghost use Rattle.smithy_binding.specs.Bodies.{is_payload};
+ghost use Rattle.smithy_binding.specs.views.Checking.{list_element, is_sound_in, is_payload_in, is_bound_in};
+ghost use Rattle.smithy_binding.specs.Bodies.{is_payload, is_raw_kind, is_codec_kind};
 
 use crate::binding::is_bound;
 use crate::body_form::{is_codec_kind, is_raw_kind};
@@ -56,18 +54,7 @@ fn is_response_bound_once(member: SchemaRef<'_>) -> bool
 fn is_scalar(kind: ShapeType) -> bool
     ensures { result ≡ is_scalar kind }
 {
-    matches!(
-        kind,
-        ShapeType::Boolean
-            | ShapeType::Byte
-            | ShapeType::Short
-            | ShapeType::Integer
-            | ShapeType::Long
-            | ShapeType::BigInteger
-            | ShapeType::BigDecimal
-            | ShapeType::String
-            | ShapeType::Timestamp
-    )
+    kind.is_scalar()
 }
 
 fn is_header_kind(kind: ShapeType) -> bool
@@ -83,30 +70,26 @@ fn is_header_kind(kind: ShapeType) -> bool
 fn is_unwritable(kind: ShapeType) -> bool
     ensures { result ≡ is_unwritable kind }
 {
-    matches!(
-        kind,
-        ShapeType::Float | ShapeType::Double | ShapeType::Member
-    )
+    kind.is_unwritable()
 }
 
 /// A structure or a union.
 pub fn is_structure_or_union(kind: ShapeType) -> bool
     ensures { result ≡ is_structure_or_union kind }
 {
-    matches!(kind, ShapeType::Structure | ShapeType::Union)
+    kind.is_structure_or_union()
 }
 
 /// The kinds of a payload.
 pub fn is_payload_kind(kind: ShapeType) -> bool
-    ensures { result ≡ is_payload_kind kind }
+    ensures { result ≡ (is_raw_kind kind || is_codec_kind kind) }
 {
     is_raw_kind(kind) || is_codec_kind(kind)
 }
 
 // The elements, where the member is a list.
 fn list_element<'t>(member: SchemaRef<'t>) -> Option<SchemaRef<'t>>
-    ensures { option_map schema_of result ≡ (if same_kind (schema_of member.entry).node.kind kind.List
-        then element_of (schema_of member.entry) else None) }
+    ensures { option_map schema_of result ≡ list_element (schema_of member.entry) }
 {
     match member.shape_type() {
         ShapeType::List => member.element(),
@@ -144,18 +127,14 @@ fn has_header_kind(member: SchemaRef<'_>) -> bool
     }
 }
 
-fn is_plain_element(member: SchemaRef<'_>, element: SchemaRef<'_>) -> bool
-    ensures { result ≡ is_plain_element (schema_of member.entry) (schema_of element.entry) }
-{
-    element.media_type().is_none() && format_in(element) == format_in(member)
-}
-
 // The elements, where the member is a list, have no media type and the member's time format.
 fn is_element_plain(member: SchemaRef<'_>) -> bool
     ensures { result ≡ is_element_plain (schema_of member.entry) }
 {
     match list_element(member) {
-        Some(element) => is_plain_element(member, element),
+        Some(element) => {
+            element.media_type().is_none() && format_in(element) == format_in(member)
+        }
         None => true,
     }
 }
@@ -286,7 +265,7 @@ pub fn is_sound_member(member: SchemaRef<'_>, way: Direction) -> bool
 }
 
 fn is_request_payload(member: SchemaRef<'_>) -> bool
-    ensures { result ≡ is_payload (binding (schema_of member.entry)) }
+    ensures { result ≡ is_payload (binding_of (schema_of member.entry)) }
 {
     matches!(member.request_binding(), Binding::Payload)
 }

@@ -1,11 +1,6 @@
 // A header of a member (Smithy, HTTP protocol bindings, httpHeader and httpPrefixHeaders).
-ghost use Rattle.std.specs.Prelude.{◌≡◌, ◌∷◌, [], IfOk, IfErr, OnOk, None};
-ghost use Rattle.std.specs.Cow.{cow_str_bytes};
-ghost use Rattle.std.specs.Str.{str_to_ascii_lowercase};
-ghost use Rattle.smithy_schema.specs.References.{schema_of};
-ghost use Rattle.smithy_http.specs.Headers.{put_all};
-ghost use Rattle.smithy_binding.specs.Faults.{pairs_fault};
-ghost use Rattle.smithy_binding.specs.Refusing.{IsTold};
+ghost use Rattle.smithy_binding.specs.Words.{cow_str_bytes};
+ghost use Rattle.smithy_binding.specs.views.PutHeaders.{PutsHeader};
 
 use crate::refusal::wrong_header;
 use smithy_http::{Headers, HttpError};
@@ -25,12 +20,7 @@ pub fn put_header(
     name: &str,
     text: CowStr<'_, Global>,
 ) -> Result<(), SerdeError>
-    ensures ok { IfOk result (λ _. pairs_fault (schema_of member.entry)
-        ((str_to_ascii_lowercase name.now, cow_str_bytes text.entry) ∷ []) ≡ None) }
-    ensures put { OnOk result (headers.new
-        ≡ put_all headers.old ((str_to_ascii_lowercase name.now, cow_str_bytes text.entry) ∷ [])) }
-    ensures err { IfErr result (IsTold (pairs_fault (schema_of member.entry)
-        ((str_to_ascii_lowercase name.now, cow_str_bytes text.entry) ∷ []))) }
+    ensures { PutsHeader member.entry name.now (cow_str_bytes text.entry) headers.old headers.new result }
 {
     match headers.insert_text(name, text) {
         Ok(()) => Ok(()),

@@ -1,12 +1,9 @@
 // The members of a schema, as both checks ask of them (Smithy, HTTP protocol bindings).
-ghost use Rattle.std.specs.Prelude.{◌≡◌, IfOk, MatchOption, true, false};
-ghost use Rattle.std.specs.List.{list_all};
-ghost use Rattle.smithy_ids.specs.Kinds.{same_kind};
+ghost use Rattle.std.specs.Prelude.{◌≡◌, IfOk};
+ghost use Rattle.smithy_binding.specs.Words.{list_all, same_kind, schema_of};
 ghost use Rattle.smithy_ids.specs.declared.shape_type.ShapeType.TheVariants as kind;
-ghost use Rattle.smithy_schema.specs.Nodes.{members_of};
-ghost use Rattle.smithy_schema.specs.References.{schema_of};
 ghost use Rattle.smithy_binding.specs.Checked.{is_sound_payload, has_defined_members, has_named_members};
-ghost use Rattle.smithy_binding.specs.Checking.{shown, counted_test, count_of, is_sound_in, payload_in, has_unbound_in, has_sound_payload_in};
+ghost use Rattle.smithy_binding.specs.views.Checking.{shown, ListsIf, counted_test, count_of, is_sound_in, payload_in, has_unbound_in, has_sound_payload_in};
 
 use crate::member_check::{Direction, is_bound_in, is_payload, is_payload_kind, is_sound_member};
 use crate::name_check::have_distinct_names;
@@ -104,9 +101,8 @@ fn defined_members<'t>(
     alloc: Global,
     schema: SchemaRef<'t>,
 ) -> Result<Option<Vec<SchemaRef<'t>>>, AllocError>
-    ensures { IfOk result (λ o. MatchOption o (has_defined_members (schema_of schema.entry) ≡ false)
-        (λ v. (has_defined_members (schema_of schema.entry) ≡ true)
-        × (shown v.items ≡ members_of (schema_of schema.entry)))) }
+    ensures { IfOk result
+        (ListsIf (has_defined_members (schema_of schema.entry)) (schema_of schema.entry)) }
 {
     let mut members = Vec::with_capacity(alloc, schema.members().len())?;
     for position in 0..schema.members().len() {
@@ -124,9 +120,8 @@ pub fn named_members<'t>(
     alloc: Global,
     schema: SchemaRef<'t>,
 ) -> Result<Option<Vec<SchemaRef<'t>>>, AllocError>
-    ensures { IfOk result (λ o. MatchOption o (has_named_members (schema_of schema.entry) ≡ false)
-        (λ v. (has_named_members (schema_of schema.entry) ≡ true)
-        × (shown v.items ≡ members_of (schema_of schema.entry)))) }
+    ensures { IfOk result
+        (ListsIf (has_named_members (schema_of schema.entry)) (schema_of schema.entry)) }
 {
     if !is_structure(schema) {
         return Ok(None);

@@ -1,11 +1,8 @@
 // The names of a schema's members, and whether they are distinct.
 ghost use Rattle.std.specs.Prelude.{◌≡◌, nat_eq, IfOk, map, option_map, string_bytes};
-ghost use Rattle.std.specs.List.{list_all, list_any, starts_with};
-ghost use Rattle.smithy_types.specs.Grammars.{is_token};
-ghost use Rattle.smithy_types.specs.Texts.{are_distinct, is_one_of};
-ghost use Rattle.smithy_schema.specs.References.{schema_of};
+ghost use Rattle.smithy_binding.specs.Words.{list_all, list_any, starts_with, is_token, are_distinct, is_one_of, schema_of};
 ghost use Rattle.smithy_binding.specs.declared.name_check.NameKind.TheVariants as names;
-ghost use Rattle.smithy_binding.specs.Checking.{shown, name_under, names_under, texts_shown, lower_names, is_sound_prefix_of, have_sound_headers, have_sound_names};
+ghost use Rattle.smithy_binding.specs.views.Checking.{shown, name_under, names_under, texts_shown, lower_names, is_sound_prefix_of, are_sound_prefixes, have_sound_headers, have_sound_names};
 
 use smithy_schema::SchemaRef;
 use smithy_types::is_token;
@@ -148,7 +145,7 @@ fn are_sound_prefixes(
     prefixes: &[&str],
 ) -> Result<bool, AllocError>
     ensures { IfOk result
-        (λ b. b ≡ list_all (is_sound_prefix_of (texts_shown headers.now)) (texts_shown prefixes.now)) }
+        (λ b. b ≡ are_sound_prefixes (texts_shown headers.now) (texts_shown prefixes.now)) }
 {
     for prefix in prefixes {
         if !is_sound_prefix(alloc, headers, prefix)? {

@@ -1,8 +1,8 @@
 // Schemas that a response can be read by (Smithy, HTTP protocol bindings).
-ghost use Rattle.std.specs.Prelude.{◌≡◌, ◌&&◌, IfOk};
-ghost use Rattle.smithy_schema.specs.References.{schema_of};
+ghost use Rattle.std.specs.Prelude.{◌≡◌, IfOk};
+ghost use Rattle.smithy_binding.specs.Words.{schema_of};
 ghost use Rattle.smithy_binding.specs.CheckedOutput.{checked_output};
-ghost use Rattle.smithy_binding.specs.Checking.{shown, are_sound_response, have_sound_headers};
+ghost use Rattle.smithy_binding.specs.views.Checking.{shown, are_sound_response, is_sound_output};
 
 use crate::member_check::Direction;
 use crate::members::{Counted, are_sound_members, count, has_sound_payload, named_members};
@@ -23,8 +23,7 @@ fn are_sound(members: &[SchemaRef<'_>]) -> bool
 
 // What is asked of a structure whose members are defined and have distinct names.
 fn are_checked(alloc: Global, members: &[SchemaRef<'_>]) -> Result<bool, AllocError>
-    ensures { IfOk result
-        (λ b. b ≡ (are_sound_response (shown members.now) && have_sound_headers (shown members.now))) }
+    ensures { IfOk result (λ b. b ≡ is_sound_output (shown members.now)) }
 {
     if !are_sound(members) {
         return Ok(false);

@@ -1,13 +1,10 @@
 // The request of an input (Smithy, HTTP protocol bindings).
-ghost use Rattle.std.specs.Prelude.{◌≡◌, IsTrue, IfOk, IfErr, None, Some, string_bytes};
-ghost use Rattle.smithy_types.specs.Grammars.{is_token, is_header_value};
-ghost use Rattle.smithy_schema.specs.References.{schema_of};
-ghost use Rattle.smithy_serde.specs.StoredValues.{writes_in, AreDefined};
-ghost use Rattle.smithy_serde.specs.Finishing.{IsReady};
+ghost use Rattle.std.specs.Prelude.{◌≡◌, IsTrue, string_bytes};
+ghost use Rattle.smithy_binding.specs.Words.{is_token, is_header_value, schema_of, writes_in, AreDefined, IsReady};
 ghost use Rattle.smithy_binding.specs.Checked.{checked_input};
 ghost use Rattle.smithy_binding.specs.Answer.{legal_request};
 ghost use Rattle.smithy_binding.specs.Placing.{method_of, template_of, endpoint_or_slash};
-ghost use Rattle.smithy_binding.specs.Protocols.{protocol_with, IsAnswer};
+ghost use Rattle.smithy_binding.specs.views.Planned.{AnswersPlan};
 ghost use Rattle.smithy_binding.specs.Refusing.{Answers};
 
 use crate::body::request_body;
@@ -31,8 +28,8 @@ fn method_of<'t>(schema: SchemaRef<'t>) -> &'t str
     }
 }
 
-// The template: that of `@http`, else the endpoint, else `/`.
-fn template_of<'t>(schema: SchemaRef<'t>, endpoint: &'t str) -> &'t str
+/// The template: that of `@http`, else the endpoint, else `/`. Takes no memory.
+pub fn template_of<'t>(schema: SchemaRef<'t>, endpoint: &'t str) -> &'t str
     ensures { result.now ≡ template_of (schema_of schema.entry) endpoint.now }
 {
     if let Some(http) = schema.http() {
@@ -70,6 +67,15 @@ pub fn request_with(
     }
 }
 
+/// What a request is placed by, beside its writes.
+#[derive(Clone, Copy, Drop)]
+pub struct Plan<'s, 'e, 'c> {
+    pub schema: SchemaRef<'s>,
+    pub endpoint: &'e str,
+    pub content_type: &'c str,
+    pub omit: OmitFlags,
+}
+
 /// The request of the writes, whose nodes are those of the table, placed by a checked input schema; `serializer` writes
 /// the body. Its refusals are those of `HttpBindingProtocol::serialize_request`. Takes memory.
 pub fn place_writes<S: FinishSerializer + Drop>(
@@ -77,23 +83,20 @@ pub fn place_writes<S: FinishSerializer + Drop>(
     serializer: S,
     table: &Schemas,
     writes: &WriteList,
-    schema: SchemaRef<'_>,
-    endpoint: &str,
-    content_type: &str,
-    omit: OmitFlags,
+    plan: Plan<'_, '_, '_>,
 ) -> Result<Request, SerdeError>
-    requires checked { IsTrue (checked_input (schema_of schema)) }
+    requires checked { IsTrue (checked_input (schema_of plan.schema)) }
     requires defined { AreDefined table.now writes.now }
-    requires content_type { IsTrue (is_header_value content_type.now) }
+    requires content_type { IsTrue (is_header_value plan.content_type.now) }
     requires ready { IsReady (S.seen serializer) }
-    ensures { IsAnswer (protocol_with content_type.now (S.seen serializer).text)
-        schema.entry (writes_in table.now writes.now) endpoint.now omit result }
+    ensures { AnswersPlan (S.seen serializer).text plan.entry (writes_in table.now writes.now) result }
 {
+    let schema = plan.schema;
     let mut parts = RequestParts::new(alloc, schema)?;
     gather_writes(alloc, schema, table, writes, &mut parts)?;
     let form = body_form(schema);
     let body = request_body(alloc, serializer, schema, form, table, &parts.body)?;
-    let template = template_of(schema, endpoint);
+    let template = template_of(schema, plan.endpoint);
     let target = whole_target(
         alloc,
         template,
@@ -104,10 +107,10 @@ pub fn place_writes<S: FinishSerializer + Drop>(
     add_defaults(
         alloc,
         &mut parts.headers,
-        content_type,
+        plan.content_type,
         form.is_codec(),
         length,
-        omit,
+        plan.omit,
     )?;
     request_with(alloc, method_of(schema), target, parts.headers, body)
 }

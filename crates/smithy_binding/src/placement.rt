@@ -1,22 +1,14 @@
 // What the writes put into a request, one by one.
-ghost use Rattle.std.specs.Prelude.{◌≡◌, ◌∷◌, [], IsTrue, IfOk, IfErr, OnOk, Ok, None, true, false, slice_index_or, slice_set};
-ghost use Rattle.std.specs.List.{list_all};
-ghost use Rattle.smithy_schema.specs.Nodes.{Table, element_of, members_of, to_header, binding_of};
-ghost use Rattle.smithy_schema.specs.References.{schema_of};
-ghost use Rattle.smithy_schema.specs.ShownBindings.{binding_shown};
-ghost use Rattle.smithy_serde.specs.Fits.{fits_member};
-ghost use Rattle.smithy_serde.specs.StoredValues.{value_in, writes_in, AreDefined, HasNode};
-ghost use Rattle.smithy_serde.specs.Values.{list, list_of, map};
-ghost use Rattle.smithy_serde.specs.Writes.{all_resolved};
-ghost use Rattle.smithy_http.specs.Headers.{put_all};
-ghost use Rattle.smithy_binding.specs.Bindings.{kind_or_none, inserted_at};
-ghost use Rattle.smithy_binding.specs.Faults.{element_fault, is_placed_at};
-ghost use Rattle.smithy_binding.specs.Gather.{gather_one, gather, add_or_fault, nothing_yet};
-ghost use Rattle.smithy_binding.specs.Placed.{has_placed_kind, is_text_member, is_list_binding, takes_map, first_fault, write_of, IsSingle};
-ghost use Rattle.smithy_binding.specs.Refusing.{IsTold, IsFaultOf};
-ghost use Rattle.smithy_binding.specs.Seen.{gathered_of, write_at, PutsFirst};
-ghost use Rattle.smithy_binding.specs.Bodies.{body_parts};
-ghost use Rattle.smithy_binding.specs.KeptWrites.{kept_in, IsEmpty, IsKeptDefined, KeepsAll, KeepsDefined};
+ghost use Rattle.std.specs.Prelude.{◌≡◌, IsTrue, IfOk, IfErr, OnOk, None, true, false, slice_index_or, slice_set};
+ghost use Rattle.smithy_binding.specs.Words.{list_all, Table, members_of, to_header, binding_of, schema_of, binding_shown, fits_member, value_in, AreDefined, HasNode};
+ghost use Rattle.smithy_binding.specs.Faults.{item_fault, is_placed_at};
+ghost use Rattle.smithy_binding.specs.views.Gather.{nothing_yet};
+ghost use Rattle.smithy_binding.specs.views.KeptWrites.{IsEmpty, IsKeptDefined, KeepsDefined};
+ghost use Rattle.smithy_binding.specs.views.Placed.{has_placed_kind, is_text_member, is_list_binding, takes_map, first_fault, IsSingle};
+ghost use Rattle.smithy_binding.specs.Refusing.{IsTold};
+ghost use Rattle.smithy_binding.specs.views.PutHeaders.{PutsList};
+ghost use Rattle.smithy_binding.specs.views.Seen.{gathered_of, Places, AddsMember, AddsWrite, GathersAll};
+ghost use Rattle.smithy_binding.specs.views.StoredTexts.{list_in, map_in};
 
 use crate::binding::{is_placed, name_of};
 use crate::body_writes::BodyWrites;
@@ -91,8 +83,8 @@ fn add_single<'t, 'w>(
     requires bound { binding_shown binding ≡ binding_of (schema_of member) }
     requires placed { IsTrue (is_text_member (schema_of member)) }
     requires single { (t : Table) → IsSingle (value_in t value.now) }
-    ensures { (t : Table) → PutsFirst (schema_of schema.entry) (schema_of member.entry)
-        (value_in t value.now) parts.old parts.new result }
+    ensures { (t : Table) →
+        Places schema.entry member.entry (value_in t value.now) parts.old parts.new result }
 {
     let text = text_of(alloc, member, place_of(binding), value)?;
     match binding {
@@ -120,14 +112,13 @@ fn put_list(
     elements: &WriteList,
 ) -> Result<(), SerdeError>
     requires header { to_header name.now ≡ binding_of (schema_of member) }
-    requires kinds { element_fault (schema_of member)
-        (kind_or_none (element_of (schema_of member))) (writes_in table.now elements.now) ≡ None }
+    requires kinds { item_fault (schema_of member) (list_in table.now elements.now) ≡ None }
     ensures ok { OnOk result
-        (first_fault (schema_of member.entry) (list (writes_in table.now elements.now)) ≡ None) }
-    ensures put { OnOk result (headers.new ≡ put_all headers.old (inserted_at (to_header name.now)
-        (schema_of member.entry) (list (writes_in table.now elements.now)))) }
+        (first_fault (schema_of member.entry) (list_in table.now elements.now) ≡ None) }
+    ensures put { OnOk result
+        (PutsList name.now member.entry table.now elements.now headers.old headers.new) }
     ensures err { IfErr result
-        (IsTold (first_fault (schema_of member.entry) (list (writes_in table.now elements.now)))) }
+        (IsTold (first_fault (schema_of member.entry) (list_in table.now elements.now))) }
 {
     let text = listed_text(alloc, table, element_kind(member), elements)?;
     put_header(
@@ -151,8 +142,8 @@ fn add_list<'t>(
 ) -> Result<(), SerdeError>
     requires bound { binding_shown binding ≡ binding_of (schema_of member) }
     requires placed { IsTrue (is_list_binding (binding_of (schema_of member))) }
-    ensures { PutsFirst (schema_of schema.entry) (schema_of member.entry)
-        (list (writes_in table.now elements.now)) parts.old parts.new result }
+    ensures { Places
+        schema.entry member.entry (list_in table.now elements.now) parts.old parts.new result }
 {
     test_elements(alloc, table, member, element_kind(member), elements)?;
     match binding {
@@ -176,8 +167,8 @@ fn add_map<'t>(
 ) -> Result<(), SerdeError>
     requires bound { binding_shown binding ≡ binding_of (schema_of member) }
     requires placed { IsTrue (takes_map (binding_of (schema_of member))) }
-    ensures { PutsFirst (schema_of schema.entry) (schema_of member.entry)
-        (map (writes_in table.now entries.now)) parts.old parts.new result }
+    ensures { Places
+        schema.entry member.entry (map_in table.now entries.now) parts.old parts.new result }
 {
     test_map(alloc, table, member, entries)?;
     match binding {
@@ -207,8 +198,8 @@ fn add_first<'t, 'w>(
     requires placed { IsTrue (is_placed_at (binding_of (schema_of member))) }
     requires kinds { IsTrue (has_placed_kind (schema_of member)) }
     requires fits { IsTrue (fits_member (schema_of member) (value_in table.now value.now)) }
-    ensures { PutsFirst (schema_of schema.entry) (schema_of member.entry)
-        (value_in table.now value.now) parts.old parts.new result }
+    ensures { Places
+        schema.entry member.entry (value_in table.now value.now) parts.old parts.new result }
 {
     match value {
         ShapeValue::List(elements) => add_list(
@@ -230,13 +221,8 @@ fn add_resolved<'t, 'w>(
     value: &'w ShapeValue,
 ) -> Result<(), SerdeError>
     requires { IsTrue (has_placed_kind (schema_of member)) }
-    ensures ok { OnOk result (add_or_fault (schema_of schema.entry) (gathered_of parts.old)
-        (write_of position (schema_of member.entry) (value_in table.now value.now))
-        ≡ Ok (gathered_of parts.new)) }
-    ensures err { IfErr result (IsFaultOf (add_or_fault (schema_of schema.entry) (gathered_of parts.old)
-        (write_of position (schema_of member.entry) (value_in table.now value.now)))) }
-    ensures body { OnOk result (KeepsAll table.now parts.old.body parts.new.body
-        (write_of position (schema_of member.entry) (value_in table.now value.now) ∷ [])) }
+    ensures added { AddsMember
+        schema.entry table.now member.entry position value.now parts.old parts.new result }
     ensures defined { OnOk result (KeepsDefined table.now value.now parts.old.body parts.new.body) }
 {
     if !fits_member(member, value) {
@@ -255,7 +241,7 @@ fn add_resolved<'t, 'w>(
 }
 
 // Puts a write of this node.
-#[tactic(auto, unfolding(crate::specs::Gather::gather_one))]
+#[tactic(auto, unfolding(crate::specs::views::Gather::gather_one))]
 fn add_write<'t, 'w>(
     alloc: Global,
     schema: SchemaRef<'t>,
@@ -266,21 +252,14 @@ fn add_write<'t, 'w>(
 ) -> Result<(), SerdeError>
     requires kinds { IsTrue (list_all has_placed_kind (members_of (schema_of schema))) }
     requires defined { HasNode table.now node.0 }
-    ensures ok { OnOk result (gather_one (schema_of schema.entry) (gathered_of parts.old)
-        (write_at table.now node.0 value.now) ≡ Ok (gathered_of parts.new)) }
-    ensures err { IfErr result (IsFaultOf
-        (gather_one (schema_of schema.entry) (gathered_of parts.old) (write_at table.now node.0 value.now))) }
-    ensures body { OnOk result (KeepsAll table.now parts.old.body parts.new.body
-        (all_resolved (schema_of schema.entry) (write_at table.now node.0 value.now ∷ []))) }
+    ensures added { AddsWrite
+        schema.entry table.now node.0 value.now parts.old parts.new result }
     ensures defined { OnOk result (KeepsDefined table.now value.now parts.old.body parts.new.body) }
 {
     let Some(written) = table.get(node) else {
         unreachable!()
     };
-    let Some(position) = resolve(schema, written) else {
-        return Err(unknown_member(alloc, written));
-    };
-    let Some(member) = schema.member_schema_by_index(position) else {
+    let Some((position, member)) = resolve(schema, written) else {
         return Err(unknown_member(alloc, written));
     };
     add_resolved(alloc, schema, table, position, member, parts, value)
@@ -298,13 +277,8 @@ pub fn gather_writes<'t, 'w>(
     requires defined { AreDefined table.now writes.now }
     requires empty { gathered_of parts.old ≡ nothing_yet (schema_of schema) }
     requires empty_body { IsEmpty parts.old.body }
-    ensures ok { OnOk result (gather (schema_of schema.entry) (nothing_yet (schema_of schema.entry))
-        (list_of (writes_in table.now writes.now)) ≡ Ok (gathered_of parts.new)) }
-    ensures err { IfErr result (IsFaultOf (gather (schema_of schema.entry)
-        (nothing_yet (schema_of schema.entry)) (list_of (writes_in table.now writes.now)))) }
-    ensures body { OnOk result (kept_in table.now parts.new.body
-        ≡ body_parts (schema_of schema.entry) (list_of (writes_in table.now writes.now))) }
-    ensures body_defined { OnOk result (IsKeptDefined table.now parts.new.body) }
+    ensures gathered { GathersAll schema.entry table.now writes.now parts.new result }
+    ensures defined { OnOk result (IsKeptDefined table.now parts.new.body) }
 {
     for (node, value) in writes.iter() {
         add_write(alloc, schema, table, parts, node, value)?;

@@ -1,12 +1,8 @@
 // The refusals of placing a request.
 ghost use Rattle.std.specs.Prelude.{◌≡◌};
-ghost use Rattle.smithy_schema.specs.Nodes.{Table};
-ghost use Rattle.smithy_schema.specs.References.{schema_of};
-ghost use Rattle.smithy_serde.specs.StoredValues.{value_in};
-ghost use Rattle.smithy_serde.specs.Values.{label_of};
-ghost use Rattle.smithy_binding.specs.Faults.{wrong_kind, wrong_item_kind as wrong_item_fault, wrong_header, header_words, header_or_prefix};
-ghost use Rattle.smithy_binding.specs.Faults.{missing_hole, too_long, not_legal, no_year, unmatched_key, no_member};
-ghost use Rattle.smithy_binding.specs.Refusing.{TellsFault};
+ghost use Rattle.smithy_binding.specs.Words.{Table, schema_of, value_in, label_of};
+ghost use Rattle.smithy_binding.specs.Faults.{wrong_kind, wrong_item_kind, wrong_header, header_words, header_or_prefix, missing_hole, too_long, not_legal, no_year, unmatched_key, no_member};
+ghost use Rattle.smithy_binding.specs.Refusing.{Says};
 
 use crate::binding::name_of;
 use smithy_ids::ShapeType;
@@ -17,7 +13,7 @@ use std::alloc::Global;
 
 /// No member is the one that this node names.
 pub fn unknown_member(alloc: Global, written: SchemaRef<'_>) -> SerdeError
-    ensures { TellsFault result (λ f. f ≡ no_member (label_of (schema_of written.entry))) }
+    ensures { Says result (no_member (label_of (schema_of written.entry))) }
 {
     match written.member_name() {
         Some(name) => SerdeError::unknown_member(alloc, name),
@@ -28,7 +24,7 @@ pub fn unknown_member(alloc: Global, written: SchemaRef<'_>) -> SerdeError
 /// The member is not of the value's kind.
 pub fn wrong_kind(alloc: Global, member: SchemaRef<'_>, value: &ShapeValue) -> SerdeError
     ensures { (t : Table) →
-        TellsFault result (λ f. f ≡ wrong_kind (schema_of member.entry) (value_in t value.now)) }
+        Says result (wrong_kind (schema_of member.entry) (value_in t value.now)) }
 {
     let written = value.written_word();
     let name = name_of(member);
@@ -47,7 +43,7 @@ pub fn wrong_item(
     value: &ShapeValue,
 ) -> SerdeError
     ensures { (t : Table) →
-        TellsFault result (λ f. f ≡ wrong_item_fault (schema_of member.entry) kind (value_in t value.now)) }
+        Says result (wrong_item_kind (schema_of member.entry) kind (value_in t value.now)) }
 {
     let written = value.written_word();
     let name = name_of(member);
@@ -62,7 +58,7 @@ pub fn wrong_item(
 
 /// The member's map ends with a key.
 pub fn unmatched_key(alloc: Global, member: SchemaRef<'_>) -> SerdeError
-    ensures { TellsFault result (λ f. f ≡ unmatched_key (schema_of member.entry)) }
+    ensures { Says result (unmatched_key (schema_of member.entry)) }
 {
     let name = name_of(member);
     match format!(in alloc; "map member {name} ends with a key without a value") {
@@ -73,7 +69,7 @@ pub fn unmatched_key(alloc: Global, member: SchemaRef<'_>) -> SerdeError
 
 /// The value has no text: a time whose year is not in the calendar of its format.
 pub fn no_year(alloc: Global) -> SerdeError
-    ensures { TellsFault result (λ f. f ≡ no_year) }
+    ensures { Says result no_year }
 {
     SerdeError::custom(alloc, YEAR_OUT_OF_RANGE)
 }
@@ -103,7 +99,7 @@ fn header_or_prefix<'t>(member: SchemaRef<'t>) -> &'t str
 
 /// A header of the member has a name or a value that no header has.
 pub fn wrong_header(alloc: Global, member: SchemaRef<'_>, what: &str) -> SerdeError
-    ensures { TellsFault result (λ f. f ≡ wrong_header (schema_of member.entry) what.now) }
+    ensures { Says result (wrong_header (schema_of member.entry) what.now) }
 {
     let name = name_of(member);
     let words = header_words(member);
@@ -116,7 +112,7 @@ pub fn wrong_header(alloc: Global, member: SchemaRef<'_>, what: &str) -> SerdeEr
 
 /// No label has a text for the hole.
 pub fn missing_hole(alloc: Global, hole: &str) -> SerdeError
-    ensures { TellsFault result (λ f. f ≡ missing_hole hole.now) }
+    ensures { Says result (missing_hole hole.now) }
 {
     match format!(in alloc; "{hole} was missing: cannot be empty or unset") {
         Ok(text) => SerdeError::invalid_input(alloc, text.as_str()),
@@ -126,14 +122,14 @@ pub fn missing_hole(alloc: Global, hole: &str) -> SerdeError
 
 /// The target is longer than a target may be.
 pub fn too_long(alloc: Global) -> SerdeError
-    ensures { TellsFault result (λ f. f ≡ too_long) }
+    ensures { Says result too_long }
 {
     SerdeError::custom(alloc, "invalid endpoint URI: longer than 65534 bytes")
 }
 
 /// The target is none.
 pub fn not_legal(alloc: Global) -> SerdeError
-    ensures { TellsFault result (λ f. f ≡ not_legal) }
+    ensures { Says result not_legal }
 {
     SerdeError::custom(alloc, "invalid endpoint URI: not a legal request target")
 }

@@ -1,6 +1,6 @@
 // The names of a service, which a client's settings hold.
 ghost use Rattle.std.specs.Prelude.{◌≡◌, IfOk};
-ghost use Rattle.std.specs.Option.{option_copied};
+ghost use Rattle.smithy_binding.specs.Words.{option_copied};
 ghost use Rattle.smithy_binding.specs.ServiceNames.{shape_name, shape_namespace, version_text, xml_uri, xml_prefix};
 
 use smithy_types::OutOfMemory;

@@ -1,15 +1,12 @@
 // A request target: the template with its holes filled (Smithy, HTTP protocol bindings, httpLabel).
-ghost use Rattle.std.specs.Prelude.{◌≡◌, ◌∷◌, ◌++◌, [], Err, IfOk, IfErr, OnOk, Ok, MatchOption, ℕ, List, true, false, codes, length, map, option_map, string_bytes};
-ghost use Rattle.smithy_types.specs.Texts.{has_byte};
-ghost use Rattle.smithy_types.specs.Results.{then_give};
-ghost use Rattle.smithy_schema.specs.Templates.{pieces};
-ghost use Rattle.smithy_binding.specs.Filling.{fill, filled_by, hole_text, keep_slashes, text_in};
+ghost use Rattle.std.specs.Prelude.{◌≡◌, ◌++◌, IfOk, IfErr, OnOk, Ok, map, string_bytes};
+ghost use Rattle.smithy_binding.specs.Words.{has_byte, pieces};
+ghost use Rattle.smithy_binding.specs.Filling.{fill, filled_by, keep_slashes};
 ghost use Rattle.smithy_binding.specs.Faults.{hole_fault};
-ghost use Rattle.smithy_binding.specs.Faults.{missing_hole};
-ghost use Rattle.smithy_binding.specs.Refusing.{TellsFault, IsTold};
-ghost use Rattle.smithy_binding.specs.Seen.{label_pair};
-ghost use Rattle.smithy_binding.specs.LabelTexts.{text_under};
-ghost use Rattle.smithy_binding.specs.TargetParts.{separator, queries, target_behind, target_with};
+ghost use Rattle.smithy_binding.specs.Refusing.{IsTold};
+ghost use Rattle.smithy_binding.specs.views.Seen.{label_pair};
+ghost use Rattle.smithy_binding.specs.views.LabelTexts.{text_under, label_text, target_in, Extends, LacksLabel};
+ghost use Rattle.smithy_binding.specs.views.TargetParts.{separator, target_behind, text_by, one_query, IsBehindFirst};
 
 use crate::labels::{Label, LabelTexts, text_of_label, texts_by_name};
 use crate::refusal::missing_hole;
@@ -37,8 +34,8 @@ fn push_path(out: &mut String, text: &str) -> Result<(), OutOfMemory>
 }
 
 fn push_hole_text(out: &mut String, is_greedy: bool, text: &str) -> Result<(), OutOfMemory>
-    ensures { OnOk result (string_bytes out.new ≡ string_bytes out.old
-        ++ hole_text (record { name = []; greedy = is_greedy }) text.now) }
+    ensures { OnOk result
+        (string_bytes out.new ≡ string_bytes out.old ++ text_by is_greedy text.now) }
 {
     if is_greedy {
         push_path(out, text)
@@ -54,11 +51,8 @@ fn push_label<'l>(
     is_greedy: bool,
     texts: &LabelTexts<'l>,
 ) -> Result<(), SerdeError>
-    ensures ok { OnOk result
-        (then_give (text_in (text_under texts.now) (record { name = name.now; greedy = is_greedy }))
-        (λ t. string_bytes out.old ++ t) ≡ Ok (string_bytes out.new)) }
-    ensures err { IfErr result (λ e. TellsFault e (λ f. (f ≡ missing_hole name.now)
-        × (text_in (text_under texts.now) (record { name = name.now; greedy = is_greedy }) ≡ Err name.now))) }
+    ensures ok { OnOk result (Extends (label_text texts.now name.now is_greedy) out.old out.new) }
+    ensures err { IfErr result (LacksLabel name.now (label_text texts.now name.now is_greedy)) }
 {
     let Some(text) = text_of_label(texts, name) else {
         return Err(missing_hole(alloc, name));
@@ -113,7 +107,7 @@ fn fill<'l>(
 /// Adds a pair behind a `&`, both sides escaped (Smithy, HTTP protocol bindings, httpQuery).
 pub fn push_pair(query: &mut String, name: &str, text: &str) -> Result<(), OutOfMemory>
     ensures { OnOk result
-        (string_bytes query.new ≡ string_bytes query.old ++ queries ((name.now, text.now) ∷ [])) }
+        (string_bytes query.new ≡ string_bytes query.old ++ one_query name.now text.now) }
 {
     query.push_str("&")?;
     push_escaped(query, name)?;
@@ -123,8 +117,7 @@ pub fn push_pair(query: &mut String, name: &str, text: &str) -> Result<(), OutOf
 
 // The pairs behind the first `&`.
 fn behind_first<'q>(query: &'q str) -> Option<&'q str>
-    ensures { (path : List ℕ) → MatchOption result (target_behind path query.now ≡ path)
-        (λ q. target_behind path query.now ≡ path ++ (separator (has_byte 63 path) ++ q.now)) }
+    ensures { IsBehindFirst query.now result }
 {
     query.strip_prefix('&')
 }
@@ -162,9 +155,9 @@ pub fn whole_target<'l>(
     query: &str,
 ) -> Result<String, SerdeError>
     ensures ok { IfOk result
-        (λ t. target_with template.now (map label_pair labels.now) query.now ≡ Ok (string_bytes t)) }
+        (λ t. target_in template.now labels.now query.now ≡ Ok (string_bytes t)) }
     ensures err { IfErr result
-        (IsTold (hole_fault (target_with template.now (map label_pair labels.now) query.now))) }
+        (IsTold (hole_fault (target_in template.now labels.now query.now))) }
 {
     let room = template.len() + query.len();
     let mut target = fill(alloc, template, labels, room)?;

@@ -1,10 +1,7 @@
 // Templates, cut at their holes (Smithy, HTTP protocol bindings, http trait, uri).
-ghost use Rattle.std.specs.Prelude.{◌≡◌, ◌∷◌, ◌<◌, [], MatchOption, IfOk, true, false, length};
-ghost use Rattle.std.specs.List.{slice_split, before_first, after_first};
-ghost use Rattle.smithy_types.specs.Texts.{has_byte};
-ghost use Rattle.smithy_schema.specs.Templates.{pieces, hole_of};
-ghost use Rattle.smithy_binding.specs.CutTemplate.{hole_shown, behind_hole, literal_alone, template_shown};
-ghost use Rattle.smithy_binding.specs.TargetParts.{is_close, is_open};
+ghost use Rattle.std.specs.Prelude.{◌≡◌, IfOk};
+ghost use Rattle.smithy_binding.specs.Words.{pieces, hole_of};
+ghost use Rattle.smithy_binding.specs.views.CutTemplate.{hole_shown, template_shown, CutsAtClose, CutsAtOpen, IsGreedyName, CutsHole};
 
 use std::alloc::{AllocError, Global};
 
@@ -25,26 +22,21 @@ pub struct CutTemplate<'t> {
 
 // The text before a `}` and the text behind it.
 fn cut_at_close<'t>(text: &'t str) -> Option<(&'t str, &'t str)>
-    ensures { MatchOption result (slice_split is_close text.now ≡ text.now ∷ [])
-        (λ x. (slice_split is_close text.now ≡ x.0.now ∷ slice_split is_close x.1.now)
-        × (length x.1.now < length text.now)) }
+    ensures { CutsAtClose text.now result }
 {
     text.split_once('}')
 }
 
 // The text before a `{` and the text behind it.
 fn cut_at_open<'t>(text: &'t str) -> Option<(&'t str, &'t str)>
-    ensures { MatchOption result (has_byte 123 text.now ≡ false)
-        (λ x. (has_byte 123 text.now ≡ true) × (x.0.now ≡ before_first is_open text.now)
-        × (x.1.now ≡ after_first is_open text.now) × (length x.1.now < length text.now)) }
+    ensures { CutsAtOpen text.now result }
 {
     text.split_once('{')
 }
 
 // The name of a hole that is greedy.
 fn greedy_name<'t>(hole: &'t str) -> Option<&'t str>
-    ensures { MatchOption result (hole_of hole.now ≡ record { name = hole.now; greedy = false })
-        (λ x. hole_of hole.now ≡ record { name = x.now; greedy = true }) }
+    ensures { IsGreedyName hole.now result }
 {
     hole.strip_suffix('+')
 }
@@ -71,9 +63,7 @@ fn hole_behind<'t>(literal: &'t str, hole: &'t str) -> CutHole<'t>
 /// The first hole, behind its literal, and the text behind it. Takes no memory.
 #[tactic(auto, using(crate::proofs::PieceLemmas::cutting))]
 pub fn cut_hole<'t>(text: &'t str) -> Option<(CutHole<'t>, &'t str)>
-    ensures { MatchOption result (pieces text.now ≡ literal_alone text.now)
-        (λ x. (pieces text.now ≡ behind_hole x.0.literal.now (hole_shown x.0) (pieces x.1.now))
-        × (length x.1.now < length text.now)) }
+    ensures { CutsHole text.now result }
 {
     let Some((literal, behind)) = cut_at_open(text) else {
         return None;

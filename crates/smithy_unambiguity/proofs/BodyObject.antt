@@ -1,25 +1,8 @@
 -- The unbound members of an input are written as one structure.
-use Rattle.std.proofs.Common.{◌≡◌, ◌≢◌, refl, sym, ◌∙◌, ap, ℕ, zero, suc, Bool, true, false, not, cond, ◌&&◌, ◌==◌, List, [], ◌∷◌, map, filter, find, filter_map, slice_get, Option, Some, None, option_map, option_and_then, unwrap_or, is_some, IsTrue, if◌then◌else◌, eq-eqb}
-use Rattle.std.specs.List.{AllByRecursion, last_or, cons_option}
-use Rattle.std.specs.Option.{option_map_or, option_or}
+use Rattle.smithy_unambiguity.proofs.Common.{◌≡◌, ◌≢◌, refl, sym, ◌∙◌, ap, ℕ, zero, suc, Bool, true, false, not, cond, ◌&&◌, ◌==◌, List, [], ◌∷◌, map, filter, find, filter_map, slice_get, Option, Some, None, option_map, option_and_then, unwrap_or, is_some, IsTrue, if◌then◌else◌, eq-eqb, AllByRecursion, last_or, cons_option, option_map_or, option_or, and_from, eqb-true, same_text, AreDistinct, Schema, member_at, members_of, name_of, is_bound, is_well_made, Value, Write, Writes, no_writes, write, writes_of, label_of, are_writes_in_range, settled, settled_fields, last_named, field_of, is_shaped, are_fields_shaped, fits_at, has_distinct_fields, named_member, is_named, Resolved, all_resolved, is_of, IsCheckedInput, member_names, member_view, last_of, Protocol, OmitFlags, IsTyped, is_shaped_write, same_text_self, are_distinct-from_facts, Stands}
 use Rattle.std.specs.Cmp.Lexicographic.{same_text as same_from_test}
-use Rattle.std.proofs.lemmas.Bool.{and_from, eqb-true}
-use Rattle.smithy_types.specs.Texts.{same_text, AreDistinct}
 use Rattle.smithy_ids.specs.declared.shape_type.ShapeType.TheVariants as kind
-use Rattle.smithy_schema.specs.Nodes.{Schema, member_at, members_of, name_of, is_bound}
-use Rattle.smithy_schema.specs.WellMade.{is_well_made}
 use Rattle.smithy_serde.specs.Values as value
-use Rattle.smithy_serde.specs.Values.{Value, Write, Writes, no_writes, write, writes_of, label_of}
-use Rattle.smithy_serde.specs.Ranges.{are_writes_in_range}
-use Rattle.smithy_serde.specs.NormalBody.{settled, settled_fields, last_named, field_of}
-use Rattle.smithy_serde.specs.Shaped.{is_shaped, are_fields_shaped, fits_at, has_distinct_fields, named_member, is_named}
-use Rattle.smithy_serde.specs.Writes.{Resolved, all_resolved, is_of}
-use Rattle.smithy_binding.specs.Checked.{IsCheckedInput, member_names}
-use Rattle.smithy_binding.specs.NormalForm.{member_view, last_of}
-use Rattle.smithy_binding.specs.Placing.{Protocol, Omit}
-use Rattle.smithy_binding.specs.Typed.{IsTyped, is_shaped_write}
-use Rattle.smithy_binding.proofs.Tests.{same_text_self, are_distinct-from_facts}
-use Rattle.smithy_document.specs.ReadsBack.{Stands}
 use Rattle.smithy_unambiguity.proofs.Conforming.{resolved_at}
 use Rattle.smithy_unambiguity.proofs.Members.{member_in_place, names_apart}
 use Rattle.smithy_unambiguity.proofs.Positions.{members_by_position, at_name}
@@ -62,7 +45,7 @@ are_bodied schema (r ∷ rs) at shaped = go (is_bound r.member) refl shaped (λ 
     go true e h rest = (record { at = at.0; shaped = λ q. let z : true ≡ false = sym e ∙ q in absurd (cc z) }, rest h)
     go false e h rest = (record { at = at.0; shaped = λ q. h.0 }, rest h.1)
 
-pub typed_bodied : (protocol : Protocol) (schema : Schema) (endpoint : List ℕ) (omit : Omit) (ws : List Write) → IsTyped protocol schema endpoint omit ws → AllByRecursion (IsBodied schema) (all_resolved schema ws)
+pub typed_bodied : (protocol : Protocol) (schema : Schema) (endpoint : List ℕ) (omit : OmitFlags) (ws : List Write) → IsTyped protocol schema endpoint omit ws → AllByRecursion (IsBodied schema) (all_resolved schema ws)
 typed_bodied protocol schema endpoint omit ws typed = are_bodied schema (all_resolved schema ws) (resolved_at schema ws) typed.unbound_shaped
 
 -- The structure has the members of the input.

@@ -1,11 +1,5 @@
 -- What the first writes give, where only the writes to one member give something.
-use Rattle.std.proofs.Common.{◌≡◌, ◌≢◌, refl, sym, ◌∙◌, ap, ℕ, List, [], ◌∷◌, ◌++◌, flat_map, Option, Some, None, option_map, unwrap_or}
-use Rattle.std.specs.List.{AllByRecursion}
-use Rattle.std.specs.Option.{option_map_or}
-use Rattle.smithy_schema.specs.Nodes.{Schema, member_at}
-use Rattle.smithy_serde.specs.Values.{Value, Write}
-use Rattle.smithy_serde.specs.Writes.{Resolved, all_resolved, first, firsts}
-use Rattle.smithy_binding.specs.Bindings.{texts}
+use Rattle.smithy_unambiguity.proofs.Common.{◌≡◌, ◌≢◌, refl, sym, ◌∙◌, ap, ℕ, List, [], ◌∷◌, ◌++◌, flat_map, Option, Some, None, option_map, unwrap_or, AllByRecursion, option_map_or, Schema, member_at, Value, Write, Resolved, all_resolved, first, firsts, texts}
 use Rattle.smithy_unambiguity.proofs.Conforming.{resolved_at}
 use Rattle.smithy_unambiguity.proofs.Firsts.{only_one_gives, all_firsts, find_has}
 use Rattle.smithy_unambiguity.proofs.Lists.{all_apply}

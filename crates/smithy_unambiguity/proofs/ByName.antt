@@ -1,15 +1,7 @@
 -- What stands at a name, in the query and in headers.
-use Rattle.std.proofs.Common.{◌≡◌, ◌≢◌, refl, sym, ◌∙◌, ap, subst, ℕ, Bool, true, false, not, cond, List, [], ◌∷◌, ◌++◌, map, filter, find, flat_map, Option, Some, None, option_map, option_to_list, if◌then◌else◌}
-use Rattle.std.specs.List.{AllByRecursion}
-use Rattle.std.specs.Option.{option_or}
+use Rattle.smithy_unambiguity.proofs.Common.{◌≡◌, ◌≢◌, refl, sym, ◌∙◌, ap, subst, ℕ, Bool, true, false, not, cond, List, [], ◌∷◌, ◌++◌, map, filter, find, flat_map, Option, Some, None, option_map, option_to_list, if◌then◌else◌, AllByRecursion, option_or, found, same_text, is_one_of, Value, Resolved, entry_texts, texts, entry_pairs, has_key_outside, values_at, same_text_self}
 use Rattle.std.specs.Cmp.Lexicographic.{same_text as same_from_test}
-use Rattle.smithy_types.specs.Texts.{found, same_text, is_one_of}
-use Rattle.smithy_serde.specs.Values.{Value}
-use Rattle.smithy_serde.specs.Writes.{Resolved}
-use Rattle.smithy_binding.specs.Bindings.{has_key_outside, entry_texts, entry_pairs, texts}
 use Rattle.smithy_http.specs.Headers.{without, put, put_all}
-use Rattle.smithy_http.specs.Facts.{values_at}
-use Rattle.smithy_binding.proofs.Tests.{same_text_self}
 use Rattle.smithy_unambiguity.proofs.LastTexts.{last_value, last_at}
 use Rattle.smithy_unambiguity.proofs.Queries.{values_at-append}
 

@@ -1,15 +1,5 @@
 -- What no fault says of the writes.
-use Rattle.std.proofs.Common.{◌≡◌, refl, sym, ◌∙◌, ap, subst, ℕ, Bool, true, false, not, cond, ◌&&◌, ◌||◌, ◌==◌, List, [], ◌∷◌, ◌++◌, Option, Some, None, option_to_list, find}
-use Rattle.std.specs.List.{AllByRecursion, cons_option}
-use Rattle.std.specs.Option.{option_map_or, option_or}
-use Rattle.std.proofs.lemmas.Bool.{and_parts}
-use Rattle.smithy_types.specs.Results.{unless}
-use Rattle.smithy_schema.specs.Nodes.{Schema, member_at, binding_of}
-use Rattle.smithy_serde.specs.Values.{Write}
-use Rattle.smithy_serde.specs.Ranges.{is_in_range, are_in_range}
-use Rattle.smithy_serde.specs.Fits.{fits_member}
-use Rattle.smithy_serde.specs.Writes.{Resolved, resolve, resolved, all_resolved, is_of, first, has_seen}
-use Rattle.smithy_binding.specs.Faults.{write_fault, writes_fault, resolved_fault, bound_fault, is_placed, no_member, wrong_kind, is_placed_at}
+use Rattle.smithy_unambiguity.proofs.Common.{◌≡◌, refl, sym, ◌∙◌, ap, subst, ℕ, Bool, true, false, not, cond, ◌&&◌, ◌||◌, ◌==◌, List, [], ◌∷◌, ◌++◌, Option, Some, None, option_to_list, find, AllByRecursion, cons_option, option_map_or, option_or, and_parts, unless, Schema, member_at, binding_of, Write, is_in_range, are_in_range, fits_member, Resolved, resolve, resolved, all_resolved, is_of, first, has_seen, write_fault, writes_fault, resolved_fault, bound_fault, no_member, wrong_kind, is_placed_at}
 use Rattle.smithy_unambiguity.proofs.Firsts.{seen_next, seen_same}
 use Rattle.smithy_binding.proofs.Gathers.{resolve-resolved}
 
@@ -66,8 +56,8 @@ bound_first schema seen (w ∷ ws) e i r unseen is placed = go (resolved schema 
         by false et h = rest x.position faults.later (seen_next seen x.position i ∙ (λ j. unseen j || (et j || false))) h
         by true et h =
             let same : x ≡ r = cc h in
-            let first : is_placed seen x ≡ true = (λ j. is_placed_at (binding_of (same j).member) && not ((seen_same seen x.position i et ∙ unseen) j)) ∙ ap (λ b. b && true) placed in
-            let fault = (no_first (unless (fits_member x.member x.value) (wrong_kind x.member x.value)) (cond (is_placed seen x) (bound_fault x) None) faults.own).1 in
+            let first : (is_placed_at (binding_of x.member) && not (has_seen seen x.position)) ≡ true = (λ j. is_placed_at (binding_of (same j).member) && not ((seen_same seen x.position i et ∙ unseen) j)) ∙ ap (λ b. b && true) placed in
+            let fault = (no_first (unless (fits_member x.member x.value) (wrong_kind x.member x.value)) (cond (is_placed_at (binding_of x.member) && not (has_seen seen x.position)) (bound_fault x) None) faults.own).1 in
             subst (λ y. bound_fault y ≡ None) same (sym (ap (λ b. cond b (bound_fault x) None) first) ∙ fault)
 
 -- the first write of a bound member other than a payload has none of the faults (c) to (f)
@@ -86,7 +76,7 @@ fitting_behind schema seen (w ∷ ws) e range =
     let ranges = and_parts (is_in_range w.value) (are_in_range ws) range in
     go (resolved schema w) refl ranges.0 (λ p none. fitting_behind schema (seen ++ p ∷ []) ws none ranges.1)
   where
-    fitting : (r : Resolved) (t : Bool) → option_or (unless t (wrong_kind r.member r.value)) (cond (is_placed seen r) (bound_fault r) None) ≡ None → t ≡ true
+    fitting : (r : Resolved) (t : Bool) → option_or (unless t (wrong_kind r.member r.value)) (cond (is_placed_at (binding_of r.member) && not (has_seen seen r.position)) (bound_fault r) None) ≡ None → t ≡ true
     fitting r true h = refl
     fitting r false h = absurd (cc h)
 

@@ -1,15 +1,5 @@
 -- What no fault says of an input: each of its parts has none.
-use Rattle.std.proofs.Common.{◌≡◌, refl, ◌∙◌, ap, ℕ, List, [], Option, Some, None, Result, Ok, Err}
-use Rattle.std.specs.Result.{result_ok, result_err}
-use Rattle.smithy_types.specs.Results.{then_give}
-use Rattle.smithy_schema.specs.Nodes.{Schema}
-use Rattle.smithy_schema.specs.Templates.{pieces}
-use Rattle.smithy_serde.specs.Values.{Write}
-use Rattle.smithy_binding.specs.Answer.{answer, place, request_at}
-use Rattle.smithy_binding.specs.Bindings.{pairs, labels}
-use Rattle.smithy_binding.specs.Faults.{Fault, behind, fault, writes_fault, body_fault, legal_fault, legal_or_fault, legal_target}
-use Rattle.smithy_binding.specs.Filling.{fill}
-use Rattle.smithy_binding.specs.Placing.{Protocol, Omit, target_of, template_of, with_query}
+use Rattle.smithy_unambiguity.proofs.Common.{◌≡◌, refl, ◌∙◌, ap, ℕ, List, [], Option, Some, None, Result, Ok, Err, result_ok, result_err, then_give, Schema, pieces, Write, answer, place, request_at, pairs, labels, Fault, behind, fault, writes_fault, body_fault, legal_fault, legal_or_fault, legal_target, fill, Protocol, OmitFlags, target_of, template_of, with_query}
 
 -- The writes and the body have no fault, the template is filled to a path, and the target over it is legal.
 pub record IsConforming (schema : Schema) (ws : List Write) (endpoint : List ℕ) : Type 0 where
@@ -64,7 +54,7 @@ pub from_conforming : (schema : Schema) (ws : List Write) (endpoint : List ℕ) 
 from_conforming schema ws endpoint c = ap result_err (target_of_conforming schema ws endpoint c)
 
 -- and its request
-pub place_conforming : (protocol : Protocol) (schema : Schema) (ws : List Write) (endpoint : List ℕ) (omit : Omit) (c : IsConforming schema ws endpoint)
+pub place_conforming : (protocol : Protocol) (schema : Schema) (ws : List Write) (endpoint : List ℕ) (omit : OmitFlags) (c : IsConforming schema ws endpoint)
     → place protocol schema ws endpoint omit ≡ Some (request_at protocol schema ws omit (with_query c.path (pairs schema ws)))
 unfolding answer
 place_conforming protocol schema ws endpoint omit c =

@@ -1,13 +1,6 @@
 -- A default header changes nothing at a name under which none is added.
-use Rattle.std.proofs.Common.{◌≡◌, refl, sym, ◌∙◌, ap, subst, ℕ, Bool, true, false, not, cond, ◌&&◌, ◌||◌, List, [], ◌∷◌, ◌++◌, map, length, codes, decimal, Option, Some, None, is_some, is_none, if◌then◌else◌}
+use Rattle.smithy_unambiguity.proofs.Common.{◌≡◌, refl, sym, ◌∙◌, ap, subst, ℕ, Bool, true, false, not, cond, ◌&&◌, ◌||◌, List, [], ◌∷◌, ◌++◌, map, length, codes, decimal, Option, Some, None, is_some, is_none, if◌then◌else◌, append-nil, found, same_text, is_one_of, values_at, Body, Protocol, OmitFlags, with_default, adds_content_type, adds_content_length, all_headers, leaves_default, default_names, same_text_back}
 use Rattle.std.specs.Cmp.Lexicographic.{same_text as same_from_test}
-use Rattle.std.proofs.lemmas.List.{append-nil}
-use Rattle.smithy_types.specs.Texts.{found, same_text, is_one_of}
-use Rattle.smithy_http.specs.Facts.{values_at}
-use Rattle.smithy_binding.specs.Bodies.{Body}
-use Rattle.smithy_binding.specs.Placing.{Protocol, Omit, with_default, adds_content_type, adds_content_length, all_headers}
-use Rattle.smithy_binding.specs.Typed.{leaves_default, default_names}
-use Rattle.smithy_binding.proofs.Tests.{same_text_back}
 use Rattle.smithy_unambiguity.proofs.Queries.{values_at-append}
 use Rattle.smithy_unambiguity.proofs.ByName.{front, found-front}
 
@@ -34,7 +27,7 @@ wanted_stands false b true true false h = absurd (cc h)
 wanted_stands false b true false false h = ((λ p q. p), (λ p q. q))
 wanted_stands false b false d false h = ((λ p q. p), (λ p q. p))
 
-pub all_headers_at : (protocol : Protocol) (b : Body) (omit : Omit) (pairs : List (List ℕ × List ℕ)) (name : List ℕ) → leaves_default b omit pairs name ≡ true
+pub all_headers_at : (protocol : Protocol) (b : Body) (omit : OmitFlags) (pairs : List (List ℕ × List ℕ)) (name : List ℕ) → leaves_default b omit pairs name ≡ true
     → values_at name (all_headers protocol b omit pairs) ≡ values_at name pairs
 all_headers_at protocol b omit pairs name leaves =
     values_at-with_default (adds_content_length b omit) (codes "content-length") (decimal (length b.bytes)) name typed long ∙ kept
@@ -57,7 +50,7 @@ all_headers_at protocol b omit pairs name leaves =
         subst (λ (n : List ℕ). is_some (found n typed) ≡ true) (sym (same_from_test (codes "content-length") name (sym same))) there
 
 -- at another name than the two defaults' none is added
-pub leaves-elsewhere : (b : Body) (omit : Omit) (pairs : List (List ℕ × List ℕ)) (name : List ℕ) → is_one_of name default_names ≡ false → leaves_default b omit pairs name ≡ true
+pub leaves-elsewhere : (b : Body) (omit : OmitFlags) (pairs : List (List ℕ × List ℕ)) (name : List ℕ) → is_one_of name default_names ≡ false → leaves_default b omit pairs name ≡ true
 leaves-elsewhere b omit pairs name e = go (same_text name (codes "content-type")) (same_text name (codes "content-length")) e
   where
     go : (s t : Bool) → (s || (t || false)) ≡ false → (not ((s && adds_content_type b omit) || (t && adds_content_length b omit)) || is_some (found name pairs)) ≡ true

@@ -1,31 +1,9 @@
 -- Entries of texts in the order of their keys are told by what stands under each key.
-use Rattle.std.proofs.Common.{◌≡◌, refl, sym, ◌∙◌, ap, ℕ, Bool, true, false, not, cond, ◌&&◌, ◌||◌, List, [], ◌∷◌, ◌++◌, map, filter, flat_map, Option, Some, None, option_and_then, unwrap_or, is_none, if◌then◌else◌}
-use Rattle.std.specs.Option.{option_map_or, option_or}
+use Rattle.smithy_unambiguity.proofs.Common.{◌≡◌, refl, sym, ◌∙◌, ap, ℕ, Bool, true, false, not, cond, ◌&&◌, ◌||◌, List, [], ◌∷◌, ◌++◌, map, filter, flat_map, Option, Some, None, option_and_then, unwrap_or, is_none, if◌then◌else◌, option_map_or, option_or, str_to_ascii_lowercase, and_parts, not-true, append-nil, flat_map-map, same_text, is_one_of, are_distinct, unless, same_kind, one_kind, Schema, element_of, key_of, value_of, Label, Value, Writes, no_writes, write, Write, list_of, keys_of, text_of_key, fits, is_kind, own_label, in_key_order, settled, settled_elements, settled_entries, no_label, values_at, kind_or_none, map_entries, entries_of, entry_texts, pairs_with, entry_pairs, is_plain_string, is_plain_list, Fault, element_fault, part_fault, nested_fault, entry_fault, item_fault, key_fault, wrong_item_kind, ends_with_value, has_key_outside, own_entries, in_lower_case, has_pairs, is_empty_list, has_distinct_keys, text_form, entries_ordered, Pairs, looked, all_put, Ascends, or_none, look_ordered, known_by_names, last_ascending}
 use Rattle.std.specs.Cmp.Lexicographic.{same_text as same_from_test}
-use Rattle.std.specs.Str.{str_to_ascii_lowercase}
-use Rattle.std.proofs.lemmas.Bool.{and_parts, not-true}
-use Rattle.std.proofs.lemmas.List.{append-nil}
-use Rattle.std.proofs.lemmas.List.Folds.{flat_map-map}
-use Rattle.smithy_types.specs.Texts.{same_text, is_one_of, are_distinct}
-use Rattle.smithy_types.specs.Results.{unless}
 use Rattle.smithy_ids.specs.declared.shape_type.ShapeType.TheVariants as kind
-use Rattle.smithy_ids.specs.Kinds.{same_kind}
-use Rattle.smithy_ids.proofs.KindLemmas.{one_kind}
-use Rattle.smithy_schema.specs.Nodes.{Schema, element_of, key_of, value_of}
 use Rattle.smithy_serde.specs.Values as value
-use Rattle.smithy_serde.specs.Values.{Label, Value, Writes, no_writes, write, Write, list_of, keys_of, text_of_key}
-use Rattle.smithy_serde.specs.Fits.{fits}
-use Rattle.smithy_serde.specs.Shaped.{is_kind}
-use Rattle.smithy_serde.specs.NormalBody.{own_label, in_key_order, settled, settled_elements, settled_entries}
-use Rattle.smithy_serde.specs.StoredValues.{no_label}
-use Rattle.smithy_http.specs.Facts.{values_at}
-use Rattle.smithy_binding.specs.Bindings.{kind_or_none, map_entries, entries_of, has_key_outside, entry_texts, entry_pairs, pairs_with}
-use Rattle.smithy_binding.specs.Checked.{is_plain_string, is_plain_list}
-use Rattle.smithy_binding.specs.Faults.{Fault, element_fault, part_fault, nested_fault, entry_fault, item_fault, key_fault, wrong_item_kind, ends_with_value}
-use Rattle.smithy_binding.specs.NormalForm.{own_entries, in_lower_case, has_pairs, is_empty_list}
-use Rattle.smithy_binding.specs.Typed.{has_distinct_keys}
-use Rattle.smithy_document.proofs.NamedPairs.{text_form, entries_ordered}
-use Rattle.smithy_document.proofs.OrderedPairs.{Pairs, looked, last_of, all_put, Ascends, or_none, look_ordered, known_by_names, last_ascending}
+use Rattle.smithy_document.proofs.OrderedPairs.{last_of}
 use Rattle.smithy_unambiguity.proofs.LastTexts.{last_value, lowered}
 use Rattle.smithy_unambiguity.proofs.ByName.{under_name, entries_at}
 use Rattle.smithy_unambiguity.proofs.Conforming.{no_first}

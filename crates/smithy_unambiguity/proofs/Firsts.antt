@@ -1,11 +1,5 @@
 -- First writes.
-use Rattle.std.proofs.Common.{◌≡◌, ◌≢◌, refl, sym, ◌∙◌, ap, subst, ℕ, Bool, true, false, cond, ◌==◌, ◌||◌, if◌then◌else◌, List, [], ◌∷◌, ◌++◌, find, flat_map, Some, eq-eqb}
-use Rattle.std.specs.List.{AllByRecursion}
-use Rattle.std.specs.Option.{option_map_or}
-use Rattle.std.proofs.lemmas.Bool.{eqb-true}
-use Rattle.std.proofs.lemmas.List.{append-nil}
-use Rattle.std.proofs.lemmas.List.Folds.{list_any-append}
-use Rattle.smithy_serde.specs.Writes.{Resolved, is_of, has_seen, firsts_from}
+use Rattle.smithy_unambiguity.proofs.Common.{◌≡◌, ◌≢◌, refl, sym, ◌∙◌, ap, subst, ℕ, Bool, true, false, cond, ◌==◌, ◌||◌, if◌then◌else◌, List, [], ◌∷◌, ◌++◌, find, flat_map, Some, eq-eqb, AllByRecursion, option_map_or, eqb-true, append-nil, list_any-append, Resolved, is_of, has_seen, firsts_from}
 
 pub seen_next : (seen : List ℕ) (p i : ℕ) → has_seen (seen ++ p ∷ []) i ≡ (has_seen seen i || ((p == i) || false))
 seen_next seen p i = list_any-append (λ k. k == i) seen (p ∷ [])

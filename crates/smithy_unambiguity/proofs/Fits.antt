@@ -1,10 +1,6 @@
 -- Nodes of scalar kinds and of Blob take what was written as their own kind.
-use Rattle.std.proofs.Common.{◌≡◌, sym, ap, Bool, true, false, ◌||◌, Option, Some, None, option_map, unwrap_or}
-use Rattle.smithy_ids.specs.declared.shape_type.ShapeType.{ShapeType}
+use Rattle.smithy_unambiguity.proofs.Common.{◌≡◌, sym, ap, Bool, true, false, ◌||◌, Option, Some, None, option_map, unwrap_or, ShapeType, is_scalar, same_kind, one_kind, kind_takes}
 use Rattle.smithy_ids.specs.declared.shape_type.ShapeType.TheVariants as kind
-use Rattle.smithy_ids.specs.Kinds.{is_scalar, same_kind}
-use Rattle.smithy_ids.proofs.KindLemmas.{one_kind}
-use Rattle.smithy_serde.specs.Fits.{kind_takes}
 
 abbrev pub is_flat : ShapeType → Bool
 is_flat k = is_scalar k || same_kind k kind.Blob

@@ -1,15 +1,5 @@
 -- Which member gives a header of a name: names in lower case tell positions apart, and no prefix begins one.
-use Rattle.std.proofs.Common.{◌≡◌, ◌≢◌, refl, sym, ◌∙◌, ap, ℕ, zero, suc, ◌≤◌, nat_eq, Bool, true, false, not, ◌&&◌, ◌||◌, ◌==◌, List, [], ◌∷◌, ◌++◌, length, map, filter, filter_map, slice_get, Option, Some, None, option_map, is_some, eq-eqb}
-use Rattle.std.specs.List.{list_all, list_any, starts_with, cons_option}
-use Rattle.std.specs.Str.{str_to_ascii_lowercase}
-use Rattle.std.proofs.lemmas.Bool.{and_parts, leb-true}
-use Rattle.std.proofs.lemmas.List.{map-append}
-use Rattle.smithy_types.specs.Texts.{are_distinct, AreDistinct}
-use Rattle.smithy_types.specs.Grammars.{is_token}
-use Rattle.smithy_schema.specs.Nodes.{Schema, member_at, members_of}
-use Rattle.smithy_binding.specs.Bindings.{query_names}
-use Rattle.smithy_binding.specs.Checked.{IsCheckedInput, lower_header_names, prefixes, is_sound_prefix, has_sound_headers}
-use Rattle.smithy_binding.proofs.Tests.{AreDistinct-from_test}
+use Rattle.smithy_unambiguity.proofs.Common.{◌≡◌, ◌≢◌, refl, sym, ◌∙◌, ap, ℕ, zero, suc, ◌≤◌, nat_eq, Bool, true, false, not, ◌&&◌, ◌||◌, ◌==◌, List, [], ◌∷◌, ◌++◌, length, map, filter, filter_map, slice_get, Option, Some, None, option_map, is_some, eq-eqb, list_all, list_any, starts_with, cons_option, str_to_ascii_lowercase, and_parts, leb-true, map-append, are_distinct, AreDistinct, is_token, Schema, member_at, members_of, query_names, IsCheckedInput, lower_header_names, prefixes, is_sound_prefix, has_sound_headers, AreDistinct-from_test}
 use Rattle.smithy_unambiguity.proofs.Positions.{members_by_position, apart_at}
 use Rattle.smithy_unambiguity.proofs.Singles.{single}
 use Rattle.smithy_unambiguity.proofs.SoundMaps.{sound_maps}

@@ -1,33 +1,14 @@
 -- A header's text tells the value as the normal form has it.
-use Rattle.std.proofs.Common.{◌≡◌, ◌≢◌, refl, sym, ◌∙◌, ap, subst, ℕ, ◌^◌, Bool, true, false, List, [], ◌∷◌, map, Option, Some, option_map, option_and_then, IsUtf8, ℤ}
-use Rattle.std.specs.List.{AllByRecursion}
-use Rattle.std.specs.Str.{is_utf8}
-use Rattle.std.proofs.lemmas.Bool.{and_parts}
+use Rattle.smithy_unambiguity.proofs.Common.{◌≡◌, ◌≢◌, refl, sym, ◌∙◌, ap, subst, ℕ, ◌^◌, Bool, true, false, List, [], ◌∷◌, map, Option, Some, option_map, option_and_then, IsUtf8, ℤ, AllByRecursion, is_utf8, and_parts, each, ShapeType, TimestampFormat, same_kind, one_kind, Schema, Value, Width, Label, Writes, no_writes, write, Write, list_of, label_of, is_in_range, is_signed_within, fits, settled_elements, Place, Header, wire, time_format, listed, IsTimeInRange, wire_utf8, element_text}
 use Rattle.std.proofs.lemmas.Str.{IsUtf8-from_is_utf8}
-use Rattle.smithy_types.specs.Results.{each}
 use Rattle.smithy_types.specs.Timestamps.{timestamp_text}
 use Rattle.smithy_types.specs.declared.date_time.Format.{Format}
 use Rattle.smithy_http.specs.DateLists.{dates_of}
 use Rattle.smithy_http.specs.HeaderValues.{tokens_of}
-use Rattle.smithy_ids.specs.declared.shape_type.ShapeType.{ShapeType}
 use Rattle.smithy_ids.specs.declared.shape_type.ShapeType.TheVariants as kind
-use Rattle.smithy_ids.specs.declared.traits.TimestampFormat.{TimestampFormat}
-use Rattle.smithy_ids.specs.Kinds.{same_kind}
-use Rattle.smithy_ids.proofs.KindLemmas.{one_kind}
-use Rattle.smithy_schema.specs.Nodes.{Schema}
 use Rattle.smithy_serde.specs.Values as value
-use Rattle.smithy_serde.specs.Values.{Value, Width, Label, Writes, no_writes, write, Write, list_of, label_of}
-use Rattle.smithy_serde.specs.Ranges.{is_in_range, is_signed_within}
-use Rattle.smithy_serde.specs.Fits.{fits}
-use Rattle.smithy_serde.specs.NormalBody.{settled_elements}
-use Rattle.smithy_strings.specs.declared.wire.Place.{Place}
-use Rattle.smithy_strings.specs.declared.wire.Place.TheVariants.{Header}
-use Rattle.smithy_strings.specs.Wire.{wire, time_format}
-use Rattle.smithy_strings.specs.Lists.{listed, IsTimeInRange}
 use Rattle.smithy_strings.proofs.ReadBack.{tokens-listed}
 use Rattle.smithy_strings.proofs.TimeLists.{times_are_read}
-use Rattle.smithy_strings.proofs.WireTexts.{wire_utf8}
-use Rattle.smithy_binding.specs.Bindings.{element_text}
 use Rattle.smithy_unambiguity.proofs.Fits.{is_flat}
 use Rattle.smithy_unambiguity.proofs.Values.{AreItems, HaveFormat, each_first, elements_told}
 

@@ -1,17 +1,6 @@
 -- What stands at a header's name is what its member's first write gives.
-use Rattle.std.proofs.Common.{◌≡◌, ◌≢◌, refl, sym, ◌∙◌, ap, ℕ, Bool, true, false, cond, List, [], ◌∷◌, ◌++◌, map, flat_map, Option, Some, None, option_map, option_to_list, is_some}
-use Rattle.std.specs.List.{AllByRecursion}
-use Rattle.std.specs.Option.{option_map_or}
+use Rattle.smithy_unambiguity.proofs.Common.{◌≡◌, ◌≢◌, refl, sym, ◌∙◌, ap, ℕ, Bool, true, false, cond, List, [], ◌∷◌, ◌++◌, map, flat_map, Option, Some, None, option_map, option_to_list, is_some, AllByRecursion, option_map_or, str_to_ascii_lowercase, map-append, append_cancel_left, same_text, Schema, member_at, Binding, to_header, to_prefix, binding_of, Value, Write, text_of_key, Resolved, firsts, values_at, headers, inserted, inserted_at, texts, header_texts, map_entries, same_text_self}
 use Rattle.std.specs.Cmp.Lexicographic.{same_text as same_from_test}
-use Rattle.std.specs.Str.{str_to_ascii_lowercase}
-use Rattle.std.proofs.lemmas.List.{map-append, append_cancel_left}
-use Rattle.smithy_types.specs.Texts.{same_text}
-use Rattle.smithy_schema.specs.Nodes.{Schema, member_at, Binding, to_header, to_prefix, binding_of}
-use Rattle.smithy_serde.specs.Values.{Value, Write, text_of_key}
-use Rattle.smithy_serde.specs.Writes.{Resolved, firsts}
-use Rattle.smithy_http.specs.Facts.{values_at}
-use Rattle.smithy_binding.specs.Bindings.{headers, inserted, inserted_at, texts, header_texts, map_entries}
-use Rattle.smithy_binding.proofs.Tests.{same_text_self}
 use Rattle.smithy_unambiguity.proofs.LastTexts.{last_value, last_at, lowered}
 use Rattle.smithy_unambiguity.proofs.ByName.{values_at-flat_map, under_name, each_once_at, nothing_at}
 use Rattle.smithy_unambiguity.proofs.ByMember.{at_member, first_value, only_member}

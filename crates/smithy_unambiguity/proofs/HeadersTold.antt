@@ -1,25 +1,6 @@
 -- What is seen of a request tells the normal form's part of each member in its target or headers.
-use Rattle.std.proofs.Common.{◌≡◌, refl, sym, ◌∙◌, ap, ℕ, nat_eq, codes, length, ◌==◌, Bool, true, false, ◌&&◌, ◌||◌, List, [], ◌∷◌, Option, Some, None, option_map, option_and_then, option_to_list, is_some, is_none, if◌then◌else◌}
-use Rattle.std.specs.List.{starts_with}
-use Rattle.std.specs.Option.{option_map_or}
-use Rattle.std.specs.Str.{str_to_ascii_lowercase}
-use Rattle.std.proofs.lemmas.Bool.{and_parts}
-use Rattle.smithy_types.specs.Grammars.{is_token}
-use Rattle.smithy_schema.specs.Nodes.{Schema, Http, member_at, members_of, Binding, to_header, binding_of, is_outside_body}
-use Rattle.smithy_serde.specs.Values.{Value, Write}
-use Rattle.smithy_strings.specs.declared.wire.Place.TheVariants.{Header}
-use Rattle.smithy_http.specs.Facts.{values_at}
-use Rattle.smithy_binding.specs.Bindings.{headers, header_texts, query_names, place_of, place_at, member_text}
-use Rattle.smithy_binding.specs.Bodies.{body}
-use Rattle.smithy_binding.specs.Clear.{is_clear}
-use Rattle.smithy_binding.specs.Checked.{IsCheckedInput, is_header_kind, has_element, has_bound_kind, has_header_kind, has_query_kind, has_label_kind}
-use Rattle.smithy_binding.specs.Faults.{is_placed_at}
-use Rattle.smithy_binding.specs.Placing.{Protocol, Omit, template_of, all_headers}
-use Rattle.smithy_binding.specs.Typed.{IsTyped, writes_default, has_clear_template}
-use Rattle.smithy_binding.specs.NormalForm.{member_view, bound_view_at}
-use Rattle.smithy_binding.proofs.CheckedLaws.{IsCheckedInput-from_test}
+use Rattle.smithy_unambiguity.proofs.Common.{◌≡◌, refl, sym, ◌∙◌, ap, ℕ, nat_eq, codes, length, ◌==◌, Bool, true, false, ◌&&◌, ◌||◌, List, [], ◌∷◌, Option, Some, None, option_map, option_and_then, option_to_list, is_some, is_none, if◌then◌else◌, starts_with, option_map_or, str_to_ascii_lowercase, and_parts, is_token, Schema, Http, member_at, members_of, Binding, to_header, binding_of, is_outside_body, Value, Write, Header, values_at, headers, header_texts, query_names, place_at, member_text, body, is_clear, IsCheckedInput, is_header_kind, has_element, has_bound_kind, has_header_kind, has_query_kind, has_label_kind, is_placed_at, Protocol, OmitFlags, template_of, all_headers, IsTyped, writes_default, has_clear_template, member_view, bound_view_at, IsCheckedInput-from_test, SeesSame}
 use Rattle.smithy_unambiguity.proofs.LastTexts.{last_value}
-use Rattle.smithy_unambiguity.specs.Laws.{SeesSame}
 use Rattle.smithy_unambiguity.proofs.Setting.{IsSetting}
 use Rattle.smithy_unambiguity.proofs.ByMember.{first_value}
 use Rattle.smithy_unambiguity.proofs.Defaults.{all_headers_at}
@@ -35,7 +16,7 @@ use Rattle.smithy_unambiguity.proofs.Traits.{trait_of}
 use Rattle.smithy_unambiguity.proofs.Values.{flat_value, flat_texts, flat_header}
 
 -- Two typed inputs with the same facts, in one setting.
-pub record AreSeenSame (protocol : Protocol) (schema : Schema) (endpoint : List ℕ) (omit : Omit) (v w : List Write) : Type 0 where
+pub record AreSeenSame (protocol : Protocol) (schema : Schema) (endpoint : List ℕ) (omit : OmitFlags) (v w : List Write) : Type 0 where
   pub setting : IsSetting protocol schema
   pub checked : IsCheckedInput schema
   pub typed_v : IsTyped protocol schema endpoint omit v
@@ -46,11 +27,11 @@ pub record AreSeenSame (protocol : Protocol) (schema : Schema) (endpoint : List 
   pub writes_v : HasTypedWrites schema v
   pub writes_w : HasTypedWrites schema w
 
-pub typed_writes : (protocol : Protocol) (schema : Schema) (endpoint : List ℕ) (omit : Omit) (ws : List Write) → IsTyped protocol schema endpoint omit ws → HasTypedWrites schema ws
+pub typed_writes : (protocol : Protocol) (schema : Schema) (endpoint : List ℕ) (omit : OmitFlags) (ws : List Write) → IsTyped protocol schema endpoint omit ws → HasTypedWrites schema ws
 typed_writes protocol schema endpoint omit ws typed =
     record { conforming = (conforming schema ws endpoint typed.conforming).writes; in_range = typed.in_range; bound = typed.placed_values }
 
-pub seen_same : (protocol : Protocol) (schema : Schema) (endpoint : List ℕ) (omit : Omit) (v w : List Write) → IsSetting protocol schema
+pub seen_same : (protocol : Protocol) (schema : Schema) (endpoint : List ℕ) (omit : OmitFlags) (v w : List Write) → IsSetting protocol schema
     → IsTyped protocol schema endpoint omit v → IsTyped protocol schema endpoint omit w → SeesSame protocol schema endpoint omit v w → AreSeenSame protocol schema endpoint omit v w
 seen_same protocol schema endpoint omit v w setting typed_v typed_w same =
     let x = placed_request protocol schema v endpoint omit typed_v.conforming in
@@ -68,7 +49,7 @@ seen_same protocol schema endpoint omit v w setting typed_v typed_w same =
     }
 
 -- a bound member's part is told by what it leaves of the first writes
-pub bound_told : (protocol : Protocol) (schema : Schema) (endpoint : List ℕ) (omit : Omit) (v w : List Write) → AreSeenSame protocol schema endpoint omit v w → (i : ℕ) (m : Schema) (b : Binding)
+pub bound_told : (protocol : Protocol) (schema : Schema) (endpoint : List ℕ) (omit : OmitFlags) (v w : List Write) → AreSeenSame protocol schema endpoint omit v w → (i : ℕ) (m : Schema) (b : Binding)
     → member_at schema i ≡ Some m → binding_of m ≡ b → is_outside_body b ≡ true
     → option_and_then (bound_view_at b (query_names schema) m) (first_value schema v i) ≡ option_and_then (bound_view_at b (query_names schema) m) (first_value schema w i) → member_view schema v i m ≡ member_view schema w i m
 bound_told protocol schema endpoint omit v w are i m b at is bound same = bound_view_of schema v i m b at is bound ∙ same ∙ sym (bound_view_of schema w i m b at is bound)
@@ -103,7 +84,7 @@ one_header_value m v kinds is = go (is_flat m.node.kind) refl kinds
     go : (b : Bool) → is_flat m.node.kind ≡ b → (b || has_element is_header_kind m) ≡ true → (t : List ℕ) × (header_values m v ≡ t ∷ [])
     go true flat h =
         let flat_v = flat_value m.node.kind v flat is.value.fits in
-        by (member_text (place_of m) m v) (sym (flat_texts m v flat_v) ∙ is.texts) (there ∙ flat_header m v is.ts flat_v)
+        by (member_text (place_at (binding_of m)) m v) (sym (flat_texts m v flat_v) ∙ is.texts) (there ∙ flat_header m v is.ts flat_v)
       where
         by : (o : Option (List ℕ)) → option_map (λ (t : List ℕ). t ∷ []) o ≡ Some is.ts → header_values m v ≡ is.ts → (t : List ℕ) × (header_values m v ≡ t ∷ [])
         by None e q = absurd (cc e)
@@ -113,7 +94,7 @@ one_header_value m v kinds is = go (is_flat m.node.kind) refl kinds
         let a = bound_list is_header_kind m l v is.value in
         (_, there ∙ ap (λ u. header_texts m u is.ts) a.is)
 
-header_part : (m : Schema) (names : List (List ℕ)) (name : List ℕ) (o p : Option Value) → (is_flat m.node.kind || has_element is_header_kind m) ≡ true → place_of m ≡ Header
+header_part : (m : Schema) (names : List (List ℕ)) (name : List ℕ) (o p : Option Value) → (is_flat m.node.kind || has_element is_header_kind m) ≡ true → place_at (binding_of m) ≡ Header
     → ((v : Value) → o ≡ Some v → IsPlacedValue m v) → ((v : Value) → p ≡ Some v → IsPlacedValue m v)
     → option_to_list (last_value (option_map_or (header_values m) o [])) ≡ option_to_list (last_value (option_map_or (header_values m) p []))
     → option_and_then (bound_view_at (to_header name) names m) o ≡ option_and_then (bound_view_at (to_header name) names m) p
@@ -130,7 +111,7 @@ header_part m names name (Some v) (Some w) kinds here is_o is_p e =
     ap Some (header_told m v w x.0 kinds here (is_o v refl).value (is_p w refl).value x.1 (y.1 ∙ ap (λ t. t ∷ []) (sym same)))
 
 -- no default is added at a header member's name
-pub header_leaves : (protocol : Protocol) (schema : Schema) (endpoint : List ℕ) (omit : Omit) (ws : List Write) (i : ℕ) (m : Schema) (name : List ℕ) → IsCheckedInput schema → IsTyped protocol schema endpoint omit ws
+pub header_leaves : (protocol : Protocol) (schema : Schema) (endpoint : List ℕ) (omit : OmitFlags) (ws : List Write) (i : ℕ) (m : Schema) (name : List ℕ) → IsCheckedInput schema → IsTyped protocol schema endpoint omit ws
     → member_at schema i ≡ Some m → binding_of m ≡ to_header name
     → values_at (str_to_ascii_lowercase name) (all_headers protocol (body protocol.text_of schema ws) omit (headers schema ws)) ≡ values_at (str_to_ascii_lowercase name) (headers schema ws)
 header_leaves protocol schema endpoint omit ws i m name checked typed at header =
@@ -138,7 +119,7 @@ header_leaves protocol schema endpoint omit ws i m name checked typed at header 
     (ap (writes_default (body protocol.text_of schema ws) omit (headers schema ws)) (sym header)
     ∙ member_has (λ m. writes_default (body protocol.text_of schema ws) omit (headers schema ws) (binding_of m)) (members_of schema) i m typed.defaults (members_by_position schema checked i ∙ at))
 
-pub header_member_told : (protocol : Protocol) (schema : Schema) (endpoint : List ℕ) (omit : Omit) (v w : List Write) → AreSeenSame protocol schema endpoint omit v w → (i : ℕ) (m : Schema) (name : List ℕ)
+pub header_member_told : (protocol : Protocol) (schema : Schema) (endpoint : List ℕ) (omit : OmitFlags) (v w : List Write) → AreSeenSame protocol schema endpoint omit v w → (i : ℕ) (m : Schema) (name : List ℕ)
     → member_at schema i ≡ Some m → has_bound_kind m ≡ true → binding_of m ≡ to_header name → member_view schema v i m ≡ member_view schema w i m
 header_member_told protocol schema endpoint omit v w are i m name at kinds header =
     bound_told protocol schema endpoint omit v w are i m (to_header name) at header refl

@@ -1,14 +1,6 @@
 -- The texts of a label are those of its member's first write.
-use Rattle.std.proofs.Common.{◌≡◌, ◌≢◌, refl, sym, ◌∙◌, ap, ℕ, Bool, true, false, cond, ◌&&◌, List, [], flat_map, Option, Some, None, unwrap_or}
-use Rattle.std.specs.Option.{option_map_or}
+use Rattle.smithy_unambiguity.proofs.Common.{◌≡◌, ◌≢◌, refl, sym, ◌∙◌, ap, ℕ, Bool, true, false, cond, ◌&&◌, List, [], flat_map, Option, Some, None, unwrap_or, option_map_or, same_text, Schema, member_at, name_of, Binding, to_label, binding_of, Value, Write, Resolved, firsts, values_at, labels, labelled_at, texts, labelled, same_text_self}
 use Rattle.std.specs.Cmp.Lexicographic.{same_text as same_from_test}
-use Rattle.smithy_types.specs.Texts.{same_text}
-use Rattle.smithy_schema.specs.Nodes.{Schema, member_at, name_of, Binding, to_label, binding_of}
-use Rattle.smithy_serde.specs.Values.{Value, Write}
-use Rattle.smithy_serde.specs.Writes.{Resolved, firsts}
-use Rattle.smithy_http.specs.Facts.{values_at}
-use Rattle.smithy_binding.specs.Bindings.{labels, labelled, labelled_at, texts}
-use Rattle.smithy_binding.proofs.Tests.{same_text_self}
 use Rattle.smithy_unambiguity.proofs.ByMember.{at_member, first_value, first_texts, only_member, none_given}
 use Rattle.smithy_unambiguity.proofs.ByName.{values_at-flat_map, under_name}
 use Rattle.smithy_unambiguity.proofs.Members.{HasApartNames}

@@ -1,19 +1,8 @@
 -- A filled path tells the text of each label member.
-use Rattle.std.proofs.Common.{◌≡◌, refl, sym, ◌∙◌, ap, subst, ℕ, Bool, true, false, not, cond, ◌==◌, ◌&&◌, List, [], ◌∷◌, ◌++◌, length, map, filter, filter_map, Option, Some, None, Result, Ok, Err, is_some, unwrap_or}
-use Rattle.std.specs.List.{AllByRecursion, list_all, cons_option}
+use Rattle.smithy_unambiguity.proofs.Common.{◌≡◌, refl, sym, ◌∙◌, ap, subst, ℕ, Bool, true, false, not, cond, ◌==◌, ◌&&◌, List, [], ◌∷◌, ◌++◌, length, map, filter, filter_map, Option, Some, None, Result, Ok, Err, is_some, unwrap_or, AllByRecursion, list_all, cons_option, and_parts, not-true, append_cancel_left, found, same_text, has_byte, then_give, Schema, name_of, Hole, Piece, Template, pieces, holes_of, fill, fill_rest, is_clear, label_members, holes_named, ends_segment, begins_segment, are_whole_segments, is_greedy_last, before_query, texts}
 use Rattle.std.specs.Cmp.Lexicographic.{same_text as same_from_test}
-use Rattle.std.proofs.lemmas.Bool.{and_parts, not-true}
-use Rattle.std.proofs.lemmas.List.{append_cancel_left}
-use Rattle.smithy_types.specs.Texts.{found, same_text, has_byte}
-use Rattle.smithy_types.specs.Results.{then_give}
-use Rattle.smithy_schema.specs.Nodes.{Schema, name_of}
-use Rattle.smithy_schema.specs.Templates.{Hole, Piece, Template, pieces, holes_of}
-use Rattle.smithy_binding.specs.Filling.{fill, fill_rest}
-use Rattle.smithy_binding.specs.Clear.{is_clear, label_members, holes_named, ends_segment, begins_segment, are_whole_segments, is_greedy_last}
 use Rattle.smithy_unambiguity.proofs.Cuts.{before, before_first-before}
 use Rattle.smithy_unambiguity.proofs.Paths.{holes_told, before-behind, HasNo-from_has_byte, HaveBytes}
-use Rattle.smithy_types.specs.Grammars.{before_query}
-use Rattle.smithy_binding.specs.Bindings.{texts}
 
 -- what holds of each hole's name holds of a name that has a hole
 hole_found : (Q : List ℕ → Type 0) (n : List ℕ) (ps : List Piece) → AllByRecursion (λ p. Q p.hole.name) ps → (length (filter (λ h. same_text h.name n) (map (λ p. p.hole) ps)) == 1) ≡ true → Q n

@@ -1,8 +1,5 @@
 -- The last of the texts under a name.
-use Rattle.std.proofs.Common.{ℕ, List, [], ◌∷◌, map, Option, Some, None, option_to_list}
-use Rattle.std.specs.Option.{option_or}
-use Rattle.std.specs.Str.{str_to_ascii_lowercase}
-use Rattle.smithy_http.specs.Facts.{values_at}
+use Rattle.smithy_unambiguity.proofs.Common.{ℕ, List, [], ◌∷◌, map, Option, Some, None, option_to_list, option_or, str_to_ascii_lowercase, values_at}
 
 -- the last of a list
 abbrev pub last_value : List (List ℕ) → Option (List ℕ)

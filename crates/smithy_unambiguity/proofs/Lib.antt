@@ -1,3 +1,4 @@
+pub mod Common
 pub mod BodyObject
 pub mod ByMember
 pub mod ByName
@@ -31,7 +32,7 @@ pub mod QueryNames
 pub mod Requests
 pub mod Reserved
 mod Setting
-mod Settled
+pub mod Settled
 mod Singles
 mod Sound
 mod SoundMaps
@@ -49,10 +50,10 @@ mod ViewParts
 mod ViewSeen
 mod ViewTarget
 mod ViewTold
-mod ViewTyped
+pub mod ViewTyped
 mod ViewValues
 mod ViewWrites
-mod Viewed
+pub mod Viewed
 mod ViewedMaps
-mod ViewedMembers
+pub mod ViewedMembers
 mod WellMadeNodes

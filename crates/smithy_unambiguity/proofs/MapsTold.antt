@@ -1,28 +1,7 @@
 -- What is seen of a request tells the normal form's part of the prefix map and of the query map.
-use Rattle.std.proofs.Common.{◌≡◌, ◌≢◌, cond, refl, sym, ◌∙◌, ap, subst, ℕ, ◌⊎◌, inl, inr, arith, nat_lt, ltb-true, ltb-false, Bool, true, false, not, ◌&&◌, List, [], ◌∷◌, ◌++◌, filter, flat_map, Option, Some, None, option_and_then, option_to_list, is_some, IsTrue}
-use Rattle.std.specs.List.{AllByRecursion, list_all}
-use Rattle.std.specs.Option.{option_map_or}
+use Rattle.smithy_unambiguity.proofs.Common.{◌≡◌, ◌≢◌, cond, refl, sym, ◌∙◌, ap, subst, ℕ, ◌⊎◌, inl, inr, arith, nat_lt, ltb-true, ltb-false, Bool, true, false, not, ◌&&◌, List, [], ◌∷◌, ◌++◌, filter, flat_map, Option, Some, None, option_and_then, option_to_list, is_some, IsTrue, AllByRecursion, list_all, option_map_or, str_to_ascii_lowercase, and_parts, lower_twice, same_text, is_one_of, are_distinct, same_kind, Schema, member_at, members_of, key_of, value_of, to_prefix, to_query_map, binding_of, Value, Write, map_value, in_key_order, AreBytes, values_at, headers, inserted_at, pairs, query_names, map_entries, entry_texts, body, IsCheckedInput, is_text_map, is_query_map, is_plain_string, is_placed_at, Protocol, OmitFlags, all_headers, IsTyped, default_names, has_no_default_name, member_view, bound_view_at, unless_empty, in_lower_case, has_pairs, same_text_self, all_put}
 use Rattle.std.specs.Cmp.Lexicographic.{same_text as same_from_test}
-use Rattle.std.specs.Str.{str_to_ascii_lowercase}
-use Rattle.std.proofs.lemmas.Bool.{and_parts}
-use Rattle.smithy_http.proofs.ValueLemmas.{lower_twice}
-use Rattle.smithy_types.specs.Texts.{same_text, is_one_of, are_distinct}
 use Rattle.smithy_ids.specs.declared.shape_type.ShapeType.TheVariants as kind
-use Rattle.smithy_ids.specs.Kinds.{same_kind}
-use Rattle.smithy_schema.specs.Nodes.{Schema, member_at, members_of, key_of, value_of, to_prefix, to_query_map, binding_of}
-use Rattle.smithy_serde.specs.Values.{Value, Write}
-use Rattle.smithy_serde.specs.NormalBody.{map_value, in_key_order}
-use Rattle.smithy_strings.specs.Escapes.{AreBytes}
-use Rattle.smithy_http.specs.Facts.{values_at}
-use Rattle.smithy_binding.specs.Bindings.{headers, inserted_at, pairs, query_names, map_entries, entry_texts}
-use Rattle.smithy_binding.specs.Bodies.{body}
-use Rattle.smithy_binding.specs.Checked.{IsCheckedInput, is_text_map, is_query_map, is_plain_string}
-use Rattle.smithy_binding.specs.Faults.{is_placed_at}
-use Rattle.smithy_binding.specs.Placing.{Protocol, Omit, all_headers}
-use Rattle.smithy_binding.specs.Typed.{IsTyped, default_names, has_no_default_name}
-use Rattle.smithy_binding.specs.NormalForm.{member_view, bound_view_at, unless_empty, in_lower_case, has_pairs}
-use Rattle.smithy_binding.proofs.Tests.{same_text_self}
-use Rattle.smithy_document.proofs.OrderedPairs.{all_put}
 use Rattle.smithy_unambiguity.proofs.LastTexts.{last_value, last_at, lowered}
 use Rattle.smithy_unambiguity.proofs.ByMember.{first_value, at_member}
 use Rattle.smithy_unambiguity.proofs.Defaults.{all_headers_at, leaves-elsewhere}
@@ -75,7 +54,7 @@ query_map_part m names (Some v) query_map is = query_map_view m names v query_ma
 pub keys_distinct : (m : Schema) (v : Value) → IsPlacedValue m v → are_distinct (keys (key_texts v)) ≡ true
 keys_distinct m v is = ap are_distinct (names-valued entry_texts (map_entries v)) ∙ entries_distinct m v is.keys is.paired
 
-pub query_map_told : (protocol : Protocol) (schema : Schema) (endpoint : List ℕ) (omit : Omit) (v w : List Write) → AreSeenSame protocol schema endpoint omit v w → (i : ℕ) (m : Schema)
+pub query_map_told : (protocol : Protocol) (schema : Schema) (endpoint : List ℕ) (omit : OmitFlags) (v w : List Write) → AreSeenSame protocol schema endpoint omit v w → (i : ℕ) (m : Schema)
     → member_at schema i ≡ Some m → binding_of m ≡ to_query_map → ((key : List ℕ) → values_at key (pairs schema v) ≡ values_at key (pairs schema w)) → member_view schema v i m ≡ member_view schema w i m
 query_map_told protocol schema endpoint omit v w are i m at query_map same =
     bound_told protocol schema endpoint omit v w are i m to_query_map at query_map refl
@@ -119,7 +98,7 @@ are_bytes_or (b ∷ name) = go (nat_lt b 256) refl (are_bytes_or name)
     go false e rest = inr (λ h. let big = ltb-false b 256 e in let small = h.0 in absurd (omega (arith, big, small)))
 
 -- so at every name the same texts stand
-pub all_pairs_told : (protocol : Protocol) (schema : Schema) (endpoint : List ℕ) (omit : Omit) (v w : List Write) → AreSeenSame protocol schema endpoint omit v w → (name : List ℕ) → values_at name (pairs schema v) ≡ values_at name (pairs schema w)
+pub all_pairs_told : (protocol : Protocol) (schema : Schema) (endpoint : List ℕ) (omit : OmitFlags) (v w : List Write) → AreSeenSame protocol schema endpoint omit v w → (name : List ℕ) → values_at name (pairs schema v) ≡ values_at name (pairs schema w)
 all_pairs_told protocol schema endpoint omit v w are name = go (are_bytes_or name)
   where
     none : (ws : List Write) → HasTypedWrites schema ws → (AreBytes name → ⊥) → values_at name (pairs schema ws) ≡ []
@@ -179,7 +158,7 @@ no_default_at name ps tests is =
     (all_apply (λ p. not (is_one_of p.0 default_names) ≡ true) (λ p. p.0 ≢ name) ps (λ p test e. let q : false ≡ true = sym (ap not (ap (λ n. is_one_of n default_names) e ∙ is)) ∙ test in cc q)
     (all_from_test (λ (p : List ℕ × List ℕ). not (is_one_of p.0 default_names)) ps tests))
 
-pub prefix_member_told : (protocol : Protocol) (schema : Schema) (endpoint : List ℕ) (omit : Omit) (v w : List Write) → AreSeenSame protocol schema endpoint omit v w → (i : ℕ) (m : Schema) (prefix : List ℕ)
+pub prefix_member_told : (protocol : Protocol) (schema : Schema) (endpoint : List ℕ) (omit : OmitFlags) (v w : List Write) → AreSeenSame protocol schema endpoint omit v w → (i : ℕ) (m : Schema) (prefix : List ℕ)
     → member_at schema i ≡ Some m → binding_of m ≡ to_prefix prefix → member_view schema v i m ≡ member_view schema w i m
 prefix_member_told protocol schema endpoint omit v w are i m prefix at begins =
     bound_told protocol schema endpoint omit v w are i m (to_prefix prefix) at begins refl

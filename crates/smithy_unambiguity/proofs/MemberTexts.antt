@@ -1,26 +1,7 @@
 -- The texts of a header or query member tell its value as the normal form has it.
-use Rattle.std.proofs.Common.{◌≡◌, refl, sym, ◌∙◌, ap, ℕ, Bool, true, false, ◌||◌, List, [], ◌∷◌, Option, Some, None, option_map, option_and_then, is_some}
-use Rattle.std.specs.List.{list_all}
-use Rattle.std.specs.Option.{option_map_or}
-use Rattle.std.proofs.lemmas.Bool.{and_parts, and_from}
-use Rattle.smithy_types.specs.Results.{each}
-use Rattle.smithy_ids.specs.declared.shape_type.ShapeType.{ShapeType}
+use Rattle.smithy_unambiguity.proofs.Common.{◌≡◌, refl, sym, ◌∙◌, ap, ℕ, Bool, true, false, ◌||◌, List, [], ◌∷◌, Option, Some, None, option_map, option_and_then, is_some, list_all, option_map_or, and_parts, and_from, each, ShapeType, same_kind, is_scalar, one_kind, Schema, element_of, binding_of, Value, Writes, Write, list_of, is_in_range, are_writes_in_range, fits, settled_elements, Header, listed, kind_or_none, texts, header_texts, place_at, member_text, element_text, is_header_kind, has_element, same_format, item_fault, element_fault, has_own_formats, with_own_elements}
 use Rattle.smithy_ids.specs.declared.shape_type.ShapeType.TheVariants as kind
-use Rattle.smithy_ids.specs.Kinds.{same_kind, is_scalar}
-use Rattle.smithy_ids.proofs.KindLemmas.{one_kind}
-use Rattle.smithy_schema.specs.Nodes.{Schema, element_of}
 use Rattle.smithy_serde.specs.Values as value
-use Rattle.smithy_serde.specs.Values.{Value, Writes, Write, list_of}
-use Rattle.smithy_serde.specs.Ranges.{is_in_range, are_writes_in_range}
-use Rattle.smithy_serde.specs.Fits.{fits}
-use Rattle.smithy_serde.specs.NormalBody.{settled_elements}
-use Rattle.smithy_strings.specs.declared.wire.Place.TheVariants.{Header}
-use Rattle.smithy_strings.specs.Lists.{listed}
-use Rattle.smithy_binding.specs.Bindings.{kind_or_none, member_text, element_text, texts, header_texts, place_of}
-use Rattle.smithy_binding.specs.Checked.{is_header_kind, has_element, same_format}
-use Rattle.smithy_binding.specs.Faults.{item_fault, element_fault}
-use Rattle.smithy_binding.specs.Typed.{has_own_formats}
-use Rattle.smithy_binding.specs.NormalForm.{with_own_elements}
 use Rattle.smithy_unambiguity.proofs.Fits.{is_flat}
 use Rattle.smithy_unambiguity.proofs.Headers.{header_values}
 use Rattle.smithy_unambiguity.proofs.HeaderTexts.{lists_told}
@@ -35,11 +16,11 @@ pub record IsBoundValue (m : Schema) (v : Value) : Type 0 where
 
 -- the one text of a flat value
 abbrev own_text : Schema → Value → Option (List ℕ)
-own_text m v = member_text (place_of m) m v
+own_text m v = member_text (place_at (binding_of m)) m v
 
 flat_told : (m : Schema) (v w : Value) (t : List ℕ) → is_flat m.node.kind ≡ true → IsBoundValue m v → IsBoundValue m w → own_text m v ≡ Some t → own_text m w ≡ Some t → v ≡ w
 flat_told m v w t flat is_v is_w p q =
-    wire-injective m.node.traits.timestamp_format (is_some m.node.traits.media_type) (place_of m) m.node.kind v w t flat
+    wire-injective m.node.traits.timestamp_format (is_some m.node.traits.media_type) (place_at (binding_of m)) m.node.kind v w t flat
     (and_from (is_in_range v) (fits m.node.kind v) is_v.in_range is_v.fits) (and_from (is_in_range w) (fits m.node.kind w) is_w.in_range is_w.fits) p q
 
 one_text : (m : Schema) (v : Value) (t : List ℕ) → is_flat_value v ≡ true → option_map_or (λ (ts : List (List ℕ)). ts) (texts m v) [] ≡ t ∷ [] → own_text m v ≡ Some t
@@ -103,20 +84,20 @@ bound_list test m l v is_v =
 -- the texts of a header list, and the header that they are
 pub record IsListed (m e : Schema) (ws : Writes) (t : List ℕ) : Type 0 where
   pub ts : List (List ℕ)
-  pub texts : each (element_text (place_of m)) (list_of ws) ≡ Some ts
+  pub texts : each (element_text (place_at (binding_of m))) (list_of ws) ≡ Some ts
   pub is : listed e.node.kind ts ≡ t
 
 pub listed_of : (m e : Schema) (ws : Writes) (t : List ℕ) → element_of m ≡ Some e → header_values m (value.list ws) ≡ t ∷ [] → IsListed m e ws t
-listed_of m e ws t is h = go (each (element_text (place_of m)) (list_of ws)) refl h
+listed_of m e ws t is h = go (each (element_text (place_at (binding_of m))) (list_of ws)) refl h
   where
-    go : (o : Option (List (List ℕ))) → each (element_text (place_of m)) (list_of ws) ≡ o → option_map_or (λ (ts : List (List ℕ)). listed (kind_or_none (element_of m)) ts ∷ []) o [] ≡ t ∷ [] → IsListed m e ws t
+    go : (o : Option (List (List ℕ))) → each (element_text (place_at (binding_of m))) (list_of ws) ≡ o → option_map_or (λ (ts : List (List ℕ)). listed (kind_or_none (element_of m)) ts ∷ []) o [] ≡ t ∷ [] → IsListed m e ws t
     go None p q = absurd (cc q)
     go (Some ts) p q =
         let same : listed (kind_or_none (element_of m)) ts ≡ t = cc q in
         record { ts = ts; texts = p; is = ap (λ (o : Option Schema). listed (kind_or_none o) ts) (sym is) ∙ same }
 
 -- a header's text tells its value
-pub header_told : (m : Schema) (v w : Value) (t : List ℕ) → (is_flat m.node.kind || has_element is_header_kind m) ≡ true → place_of m ≡ Header → IsBoundValue m v → IsBoundValue m w
+pub header_told : (m : Schema) (v w : Value) (t : List ℕ) → (is_flat m.node.kind || has_element is_header_kind m) ≡ true → place_at (binding_of m) ≡ Header → IsBoundValue m v → IsBoundValue m w
     → header_values m v ≡ t ∷ [] → header_values m w ≡ t ∷ [] → with_own_elements m v ≡ with_own_elements m w
 header_told m v w t kinds here is_v is_w p q = go (is_flat m.node.kind) refl kinds
   where
@@ -159,6 +140,6 @@ query_list_told m v w ts has is_v is_w p q =
     let flat : is_flat l.element.node.kind ≡ true = ap (λ t. t || same_kind l.element.node.kind kind.Blob) l.passes in
     ap (with_own_elements m) a.is
     ∙ ap (λ (o : Option Schema). value.list (settled_elements o a.ws)) l.is
-    ∙ ap value.list (elements_told l.element.node.kind l.element.node.traits.timestamp_format l.element (place_of m) a.ws b.ws ts flat a.items b.items a.formats b.formats (ap (texts m) (sym a.is) ∙ p) (ap (texts m) (sym b.is) ∙ q))
+    ∙ ap value.list (elements_told l.element.node.kind l.element.node.traits.timestamp_format l.element (place_at (binding_of m)) a.ws b.ws ts flat a.items b.items a.formats b.formats (ap (texts m) (sym a.is) ∙ p) (ap (texts m) (sym b.is) ∙ q))
     ∙ ap (λ (o : Option Schema). value.list (settled_elements o b.ws)) (sym l.is)
     ∙ ap (with_own_elements m) (sym b.is)

@@ -1,16 +1,8 @@
 -- The members of a schema that a program holds: each has its position for its index and a name of its own.
-use Rattle.std.proofs.Common.{◌≡◌, refl, sym, ◌∙◌, ap, subst, ℕ, suc, Bool, true, false, ◌==◌, List, [], ◌∷◌, filter, filter_map, slice_get, Option, Some, None, option_map, option_and_then, unwrap_or, is_some}
-use Rattle.std.specs.List.{AllByRecursion, cons_option}
-use Rattle.std.specs.Option.{option_map_or}
-use Rattle.std.proofs.lemmas.Bool.{and_parts, eqb-true}
-use Rattle.smithy_schema.specs.Nodes.{Node, Schema, node_at, at_place, member_at, members_of, name_of}
-use Rattle.smithy_schema.specs.Defining.{is_member}
-use Rattle.smithy_schema.specs.WellMade.{is_well_made}
-use Rattle.smithy_document.specs.ReadsBack.{Stands}
+use Rattle.smithy_unambiguity.proofs.Common.{◌≡◌, refl, sym, ◌∙◌, ap, subst, ℕ, suc, Bool, true, false, ◌==◌, List, [], ◌∷◌, filter, filter_map, slice_get, Option, Some, None, option_map, option_and_then, unwrap_or, is_some, AllByRecursion, cons_option, option_map_or, and_parts, eqb-true, Node, Schema, node_at, at_place, member_at, members_of, name_of, is_member, is_well_made, Stands, IsCheckedInput}
 use Rattle.smithy_unambiguity.proofs.Lists.{all_filter}
 use Rattle.smithy_unambiguity.proofs.Positions.{members_by_position, apart_at}
 use Rattle.smithy_unambiguity.proofs.WellMadeNodes.{HasTexts, has_texts, well_made_stands}
-use Rattle.smithy_binding.specs.Checked.{IsCheckedInput}
 
 -- two members with one name are one
 abbrev pub HasApartNames : Schema → Type 0

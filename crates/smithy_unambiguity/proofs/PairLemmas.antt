@@ -1,17 +1,12 @@
 -- Pairs of a name and a value: in the order of the names, with other values, those that pass a test, and each name once.
-use Rattle.std.proofs.Common.{◌≡◌, refl, sym, ◌∙◌, ap, subst, ℕ, Bool, true, false, not, cond, ◌||◌, List, [], ◌∷◌, map, filter, Option, Some, None, option_and_then, if◌then◌else◌}
-use Rattle.std.specs.List.{AllByRecursion}
-use Rattle.std.specs.Option.{option_or}
+use Rattle.smithy_unambiguity.proofs.Common.{◌≡◌, refl, sym, ◌∙◌, ap, subst, ℕ, Bool, true, false, not, cond, ◌||◌, List, [], ◌∷◌, map, filter, Option, Some, None, option_and_then, if◌then◌else◌, AllByRecursion, option_or, slice_cmp, and_from, same_text, is_one_of, are_distinct, same_text_self, Pairs, looked, all_put, Behind, Ascends, all_ascend, absent, up_tail}
 use Rattle.std.specs.Ordering.{nat_cmp, match_ordering}
 use Rattle.std.specs.declared.cmp.Ordering.{Ordering}
 use Rattle.std.specs.declared.cmp.Ordering.TheVariants.{Less, Equal, Greater}
-use Rattle.std.specs.Cmp.Lexicographic.{slice_cmp, same_text as same_from_test}
-use Rattle.std.proofs.lemmas.Bool.{and_from}
+use Rattle.std.specs.Cmp.Lexicographic.{same_text as same_from_test}
 use Rattle.std.proofs.lemmas.Cmp.{nat_list_cmp_total}
 use Rattle.smithy_types.specs.Maps.{with_value}
-use Rattle.smithy_types.specs.Texts.{same_text, is_one_of, are_distinct}
-use Rattle.smithy_binding.proofs.Tests.{same_text_self}
-use Rattle.smithy_document.proofs.OrderedPairs.{Pairs, looked, last_of, all_put, Behind, Ascends, all_ascend, absent, up_tail}
+use Rattle.smithy_document.proofs.OrderedPairs.{last_of}
 
 -- Other values.
 

@@ -1,15 +1,5 @@
 -- A filled path gives the texts of its holes.
-use Rattle.std.proofs.Common.{◌≡◌, refl, sym, ◌∙◌, ap, subst, ℕ, arith, Bool, true, false, not, cond, ◌==◌, ◌&&◌, ◌||◌, List, [], ◌∷◌, ◌++◌, length, map, Option, Some, None, Result, Ok, Err, codes, nat_eq, eq-eqb, ne_eqb, find, option_map}
-use Rattle.std.specs.List.{AllByRecursion, starts_with, ends_with}
-use Rattle.std.proofs.lemmas.Bool.{eqb-true, and_parts, not-true}
-use Rattle.std.proofs.lemmas.List.{append_assoc, append_cancel_left, append_cancel_right}
-use Rattle.smithy_types.specs.Texts.{found, has_byte, same_text}
-use Rattle.smithy_types.specs.Results.{then_try, then_give}
-use Rattle.smithy_schema.specs.Templates.{Hole, Piece}
-use Rattle.smithy_strings.specs.Escapes.{escape, AreBytes}
-use Rattle.smithy_binding.specs.Filling.{hole_text, filled_hole, fill_rest, keep_slashes}
-use Rattle.smithy_binding.specs.Clear.{ends_segment, begins_segment, are_whole_segments, is_greedy_last}
-use Rattle.smithy_strings.proofs.EscapeLaws.{escape-injective}
+use Rattle.smithy_unambiguity.proofs.Common.{◌≡◌, refl, sym, ◌∙◌, ap, subst, ℕ, arith, Bool, true, false, not, cond, ◌==◌, ◌&&◌, ◌||◌, List, [], ◌∷◌, ◌++◌, length, map, Option, Some, None, Result, Ok, Err, codes, nat_eq, eq-eqb, ne_eqb, find, option_map, AllByRecursion, starts_with, ends_with, eqb-true, and_parts, not-true, append_assoc, append_cancel_left, append_cancel_right, found, has_byte, same_text, then_try, then_give, Hole, Piece, escape, AreBytes, hole_text, filled_hole, fill_rest, keep_slashes, ends_segment, begins_segment, are_whole_segments, is_greedy_last, escape-injective}
 use Rattle.smithy_unambiguity.proofs.Cuts.{HasNo, before, cut}
 use Rattle.smithy_unambiguity.proofs.Holes.{hole_text-injective}
 use Rattle.smithy_unambiguity.proofs.Reserved.{slash, question, HasNo-escape, HasNo-hole_text}

@@ -1,29 +1,9 @@
 -- The body of a payload tells its normal form.
-use Rattle.std.proofs.Common.{◌≡◌, refl, sym, ◌∙◌, ap, ℕ, ◌≤◌, nat_le, ◌⊎◌, inl, inr, Bool, true, false, not, ◌&&◌, ◌||◌, ◌==◌, List, [], length, filter, find, Result, Ok, Option, Some, None, option_map, option_and_then, unwrap_or, if◌then◌else◌, eq-eqb}
-use Rattle.std.specs.Result.{result_ok}
-use Rattle.std.proofs.lemmas.Bool.{and_parts, eqb-true, leb-true}
-use Rattle.smithy_types.specs.Documents.{Document, nesting}
-use Rattle.smithy_ids.specs.declared.shape_type.ShapeType.{ShapeType}
+use Rattle.smithy_unambiguity.proofs.Common.{◌≡◌, refl, sym, ◌∙◌, ap, ℕ, ◌≤◌, nat_le, ◌⊎◌, inl, inr, Bool, true, false, not, ◌&&◌, ◌||◌, ◌==◌, List, [], length, filter, find, Result, Ok, Option, Some, None, option_map, option_and_then, unwrap_or, if◌then◌else◌, eq-eqb, result_ok, and_parts, eqb-true, leb-true, Document, nesting, ShapeType, Schema, member_at, members_of, Binding, to_payload, binding_of, is_outside_body, is_bound, Value, Write, fits, is_null, Held, IsLawfulText, is_sound, max_nesting, DocumentFault, document_of, doc_of, is_shaped, settled, Resolved, all_resolved, firsts, is_of, is_payload, is_codec_kind, payload_kind, has_unbound_member, is_raw_kind, form_at, form_in, body_parts, body, document_value, document_by, raw_bytes, text_of_document, bytes_by, IsCheckedInput, has_at_most_one, is_sound_payload, is_well_made, Protocol, OmitFlags, IsTyped, is_codec_payload, is_shaped_write, is_shallow, member_view, unless_empty, Stands, text_form}
 use Rattle.smithy_ids.specs.declared.shape_type.ShapeType.TheVariants as kind
-use Rattle.smithy_schema.specs.Nodes.{Schema, member_at, members_of, Binding, to_payload, binding_of, is_outside_body, is_bound}
 use Rattle.smithy_serde.specs.Values as value
-use Rattle.smithy_serde.specs.Values.{Value, Write}
-use Rattle.smithy_serde.specs.Fits.{fits, is_null}
-use Rattle.smithy_serde.specs.Held.{Held}
-use Rattle.smithy_serde.specs.Lawful.{IsLawfulText, is_sound, max_nesting}
-use Rattle.smithy_serde.specs.DocumentOf.{DocumentFault, document_of, doc_of}
-use Rattle.smithy_serde.specs.Shaped.{is_shaped}
-use Rattle.smithy_serde.specs.NormalBody.{settled}
-use Rattle.smithy_serde.specs.Writes.{Resolved, all_resolved, firsts, is_of}
-use Rattle.smithy_binding.specs.Bodies.{is_payload, is_codec_kind, payload_kind, has_unbound_member, is_raw_kind, unbound_form, form_at, form_in, body_parts, body, document_value, document_by, raw_bytes, text_of_document, bytes_by}
 use Rattle.smithy_binding.specs.declared.body_form.BodyForm.{BodyForm}
 use Rattle.smithy_binding.specs.declared.body_form.BodyForm.TheVariants as form
-use Rattle.smithy_binding.specs.Checked.{IsCheckedInput, has_at_most_one, is_sound_payload, is_payload_kind}
-use Rattle.smithy_schema.specs.WellMade.{is_well_made}
-use Rattle.smithy_binding.specs.Placing.{Protocol, Omit}
-use Rattle.smithy_binding.specs.Typed.{IsTyped, is_codec_payload, is_shaped_write, is_shallow}
-use Rattle.smithy_binding.specs.NormalForm.{member_view, unless_empty}
-use Rattle.smithy_document.specs.ReadsBack.{Stands}
 use Rattle.smithy_serde.proofs.LawfulLemmas.{lawful_apart}
 use Rattle.smithy_document.proofs.ShapedDocuments.{has_document}
 use Rattle.smithy_document.proofs.ShapedReads.{tells_normal_form}
@@ -36,7 +16,6 @@ use Rattle.smithy_unambiguity.proofs.Traits.{trait_of}
 use Rattle.smithy_unambiguity.proofs.Members.{member_in_place}
 use Rattle.smithy_unambiguity.proofs.Placed.{HasTypedWrites, bound_fits, first_fitting, first_has}
 use Rattle.smithy_unambiguity.proofs.Positions.{members_by_position}
-use Rattle.smithy_document.proofs.NamedPairs.{text_form}
 use Rattle.smithy_unambiguity.proofs.Singles.{single, find_single, find_same}
 use Rattle.smithy_unambiguity.proofs.Sound.{sound}
 
@@ -157,7 +136,7 @@ texts_tell text_of holds lawful m stands None (Some w) is_o is_p e =
 texts_tell text_of holds lawful m stands (Some v) (Some w) is_o is_p e = ap Some (text_tells text_of holds lawful m v w stands (is_o v refl) (is_p w refl) e)
 
 -- the value of a typed input's body follows its node
-pub own_text : (protocol : Protocol) (schema : Schema) (endpoint : List ℕ) (omit : Omit) (ws : List Write) (m : Schema) (u : Value) → IsTyped protocol schema endpoint omit ws → Stands m → document_value schema ws ≡ Some u → is_shaped (Some m) u ≡ true → HasOwnText m u
+pub own_text : (protocol : Protocol) (schema : Schema) (endpoint : List ℕ) (omit : OmitFlags) (ws : List Write) (m : Schema) (u : Value) → IsTyped protocol schema endpoint omit ws → Stands m → document_value schema ws ≡ Some u → is_shaped (Some m) u ≡ true → HasOwnText m u
 own_text protocol schema endpoint omit ws m u typed stands is shaped =
     let d = has_document m u shaped in
     let low : nat_le (nesting d.0) max_nesting ≡ true =
@@ -168,7 +147,7 @@ pub document_value_is : (schema : Schema) (ws : List Write) (f : BodyForm) → f
 unfolding document_value
 document_value_is schema ws f e = ap (λ g. document_by g (body_parts schema ws)) e
 
-pub data_kind : (k : ShapeType) → is_payload_kind k ≡ true → (k ≡ kind.Blob) ⊎ ((k ≡ kind.String) ⊎ (is_codec_kind k ≡ true))
+pub data_kind : (k : ShapeType) → (is_raw_kind k || is_codec_kind k) ≡ true → (k ≡ kind.Blob) ⊎ ((k ≡ kind.String) ⊎ (is_codec_kind k ≡ true))
 data_kind kind.Blob e = inl refl
 data_kind kind.String e = inr (inl refl)
 data_kind _ e = inr (inr e)
@@ -186,21 +165,21 @@ pub payload_form : (schema : Schema) → IsCheckedInput schema → (i : ℕ) (m 
 payload_form schema checked i m at payload = ap (λ o. form_at o (has_unbound_member schema)) (payload_kind_is schema checked i m at payload)
 
 -- the kind of a payload
-pub payload_is_data : (schema : Schema) → IsCheckedInput schema → (i : ℕ) (m : Schema) → member_at schema i ≡ Some m → binding_of m ≡ to_payload → is_payload_kind m.node.kind ≡ true
+pub payload_is_data : (schema : Schema) → IsCheckedInput schema → (i : ℕ) (m : Schema) → member_at schema i ≡ Some m → binding_of m ≡ to_payload → (is_raw_kind m.node.kind || is_codec_kind m.node.kind) ≡ true
 payload_is_data schema checked i m at payload =
     let tests = and_parts (has_at_most_one (λ t. t.http_payload) schema) (is_sound_payload (payload_kind schema) (has_unbound_member schema)) checked.payload in
-    (and_parts (is_payload_kind m.node.kind) (not (has_unbound_member schema)) (ap (λ o. is_sound_payload o (has_unbound_member schema)) (sym (payload_kind_is schema checked i m at payload)) ∙ tests.1)).0
+    (and_parts (is_raw_kind m.node.kind || is_codec_kind m.node.kind) (not (has_unbound_member schema)) (ap (λ o. is_sound_payload o (has_unbound_member schema)) (sym (payload_kind_is schema checked i m at payload)) ∙ tests.1)).0
 
 -- the codec writes the payload, where bodies have that form
 pub codec_payload : (schema : Schema) → IsCheckedInput schema → (i : ℕ) (m : Schema) → member_at schema i ≡ Some m → binding_of m ≡ to_payload → form_in schema ≡ form.Payload → is_codec_kind m.node.kind ≡ true
 codec_payload schema checked i m at payload is = go (is_raw_kind m.node.kind) (is_codec_kind m.node.kind) (payload_is_data schema checked i m at payload) (sym (payload_form schema checked i m at payload) ∙ is)
   where
-    go : (r c : Bool) → (r || c) ≡ true → (if r then form.Raw else if c then form.Payload else unbound_form (has_unbound_member schema)) ≡ form.Payload → c ≡ true
+    go : (r c : Bool) → (r || c) ≡ true → (if r then form.Raw else form.Payload) ≡ form.Payload → c ≡ true
     go true c taken h = absurd (cc h)
     go false c taken h = taken
 
 -- so does the payload
-pub payload_own_text : (protocol : Protocol) (schema : Schema) (endpoint : List ℕ) (omit : Omit) (ws : List Write) (i : ℕ) (m : Schema) → IsCheckedInput schema → is_well_made schema ≡ true → IsTyped protocol schema endpoint omit ws
+pub payload_own_text : (protocol : Protocol) (schema : Schema) (endpoint : List ℕ) (omit : OmitFlags) (ws : List Write) (i : ℕ) (m : Schema) → IsCheckedInput schema → is_well_made schema ≡ true → IsTyped protocol schema endpoint omit ws
     → member_at schema i ≡ Some m → binding_of m ≡ to_payload → form_in schema ≡ form.Payload → (u : Value) → first_value schema ws i ≡ Some u → HasOwnText m u
 payload_own_text protocol schema endpoint omit ws i m checked well_made typed at payload is u e =
     let tested = first_has (λ r. (not (is_codec_payload r.member) || is_shaped_write r) ≡ true) schema ws i m u at e (all_from_test (λ r. not (is_codec_payload r.member) || is_shaped_write r) (firsts schema ws) typed.payload_shaped) in
@@ -208,7 +187,7 @@ payload_own_text protocol schema endpoint omit ws i m checked well_made typed at
     own_text protocol schema endpoint omit ws m u typed (member_in_place schema i m well_made at).stands (document_value_is schema ws form.Payload is ∙ payload_value schema checked ws i m at payload ∙ e)
     (ap (λ t. not t || is_shaped (Some m) u) (sym asked) ∙ tested)
 
-pub payload_member_told : (protocol : Protocol) (schema : Schema) (endpoint : List ℕ) (omit : Omit) (v w : List Write) → AreSeenSame protocol schema endpoint omit v w → (i : ℕ) (m : Schema)
+pub payload_member_told : (protocol : Protocol) (schema : Schema) (endpoint : List ℕ) (omit : OmitFlags) (v w : List Write) → AreSeenSame protocol schema endpoint omit v w → (i : ℕ) (m : Schema)
     → member_at schema i ≡ Some m → binding_of m ≡ to_payload → member_view schema v i m ≡ member_view schema w i m
 payload_member_told protocol schema endpoint omit v w are i m at payload =
     bound_told protocol schema endpoint omit v w are i m to_payload at payload refl (go (data_kind m.node.kind (payload_is_data schema are.checked i m at payload)))

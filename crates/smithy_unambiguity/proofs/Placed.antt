@@ -1,20 +1,6 @@
 -- What is known of the first write of a member in a typed input.
-use Rattle.std.proofs.Common.{◌≡◌, refl, sym, ◌∙◌, ap, subst, ℕ, zero, suc, Bool, true, false, not, cond, ◌&&◌, ◌||◌, List, [], ◌∷◌, filter, slice_get, Option, Some, None, option_map, option_and_then, is_some, IsTrue}
-use Rattle.std.specs.List.{AllByRecursion, list_all}
-use Rattle.std.proofs.lemmas.Bool.{and_parts}
+use Rattle.smithy_unambiguity.proofs.Common.{◌≡◌, refl, sym, ◌∙◌, ap, subst, ℕ, zero, suc, Bool, true, false, not, cond, ◌&&◌, ◌||◌, List, [], ◌∷◌, filter, slice_get, Option, Some, None, option_map, option_and_then, is_some, IsTrue, AllByRecursion, list_all, and_parts, unless, first_of_all, Schema, member_at, members_of, Binding, to_body, binding_of, is_outside_body, is_bound, Value, Write, are_in_range, fits, is_null, Resolved, all_resolved, first, firsts, texts, inserted_at, query_names, IsCheckedInput, has_bound_kind, Fault, writes_fault, bound_fault, value_fault, item_fault, key_fault, year_fault, pairs_fault, is_placed_at, has_distinct_keys, has_own_formats, is_placed_typed, bound_view, bound_view_at, member_view, last_of, settled}
 use Rattle.std.proofs.lemmas.List.Sums.{list_all-from_AllPass}
-use Rattle.smithy_types.specs.Results.{unless, first_of_all}
-use Rattle.smithy_schema.specs.Nodes.{Schema, member_at, members_of, Binding, to_body, binding_of, is_outside_body, is_bound}
-use Rattle.smithy_serde.specs.Values.{Value, Write}
-use Rattle.smithy_serde.specs.Ranges.{are_in_range}
-use Rattle.smithy_serde.specs.Fits.{fits, is_null}
-use Rattle.smithy_serde.specs.Writes.{Resolved, all_resolved, first, firsts}
-use Rattle.smithy_binding.specs.Bindings.{texts, inserted_at, query_names}
-use Rattle.smithy_binding.specs.Checked.{IsCheckedInput, has_bound_kind}
-use Rattle.smithy_binding.specs.Faults.{Fault, writes_fault, bound_fault, value_fault, item_fault, key_fault, year_fault, pairs_fault, is_placed_at}
-use Rattle.smithy_binding.specs.Typed.{has_distinct_keys, has_own_formats, is_placed_typed}
-use Rattle.smithy_binding.specs.NormalForm.{bound_view, bound_view_at, member_view, last_of}
-use Rattle.smithy_serde.specs.NormalBody.{settled}
 use Rattle.smithy_unambiguity.proofs.ByMember.{at_member, first_value, first_at}
 use Rattle.smithy_unambiguity.proofs.Conforming.{no_first, conforming_bound, IsFittingWrite, fitting_writes}
 use Rattle.smithy_unambiguity.proofs.Firsts.{first_finds, find_has}

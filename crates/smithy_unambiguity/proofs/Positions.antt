@@ -1,12 +1,5 @@
 -- Members by position, and names that tell positions apart.
-use Rattle.std.proofs.Common.{◌≡◌, ◌≢◌, refl, ◌∙◌, ap, subst, ℕ, zero, suc, Bool, true, false, ◌||◌, List, [], ◌∷◌, filter_map, slice_get, Option, Some, None, option_and_then, is_some}
-use Rattle.std.specs.List.{AllByRecursion, list_all, cons_option}
-use Rattle.std.proofs.lemmas.Bool.{and_parts}
-use Rattle.smithy_types.specs.Texts.{same_text, is_one_of, are_distinct, AreDistinct}
-use Rattle.smithy_schema.specs.Nodes.{Schema, at_place, members_of, member_at}
-use Rattle.smithy_binding.specs.Bindings.{query_names}
-use Rattle.smithy_binding.proofs.Tests.{AreDistinct-from_test, same_text_self}
-use Rattle.smithy_binding.specs.Checked.{IsCheckedInput}
+use Rattle.smithy_unambiguity.proofs.Common.{◌≡◌, ◌≢◌, refl, ◌∙◌, ap, subst, ℕ, zero, suc, Bool, true, false, ◌||◌, List, [], ◌∷◌, filter_map, slice_get, Option, Some, None, option_and_then, is_some, AllByRecursion, list_all, cons_option, and_parts, same_text, is_one_of, are_distinct, AreDistinct, Schema, at_place, members_of, member_at, query_names, AreDistinct-from_test, same_text_self, IsCheckedInput}
 
 -- two members with one query name are one
 abbrev pub HasApartQueries : Schema → Type 0

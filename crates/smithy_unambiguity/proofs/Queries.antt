@@ -1,15 +1,7 @@
 -- The pieces of the query give the texts at each name.
-use Rattle.std.proofs.Common.{◌≡◌, ◌≢◌, refl, sym, ◌∙◌, ap, ℕ, suc, ◌+◌, arith, Bool, true, false, not, cond, ◌==◌, ◌||◌, List, [], ◌∷◌, ◌++◌, map, filter, eq-eqb, ne_eqb, codes, drop}
-use Rattle.std.specs.List.{AllByRecursion, slice_split, onto_first, join_with_byte, after_first, position_or_len}
+use Rattle.smithy_unambiguity.proofs.Common.{◌≡◌, ◌≢◌, refl, sym, ◌∙◌, ap, ℕ, suc, ◌+◌, arith, Bool, true, false, not, cond, ◌==◌, ◌||◌, List, [], ◌∷◌, ◌++◌, map, filter, eq-eqb, ne_eqb, codes, drop, AllByRecursion, slice_split, onto_first, join_with_byte, after_first, position_or_len, append_assoc, append-nil, append_cancel_left, map-append, same_text, has_byte, query_pieces, values_at, named_piece, escape, AreBytes, escape-injective, pair_text, with_query, same_text_self}
 use Rattle.std.specs.Cmp.Lexicographic.{same_text as same_from_test}
-use Rattle.std.proofs.lemmas.List.{append_assoc, append-nil, append_cancel_left, map-append}
 use Rattle.std.proofs.lemmas.List.Elements.{filter-append}
-use Rattle.smithy_types.specs.Texts.{same_text, has_byte}
-use Rattle.smithy_http.specs.Facts.{query_pieces, values_at, named_piece}
-use Rattle.smithy_strings.specs.Escapes.{escape, AreBytes}
-use Rattle.smithy_strings.proofs.EscapeLaws.{escape-injective}
-use Rattle.smithy_binding.specs.Placing.{pair_text, with_query}
-use Rattle.smithy_binding.proofs.Tests.{same_text_self}
 use Rattle.smithy_unambiguity.proofs.Cuts.{HasNo, HasNo-append, before, before-cut, before_first-before}
 use Rattle.smithy_unambiguity.proofs.Reserved.{ampersand, equals, HasNo-escape}
 

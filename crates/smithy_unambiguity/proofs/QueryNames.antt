@@ -1,16 +1,6 @@
 -- What stands in the query at a name: the texts of the member with that name, or those of the query map.
-use Rattle.std.proofs.Common.{◌≡◌, ◌≢◌, refl, sym, ◌∙◌, ap, ℕ, ◌≤◌, Bool, true, false, cond, List, [], length, filter, flat_map, Option, Some, None, unwrap_or}
-use Rattle.std.specs.Option.{option_map_or}
+use Rattle.smithy_unambiguity.proofs.Common.{◌≡◌, ◌≢◌, refl, sym, ◌∙◌, ap, ℕ, ◌≤◌, Bool, true, false, cond, List, [], length, filter, flat_map, Option, Some, None, unwrap_or, option_map_or, leb-true, same_text, is_one_of, Schema, member_at, members_of, Binding, to_query, to_query_map, binding_of, Value, Write, Resolved, firsts, values_at, pairs, pairs_at, query_names, texts, pairs_of, IsCheckedInput, same_text_self}
 use Rattle.std.specs.Cmp.Lexicographic.{same_text as same_from_test}
-use Rattle.std.proofs.lemmas.Bool.{leb-true}
-use Rattle.smithy_types.specs.Texts.{same_text, is_one_of}
-use Rattle.smithy_schema.specs.Nodes.{Schema, member_at, members_of, Binding, to_query, to_query_map, binding_of}
-use Rattle.smithy_serde.specs.Values.{Value, Write}
-use Rattle.smithy_serde.specs.Writes.{Resolved, firsts}
-use Rattle.smithy_http.specs.Facts.{values_at}
-use Rattle.smithy_binding.specs.Bindings.{pairs, pairs_of, pairs_at, query_names, texts}
-use Rattle.smithy_binding.specs.Checked.{IsCheckedInput}
-use Rattle.smithy_binding.proofs.Tests.{same_text_self}
 use Rattle.smithy_unambiguity.proofs.ByName.{values_at-flat_map, under_name, no_values}
 use Rattle.smithy_unambiguity.proofs.ByMember.{at_member, first_value, first_texts, only_member, none_given}
 use Rattle.smithy_unambiguity.proofs.EntriesTold.{text_pairs, key_texts, written_texts, query_map_gives}

@@ -1,38 +1,26 @@
 -- The parts of a conforming input's request, and what two requests with the same facts share.
-use Rattle.std.proofs.Common.{◌≡◌, sym, ◌∙◌, ap, ℕ, List, map, Ok, Some, None, option_map}
-use Rattle.std.specs.List.{before_first}
-use Rattle.smithy_schema.specs.Nodes.{Schema}
-use Rattle.smithy_schema.specs.Templates.{pieces}
-use Rattle.smithy_serde.specs.Values.{Write}
-use Rattle.smithy_http.specs.Facts.{facts, values_at, named_piece, query_pieces, is_question_mark}
-use Rattle.smithy_binding.specs.Bindings.{headers, pairs, labels}
-use Rattle.smithy_binding.specs.Bodies.{body}
-use Rattle.smithy_binding.specs.Filling.{fill}
-use Rattle.smithy_binding.specs.Faults.{fault}
-use Rattle.smithy_binding.specs.Answer.{place, request_at}
-use Rattle.smithy_binding.specs.Placing.{Protocol, Omit, template_of, with_query, all_headers}
-use Rattle.smithy_unambiguity.specs.Laws.{SeesSame}
+use Rattle.smithy_unambiguity.proofs.Common.{◌≡◌, sym, ◌∙◌, ap, ℕ, List, map, Ok, Some, None, option_map, before_first, Schema, pieces, Write, facts, values_at, named_piece, query_pieces, is_question_mark, headers, pairs, labels, body, fill, fault, place, request_at, Protocol, OmitFlags, template_of, with_query, all_headers, SeesSame}
 use Rattle.smithy_unambiguity.proofs.Conformity.{conforming, place_conforming}
 
 -- The template is filled, and the request stands over that path.
-pub record IsPlacedRequest (protocol : Protocol) (schema : Schema) (ws : List Write) (endpoint : List ℕ) (omit : Omit) : Type 0 where
+pub record IsPlacedRequest (protocol : Protocol) (schema : Schema) (ws : List Write) (endpoint : List ℕ) (omit : OmitFlags) : Type 0 where
   pub path : List ℕ
   pub fills : fill (pieces (template_of schema endpoint)) (labels schema ws) ≡ Ok path
   pub is : place protocol schema ws endpoint omit ≡ Some (request_at protocol schema ws omit (with_query path (pairs schema ws)))
 
-pub placed_request : (protocol : Protocol) (schema : Schema) (ws : List Write) (endpoint : List ℕ) (omit : Omit) → fault schema ws endpoint ≡ None → IsPlacedRequest protocol schema ws endpoint omit
+pub placed_request : (protocol : Protocol) (schema : Schema) (ws : List Write) (endpoint : List ℕ) (omit : OmitFlags) → fault schema ws endpoint ≡ None → IsPlacedRequest protocol schema ws endpoint omit
 placed_request protocol schema ws endpoint omit e =
     let c = conforming schema ws endpoint e in
     record { path = c.path; fills = c.fills; is = place_conforming protocol schema ws endpoint omit c }
 
 -- What two placed requests with the same facts share.
-pub record SeeSame (protocol : Protocol) (schema : Schema) (omit : Omit) (v w : List Write) (path other : List ℕ) : Type 0 where
+pub record SeeSame (protocol : Protocol) (schema : Schema) (omit : OmitFlags) (v w : List Write) (path other : List ℕ) : Type 0 where
   pub paths : before_first is_question_mark (with_query path (pairs schema v)) ≡ before_first is_question_mark (with_query other (pairs schema w))
   pub headers : (name : List ℕ) → values_at name (all_headers protocol (body protocol.text_of schema v) omit (headers schema v)) ≡ values_at name (all_headers protocol (body protocol.text_of schema w) omit (headers schema w))
   pub query : (name : List ℕ) → values_at name (map named_piece (query_pieces (with_query path (pairs schema v)))) ≡ values_at name (map named_piece (query_pieces (with_query other (pairs schema w))))
   pub body : (body protocol.text_of schema v).bytes ≡ (body protocol.text_of schema w).bytes
 
-pub see_same : (protocol : Protocol) (schema : Schema) (endpoint : List ℕ) (omit : Omit) (v w : List Write) (x : IsPlacedRequest protocol schema v endpoint omit) (y : IsPlacedRequest protocol schema w endpoint omit)
+pub see_same : (protocol : Protocol) (schema : Schema) (endpoint : List ℕ) (omit : OmitFlags) (v w : List Write) (x : IsPlacedRequest protocol schema v endpoint omit) (y : IsPlacedRequest protocol schema w endpoint omit)
     → SeesSame protocol schema endpoint omit v w → SeeSame protocol schema omit v w x.path y.path
 see_same protocol schema endpoint omit v w x y e =
     let both : Some (facts (request_at protocol schema v omit (with_query x.path (pairs schema v)))) ≡ Some (facts (request_at protocol schema w omit (with_query y.path (pairs schema w)))) =

@@ -1,12 +1,7 @@
 -- Escaped texts have no reserved byte.
-use Rattle.std.proofs.Common.{◌≡◌, ◌≢◌, refl, sym, ◌∙◌, ap, ℕ, ◌⊎◌, inl, inr, arith, Bool, true, false, cond, ◌==◌, List, [], ◌∷◌, All}
-use Rattle.std.proofs.lemmas.Bool.{eqb-true}
+use Rattle.smithy_unambiguity.proofs.Common.{◌≡◌, ◌≢◌, refl, sym, ◌∙◌, ap, ℕ, ◌⊎◌, inl, inr, arith, Bool, true, false, cond, ◌==◌, List, [], ◌∷◌, All, if◌then◌else◌, eqb-true, percent_encode_byte, Hole, is_unreserved, escape_byte, escape, hole_text, keep_slashes}
 use Rattle.std.proofs.lemmas.List.Elements.{All-head, All-tail}
-use Rattle.percent_encoding.specs.Percent.{percent_encode_byte}
 use Rattle.percent_encoding.proofs.PercentLemmas.{IsEscapeByte, All-percent_encode_byte}
-use Rattle.smithy_schema.specs.Templates.{Hole}
-use Rattle.smithy_strings.specs.Escapes.{is_unreserved, escape_byte, escape}
-use Rattle.smithy_binding.specs.Filling.{hole_text, keep_slashes, kept_byte}
 use Rattle.smithy_unambiguity.proofs.Cuts.{HasNo, HasNo-append}
 
 -- a byte that no escape has
@@ -50,7 +45,7 @@ HasNo-escape c is (b ∷ text) = HasNo-append c (escape_byte b) (escape text) (H
 -- where `/` is kept, it is the one reserved byte
 HasNo-keep_slashes : (c : ℕ) → IsReserved c → c ≢ 47 → (text : List ℕ) → HasNo c (keep_slashes text)
 HasNo-keep_slashes c is other [] = tt
-HasNo-keep_slashes c is other (b ∷ text) = HasNo-append c (kept_byte b) (keep_slashes text) (go (b == 47) refl) (HasNo-keep_slashes c is other text)
+HasNo-keep_slashes c is other (b ∷ text) = HasNo-append c (if b == 47 then b ∷ [] else escape_byte b) (keep_slashes text) (go (b == 47) refl) (HasNo-keep_slashes c is other text)
   where
     go : (t : Bool) → (b == 47) ≡ t → HasNo c (cond t (b ∷ []) (escape_byte b))
     go true e = ((λ h. other (sym h ∙ eqb-true b 47 e)), tt)

@@ -1,17 +1,5 @@
 -- What the laws assume, and the three statements that they follow from.
-use Rattle.std.proofs.Common.{◌≡◌, ℕ, List, Option, None, IsTrue}
-use Rattle.smithy_schema.specs.Nodes.{Schema}
-use Rattle.smithy_schema.specs.WellMade.{is_well_made}
-use Rattle.smithy_serde.specs.Held.{Held}
-use Rattle.smithy_serde.specs.Lawful.{IsLawfulText}
-use Rattle.smithy_serde.specs.Values.{Write}
-use Rattle.smithy_binding.specs.Bindings.{pairs}
-use Rattle.smithy_binding.specs.Checked.{checked_input}
-use Rattle.smithy_binding.specs.Faults.{legal_fault}
-use Rattle.smithy_binding.specs.NormalForm.{view}
-use Rattle.smithy_binding.specs.Placing.{Protocol, Omit, with_query}
-use Rattle.smithy_binding.specs.Typed.{IsTyped}
-use Rattle.smithy_unambiguity.specs.Laws.{SeesSame}
+use Rattle.smithy_unambiguity.proofs.Common.{◌≡◌, ℕ, List, Option, None, IsTrue, Schema, is_well_made, Held, IsLawfulText, Write, pairs, checked_input, legal_fault, view, Protocol, OmitFlags, with_query, IsTyped, SeesSame}
 
 -- a lawful codec, and a checked schema that a program can hold
 pub record IsSetting (protocol : Protocol) (schema : Schema) : Type 0 where
@@ -22,21 +10,21 @@ pub record IsSetting (protocol : Protocol) (schema : Schema) : Type 0 where
 
 -- what is seen tells the view
 abbrev pub SeenTellsView : Type 0
-SeenTellsView = (protocol : Protocol) (schema : Schema) (endpoint : List ℕ) (omit : Omit) (v w : List Write) → IsSetting protocol schema
+SeenTellsView = (protocol : Protocol) (schema : Schema) (endpoint : List ℕ) (omit : OmitFlags) (v w : List Write) → IsSetting protocol schema
     → IsTyped protocol schema endpoint omit v → IsTyped protocol schema endpoint omit w → SeesSame protocol schema endpoint omit v w → view schema v ≡ view schema w
 
 -- the view is typed
 abbrev pub ViewTyped : Type 0
-ViewTyped = (protocol : Protocol) (schema : Schema) (endpoint : List ℕ) (omit : Omit) (ws : List Write) → IsSetting protocol schema
+ViewTyped = (protocol : Protocol) (schema : Schema) (endpoint : List ℕ) (omit : OmitFlags) (ws : List Write) → IsSetting protocol schema
     → IsTyped protocol schema endpoint omit ws → IsTyped protocol schema endpoint omit (view schema ws)
 
 -- the view is seen the same
 abbrev pub SeenOfView : Type 0
-SeenOfView = (protocol : Protocol) (schema : Schema) (endpoint : List ℕ) (omit : Omit) (ws : List Write) → IsSetting protocol schema
+SeenOfView = (protocol : Protocol) (schema : Schema) (endpoint : List ℕ) (omit : OmitFlags) (ws : List Write) → IsSetting protocol schema
     → IsTyped protocol schema endpoint omit ws → SeesSame protocol schema endpoint omit (view schema ws) ws
 
 -- the target of the view is as short and as legal as the input's
 abbrev pub TargetOfView : Type 0
-TargetOfView = (protocol : Protocol) (schema : Schema) (endpoint : List ℕ) (omit : Omit) (ws : List Write) → IsSetting protocol schema
+TargetOfView = (protocol : Protocol) (schema : Schema) (endpoint : List ℕ) (omit : OmitFlags) (ws : List Write) → IsSetting protocol schema
     → IsTyped protocol schema endpoint omit ws → (path : List ℕ) → legal_fault (with_query path (pairs schema ws)) ≡ None
     → legal_fault (with_query path (pairs schema (view schema ws))) ≡ None

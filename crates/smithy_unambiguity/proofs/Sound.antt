@@ -1,41 +1,22 @@
 -- The document of a shaped value is one that a codec tells apart: canonical, and in range.
-use Rattle.std.proofs.Common.{◌≡◌, refl, sym, ◌∙◌, ap, subst, ℕ, ◌^◌, ◌<◌, arith, Bool, true, false, cond, ◌&&◌, List, [], ◌∷◌, find, filter_map, Option, Some, None, option_map, option_and_then, is_some, Result, Ok, ℤ, pos, negsuc}
 use Rattle.std.specs.Prelude.{int_le, int_lt, neg_ℤ}
-use Rattle.std.specs.List.{AllByRecursion, cons_option}
-use Rattle.std.specs.Option.{option_map_or}
+use Rattle.smithy_unambiguity.proofs.Common.{◌≡◌, refl, sym, ◌∙◌, ap, subst, ℕ, ◌^◌, ◌<◌, arith, Bool, true, false, cond, ◌&&◌, List, [], ◌∷◌, find, filter_map, Option, Some, None, option_map, option_and_then, is_some, Result, Ok, ℤ, pos, negsuc, AllByRecursion, cons_option, option_map_or, is_utf8, and_parts, and_from, lt-ltb, same_text, are_distinct, then_give, Document, Members, items_of, list_of_members, number_of, is_canonical, IsSound, Node, Table, Schema, node_at, at_place, element_of, key_of, value_of, shape, has_utf8, Scalar, Value, Writes, no_writes, write, keys_of, is_signed_within, is_number_in_range, is_in_range, is_document_in_range, are_items_in_range, are_members_in_range, is_before, is_sound, DocumentFault, document_of, elements_of, fields_of, scalar_document, base64, settled_fields, settled_entries, is_shaped, are_shaped, are_fields_shaped, are_entries_shaped, fits_at, has_distinct_fields, named_member, is_named, is_kind, Stands, try_gave, give_gave, members_ordered, EntriesHave, BehindHave, entries_paired, FieldsHave, fields_paired, Pairs, Behind, Ascends, all_ascend, up_tail, Beside, Aligned, big_integer-utf8, big_decimal-utf8, ascii_utf8}
 use Rattle.std.specs.Ordering.{match_ordering}
 use Rattle.std.specs.Cmp.Lexicographic.{same_text as same_from_test}
-use Rattle.std.specs.Str.{is_utf8}
-use Rattle.std.proofs.lemmas.Bool.{and_parts, and_from, lt-ltb}
 use Rattle.std.proofs.lemmas.Int.{ints}
 use Rattle.base64.specs.Engines.{standard}
 use Rattle.base64.proofs.EngineFacts.{IsAscii-encode_of}
-use Rattle.smithy_types.specs.Texts.{same_text, are_distinct}
-use Rattle.smithy_types.specs.Results.{then_give}
 use Rattle.smithy_types.specs.Documents as doc
-use Rattle.smithy_types.specs.Documents.{Document, Members, items_of, members_of, list_of_members, number_of, is_canonical}
+use Rattle.smithy_types.specs.Documents.{members_of}
 use Rattle.smithy_ids.specs.declared.shape_type.ShapeType.TheVariants as kind
-use Rattle.smithy_schema.specs.Defining.{IsSound}
-use Rattle.smithy_schema.specs.Nodes.{Node, Table, Schema, node_at, at_place, element_of, key_of, value_of, shape}
-use Rattle.smithy_schema.specs.WellMade.{has_utf8}
 use Rattle.smithy_serde.specs.Values as value
-use Rattle.smithy_serde.specs.Values.{Scalar, Value, Writes, no_writes, write, keys_of}
-use Rattle.smithy_serde.specs.Ranges.{is_signed_within, is_number_in_range, is_in_range, is_document_in_range, are_items_in_range, are_members_in_range, is_before}
-use Rattle.smithy_serde.specs.Lawful.{is_sound}
-use Rattle.smithy_serde.specs.DocumentOf.{DocumentFault, document_of, elements_of, entries_of, fields_of, scalar_document, base64}
-use Rattle.smithy_serde.specs.NormalBody.{settled_fields, settled_entries}
-use Rattle.smithy_serde.specs.Shaped.{is_shaped, are_shaped, are_fields_shaped, are_entries_shaped, fits_at, has_distinct_fields, named_member, is_named, is_kind}
-use Rattle.smithy_document.specs.ReadsBack.{Stands}
-use Rattle.smithy_document.proofs.NamedPairs.{try_gave, give_gave, members_ordered, EntriesHave, BehindHave, entries_paired, FieldsHave, fields_paired}
-use Rattle.smithy_document.proofs.OrderedPairs.{Pairs, Behind, Ascends, all_ascend, up_tail, Beside, Aligned}
+use Rattle.smithy_serde.specs.DocumentOf.{entries_of}
 use Rattle.smithy_document.proofs.ShapedCanonical.{canonical_document}
 use Rattle.smithy_document.proofs.StandingNodes.{Standing, stands_cited, stands_shape, found_stands}
-use Rattle.smithy_strings.proofs.AsciiTexts.{big_integer-utf8, big_decimal-utf8}
 use Rattle.smithy_unambiguity.proofs.PairLemmas.{AllPairs, ordered_all}
 use Rattle.smithy_unambiguity.proofs.Settled.{shaped_range, entries_keep_shape, fields_keep_shape}
 use Rattle.smithy_unambiguity.proofs.WellMadeNodes.{has_texts}
 use Rattle.smithy_strings.proofs.Widths.{long_width}
-use Rattle.smithy_strings.proofs.WireTexts.{ascii_utf8}
 
 -- the name of a member is UTF-8
 found_utf8 : (t : Table) (name : List ℕ) (places : List ℕ) → IsSound t → is_some (find (is_named (Some name)) (filter_map (at_place t) places)) ≡ true → is_utf8 name ≡ true

@@ -1,9 +1,5 @@
 -- What a checked schema says of its prefix maps and its query maps.
-use Rattle.std.proofs.Common.{◌≡◌, true, ◌&&◌, is_some}
-use Rattle.std.specs.List.{list_all}
-use Rattle.std.proofs.lemmas.Bool.{and_parts}
-use Rattle.smithy_schema.specs.Nodes.{Schema}
-use Rattle.smithy_binding.specs.Checked.{IsCheckedInput, has_at_most_one, members_with, is_text_map, is_query_map}
+use Rattle.smithy_unambiguity.proofs.Common.{◌≡◌, true, ◌&&◌, is_some, list_all, and_parts, Schema, IsCheckedInput, has_at_most_one, members_with, is_text_map, is_query_map}
 
 pub record HasSoundMaps (schema : Schema) : Type 0 where
   pub one_prefix_map : has_at_most_one (λ t. is_some t.http_prefix_headers) schema ≡ true

@@ -1,21 +1,7 @@
 -- What is seen of a request tells the normal form's part of each label and query member.
-use Rattle.std.proofs.Common.{◌≡◌, refl, sym, ◌∙◌, ap, ℕ, Bool, true, false, not, ◌&&◌, ◌||◌, List, [], ◌∷◌, Option, Some, None, option_map, option_and_then, unwrap_or, is_none, if◌then◌else◌}
-use Rattle.std.proofs.lemmas.Bool.{and_parts}
-use Rattle.smithy_types.specs.Texts.{found}
+use Rattle.smithy_unambiguity.proofs.Common.{◌≡◌, refl, sym, ◌∙◌, ap, ℕ, Bool, true, false, not, ◌&&◌, ◌||◌, List, [], ◌∷◌, Option, Some, None, option_map, option_and_then, unwrap_or, is_none, if◌then◌else◌, and_parts, found, same_kind, is_scalar, one_kind, Schema, member_at, members_of, name_of, to_query, to_label, binding_of, Value, Write, no_writes, escape, AreBytes, values_at, pairs, labels, texts, query_names, place_at, member_text, has_element, has_bound_kind, has_header_kind, has_query_kind, has_label_kind, is_placed_at, has_utf8, Protocol, OmitFlags, template_of, member_view, bound_view_at, with_own_elements, unless_empty}
 use Rattle.smithy_ids.specs.declared.shape_type.ShapeType.TheVariants as kind
-use Rattle.smithy_ids.specs.Kinds.{same_kind, is_scalar}
-use Rattle.smithy_ids.proofs.KindLemmas.{one_kind}
-use Rattle.smithy_schema.specs.Nodes.{Schema, member_at, members_of, name_of, to_query, to_label, binding_of}
 use Rattle.smithy_serde.specs.Values as value
-use Rattle.smithy_serde.specs.Values.{Value, Write, no_writes}
-use Rattle.smithy_strings.specs.Escapes.{escape, AreBytes}
-use Rattle.smithy_http.specs.Facts.{values_at}
-use Rattle.smithy_binding.specs.Bindings.{pairs, labels, texts, query_names, place_of, member_text}
-use Rattle.smithy_binding.specs.Checked.{has_element, has_bound_kind, has_header_kind, has_query_kind, has_label_kind}
-use Rattle.smithy_binding.specs.Faults.{is_placed_at}
-use Rattle.smithy_schema.specs.WellMade.{has_utf8}
-use Rattle.smithy_binding.specs.Placing.{Protocol, Omit, template_of}
-use Rattle.smithy_binding.specs.NormalForm.{member_view, bound_view_at, with_own_elements, unless_empty}
 use Rattle.smithy_strings.proofs.Bytes.{AreBytes-from_utf8}
 use Rattle.smithy_unambiguity.proofs.ByMember.{first_value, first_texts}
 use Rattle.smithy_unambiguity.proofs.ByName.{found-front, front}
@@ -42,7 +28,7 @@ there m v is = ap (λ (o : Option (List (List ℕ))). unwrap_or o []) is.texts
 
 -- the one text of a flat value
 one_text : (m : Schema) (v : Value) → is_flat m.node.kind ≡ true → (is : IsPlacedValue m v) → (t : List ℕ) × (is.ts ≡ t ∷ [])
-one_text m v flat is = by (member_text (place_of m) m v) (sym (flat_texts m v (flat_value m.node.kind v flat is.value.fits)) ∙ is.texts)
+one_text m v flat is = by (member_text (place_at (binding_of m)) m v) (sym (flat_texts m v (flat_value m.node.kind v flat is.value.fits)) ∙ is.texts)
   where
     by : (o : Option (List ℕ)) → option_map (λ (t : List ℕ). t ∷ []) o ≡ Some is.ts → (t : List ℕ) × (is.ts ≡ t ∷ [])
     by None e = absurd (cc e)
@@ -72,7 +58,7 @@ label_kind m is kinds =
     let c : is_scalar m.node.kind ≡ true = ap (λ t. not t || is_scalar m.node.kind) (sym is) ∙ b.0 in
     ap (λ t. t || same_kind m.node.kind kind.Blob) c
 
-pub label_member_told : (protocol : Protocol) (schema : Schema) (endpoint : List ℕ) (omit : Omit) (v w : List Write) → AreSeenSame protocol schema endpoint omit v w → (i : ℕ) (m : Schema)
+pub label_member_told : (protocol : Protocol) (schema : Schema) (endpoint : List ℕ) (omit : OmitFlags) (v w : List Write) → AreSeenSame protocol schema endpoint omit v w → (i : ℕ) (m : Schema)
     → member_at schema i ≡ Some m → has_bound_kind m ≡ true → binding_of m ≡ to_label → member_view schema v i m ≡ member_view schema w i m
 label_member_told protocol schema endpoint omit v w are i m at kinds label =
     bound_told protocol schema endpoint omit v w are i m to_label at label refl
@@ -99,7 +85,7 @@ label_member_told protocol schema endpoint omit v w are i m at kinds label =
 -- The query.
 
 -- at each name the same texts stand
-pub pairs_told : (protocol : Protocol) (schema : Schema) (endpoint : List ℕ) (omit : Omit) (v w : List Write) → AreSeenSame protocol schema endpoint omit v w → (name : List ℕ) → AreBytes name
+pub pairs_told : (protocol : Protocol) (schema : Schema) (endpoint : List ℕ) (omit : OmitFlags) (v w : List Write) → AreSeenSame protocol schema endpoint omit v w → (name : List ℕ) → AreBytes name
     → values_at name (pairs schema v) ≡ values_at name (pairs schema w)
 pairs_told protocol schema endpoint omit v w are name bytes =
     query_tells_texts are.request_v.path are.request_w.path name (pairs schema v) (pairs schema w) bytes
@@ -112,7 +98,7 @@ no_elements : (m : Schema) (v : Value) → has_element is_scalar m ≡ true → 
 no_elements m v has is none =
     let l = list_of_element is_scalar m has in
     let a = bound_list is_scalar m l v is.value in
-    let empty = none_written (place_of m) a.ws (ap (texts m) (sym a.is) ∙ is.texts ∙ ap Some none) in
+    let empty = none_written (place_at (binding_of m)) a.ws (ap (texts m) (sym a.is) ∙ is.texts ∙ ap Some none) in
     ap (λ u. unless_empty (with_own_elements m u)) (a.is ∙ ap value.list empty)
 
 list_part : (m : Schema) (o p : Option Value) → has_element is_scalar m ≡ true → ((v : Value) → o ≡ Some v → IsPlacedValue m v) → ((v : Value) → p ≡ Some v → IsPlacedValue m v)
@@ -153,7 +139,7 @@ query_part m names name o p kinds is_o is_p e = go (same_kind m.node.kind kind.L
         let q : false ≡ true = sym is_list ∙ ap (λ k. same_kind k kind.List) l.kind in
         absurd (cc q)
 
-pub query_member_told : (protocol : Protocol) (schema : Schema) (endpoint : List ℕ) (omit : Omit) (v w : List Write) → AreSeenSame protocol schema endpoint omit v w → (i : ℕ) (m : Schema) (name : List ℕ)
+pub query_member_told : (protocol : Protocol) (schema : Schema) (endpoint : List ℕ) (omit : OmitFlags) (v w : List Write) → AreSeenSame protocol schema endpoint omit v w → (i : ℕ) (m : Schema) (name : List ℕ)
     → member_at schema i ≡ Some m → has_bound_kind m ≡ true → binding_of m ≡ to_query name → member_view schema v i m ≡ member_view schema w i m
 query_member_told protocol schema endpoint omit v w are i m name at kinds query =
     bound_told protocol schema endpoint omit v w are i m (to_query name) at query refl

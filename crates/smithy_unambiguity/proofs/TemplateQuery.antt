@@ -1,22 +1,10 @@
 -- The query of a filled template is the template's own.
-use Rattle.std.proofs.Common.{◌≡◌, refl, sym, ◌∙◌, ap, subst, ℕ, arith, Bool, true, false, not, cond, ◌==◌, ◌&&◌, ◌||◌, List, [], ◌∷◌, ◌++◌, map, Ok, codes, ne_eqb}
-use Rattle.std.specs.List.{slice_split, after_first, join_with_byte}
-use Rattle.std.proofs.lemmas.Bool.{and_parts, not-true}
-use Rattle.std.proofs.lemmas.List.{append_assoc, append-nil}
-use Rattle.smithy_types.specs.Texts.{found, has_byte}
-use Rattle.smithy_schema.specs.Templates.{Piece, Template, pieces, holes_of}
-use Rattle.smithy_http.specs.Facts.{query_pieces}
-use Rattle.smithy_binding.specs.Filling.{hole_text, fill, fill_rest}
-use Rattle.smithy_binding.specs.Placing.{pair_text, with_query}
-use Rattle.smithy_binding.specs.Clear.{is_clear, ends_segment, begins_segment, are_whole_segments, is_greedy_last}
+use Rattle.smithy_unambiguity.proofs.Common.{◌≡◌, refl, sym, ◌∙◌, ap, subst, ℕ, arith, Bool, true, false, not, cond, ◌==◌, ◌&&◌, ◌||◌, List, [], ◌∷◌, ◌++◌, map, Ok, codes, ne_eqb, slice_split, after_first, join_with_byte, and_parts, not-true, append_assoc, append-nil, found, has_byte, Piece, Template, pieces, holes_of, query_pieces, hole_text, fill, fill_rest, pair_text, with_query, is_clear, ends_segment, begins_segment, are_whole_segments, is_greedy_last, before_query, Schema, texts}
 use Rattle.smithy_unambiguity.proofs.Cuts.{HasNo, before, before-cut, before_none, before_first-before}
 use Rattle.smithy_unambiguity.proofs.Reserved.{question, HasNo-hole_text}
 use Rattle.smithy_unambiguity.proofs.Paths.{filled, between, HasNo-from_has_byte}
 use Rattle.smithy_unambiguity.proofs.Queries.{after, after_first-after}
 use Rattle.smithy_unambiguity.proofs.Labels.{filled_path}
-use Rattle.smithy_types.specs.Grammars.{before_query}
-use Rattle.smithy_schema.specs.Nodes.{Schema}
-use Rattle.smithy_binding.specs.Bindings.{texts}
 
 has-behind : (xs ys : List ℕ) → HasNo 63 xs → has_byte 63 (xs ++ ys) ≡ has_byte 63 ys
 has-behind [] ys none = refl

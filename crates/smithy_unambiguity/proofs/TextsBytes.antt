@@ -1,20 +1,6 @@
 -- The texts of labels and of the query, and the names in the query, are bytes.
-use Rattle.std.proofs.Common.{◌≡◌, refl, sym, ◌∙◌, ap, subst, ℕ, true, false, ◌&&◌, List, [], ◌∷◌, map, filter, flat_map, Option, Some, None, option_map, unwrap_or, is_some}
-use Rattle.std.specs.List.{AllByRecursion}
-use Rattle.std.specs.Str.{is_utf8}
-use Rattle.std.proofs.lemmas.Bool.{and_parts}
-use Rattle.smithy_types.specs.Results.{each}
-use Rattle.smithy_schema.specs.Nodes.{Schema, member_at, name_of, Binding, to_query, to_query_map, to_label, binding_of}
+use Rattle.smithy_unambiguity.proofs.Common.{◌≡◌, refl, sym, ◌∙◌, ap, subst, ℕ, true, false, ◌&&◌, List, [], ◌∷◌, map, filter, flat_map, Option, Some, None, option_map, unwrap_or, is_some, AllByRecursion, is_utf8, and_parts, each, Schema, member_at, name_of, Binding, to_query, to_query_map, to_label, binding_of, Value, Writes, no_writes, write, Write, list_of, text_of_key, is_in_range, are_writes_in_range, are_in_range, Resolved, all_resolved, firsts, AreBytes, Place, labels, labelled_at, pairs, pairs_at, query_names, texts, map_entries, entries_of, entry_texts, pairs_with, place_at, entry_pairs, member_text, element_text, labelled, pairs_of, has_key_outside, writes_fault, is_well_made, has_utf8, utf8_from_low, wire_utf8}
 use Rattle.smithy_serde.specs.Values as value
-use Rattle.smithy_serde.specs.Values.{Value, Writes, no_writes, write, Write, list_of, text_of_key}
-use Rattle.smithy_serde.specs.Ranges.{is_in_range, are_writes_in_range, are_in_range}
-use Rattle.smithy_serde.specs.Writes.{Resolved, all_resolved, firsts}
-use Rattle.smithy_strings.specs.Escapes.{AreBytes}
-use Rattle.smithy_strings.specs.declared.wire.Place.{Place}
-use Rattle.smithy_binding.specs.Bindings.{labels, labelled, labelled_at, pairs, pairs_of, pairs_at, query_names, has_key_outside, texts, map_entries, entries_of, entry_texts, entry_pairs, member_text, element_text, place_of, pairs_with}
-use Rattle.smithy_binding.specs.Faults.{writes_fault}
-use Rattle.smithy_schema.specs.WellMade.{is_well_made, has_utf8}
-use Rattle.smithy_strings.proofs.AsciiTexts.{utf8_from_low}
 use Rattle.smithy_strings.proofs.Bytes.{AreBytes-from_utf8}
 use Rattle.smithy_unambiguity.proofs.Traits.{trait_of}
 use Rattle.smithy_unambiguity.proofs.Conforming.{resolved_at, IsFittingWrite, fitting_writes}
@@ -22,7 +8,6 @@ use Rattle.smithy_unambiguity.proofs.Firsts.{all_firsts}
 use Rattle.smithy_unambiguity.proofs.Members.{member_in_place}
 use Rattle.smithy_unambiguity.proofs.Lists.{all_apply, both_hold, all_filter, all_given}
 use Rattle.smithy_unambiguity.proofs.Values.{each_first}
-use Rattle.smithy_strings.proofs.WireTexts.{wire_utf8}
 use Rattle.smithy_unambiguity.proofs.Paths.{HaveBytes}
 
 -- each text is UTF-8
@@ -36,19 +21,19 @@ elements_utf8 place (write l v ws) ts range e =
     let parts = and_parts (is_in_range v) (are_writes_in_range ws) range in
     subst AreUtf8 x.is (wire_utf8 l.time_format false place v x.text parts.0 x.first, elements_utf8 place ws x.rest parts.1 x.later)
 
-one_utf8 : (m : Schema) (v : Value) → is_in_range v ≡ true → AreUtf8 (unwrap_or (option_map (λ t. t ∷ []) (member_text (place_of m) m v)) [])
-one_utf8 m v range = go (member_text (place_of m) m v) refl
+one_utf8 : (m : Schema) (v : Value) → is_in_range v ≡ true → AreUtf8 (unwrap_or (option_map (λ t. t ∷ []) (member_text (place_at (binding_of m)) m v)) [])
+one_utf8 m v range = go (member_text (place_at (binding_of m)) m v) refl
   where
-    go : (o : Option (List ℕ)) → member_text (place_of m) m v ≡ o → AreUtf8 (unwrap_or (option_map (λ t. t ∷ []) o) [])
+    go : (o : Option (List ℕ)) → member_text (place_at (binding_of m)) m v ≡ o → AreUtf8 (unwrap_or (option_map (λ t. t ∷ []) o) [])
     go None e = tt
-    go (Some t) e = (wire_utf8 m.node.traits.timestamp_format (is_some m.node.traits.media_type) (place_of m) v t range e, tt)
+    go (Some t) e = (wire_utf8 m.node.traits.timestamp_format (is_some m.node.traits.media_type) (place_at (binding_of m)) v t range e, tt)
 
 pub texts_utf8 : (m : Schema) (v : Value) → is_in_range v ≡ true → AreUtf8 (unwrap_or (texts m v) [])
-texts_utf8 m (value.list ws) range = go (each (element_text (place_of m)) (list_of ws)) refl
+texts_utf8 m (value.list ws) range = go (each (element_text (place_at (binding_of m))) (list_of ws)) refl
   where
-    go : (o : Option (List (List ℕ))) → each (element_text (place_of m)) (list_of ws) ≡ o → AreUtf8 (unwrap_or o [])
+    go : (o : Option (List (List ℕ))) → each (element_text (place_at (binding_of m))) (list_of ws) ≡ o → AreUtf8 (unwrap_or o [])
     go None e = tt
-    go (Some ts) e = elements_utf8 (place_of m) ws ts range e
+    go (Some ts) e = elements_utf8 (place_at (binding_of m)) ws ts range e
 texts_utf8 m (value.map ws) range = tt
 texts_utf8 m (value.scalar x) range = one_utf8 m (value.scalar x) range
 texts_utf8 m (value.structure ws) range = one_utf8 m (value.structure ws) range

@@ -1,6 +1,5 @@
 -- A member's binding tells the trait that it stands for.
-use Rattle.std.proofs.Common.{◌≡◌, refl, subst, ℕ, Bool, true, false, List, Option, Some, None}
-use Rattle.smithy_schema.specs.Nodes.{Schema, Binding, to_header, to_prefix, to_query, to_query_map, to_label, to_payload, to_body, binding_at, binding_of}
+use Rattle.smithy_unambiguity.proofs.Common.{◌≡◌, refl, subst, ℕ, Bool, true, false, List, Option, Some, None, Schema, Binding, to_header, to_prefix, to_query, to_query_map, to_label, to_payload, to_body, binding_at, binding_of}
 
 abbrev TraitAt : Option (List ℕ) → Option (List ℕ) → Option (List ℕ) → Bool → Bool → Bool → Binding → Type 0
 TraitAt header prefix query query_map label payload (to_header name) = header ≡ Some name

@@ -1,19 +1,7 @@
 -- The body of unbound members tells the normal form of each.
-use Rattle.std.proofs.Common.{◌≡◌, refl, sym, ◌∙◌, ap, ℕ, zero, suc, Bool, true, false, not, ◌||◌, List, [], ◌∷◌, slice_get, Option, Some, None}
-use Rattle.std.specs.List.{list_any}
-use Rattle.std.proofs.lemmas.Bool.{and_parts}
-use Rattle.smithy_ids.specs.declared.shape_type.ShapeType.{ShapeType}
-use Rattle.smithy_schema.specs.Nodes.{Schema, member_at, members_of as nodes_of, to_body, binding_of, is_outside_body, is_bound}
-use Rattle.smithy_schema.specs.WellMade.{is_well_made}
+use Rattle.smithy_unambiguity.proofs.Common.{◌≡◌, refl, sym, ◌∙◌, ap, ℕ, zero, suc, Bool, true, false, not, ◌||◌, List, [], ◌∷◌, slice_get, Option, Some, None, list_any, and_parts, ShapeType, Schema, member_at, members_of as nodes_of, to_body, binding_of, is_outside_body, is_bound, is_well_made, Value, Write, all_resolved, payload_kind, has_unbound_member, is_raw_kind, is_codec_kind, form_at, form_in, body_parts, body, text_of_document, bytes_by, IsCheckedInput, has_at_most_one, is_sound_payload, Protocol, OmitFlags, IsTyped, member_view}
 use Rattle.smithy_serde.specs.Values as value
-use Rattle.smithy_serde.specs.Values.{Value, Write}
-use Rattle.smithy_serde.specs.Writes.{all_resolved}
-use Rattle.smithy_binding.specs.Bodies.{payload_kind, has_unbound_member, form_at, form_in, body_parts, body, text_of_document, bytes_by}
 use Rattle.smithy_binding.specs.declared.body_form.BodyForm.TheVariants as form
-use Rattle.smithy_binding.specs.Checked.{IsCheckedInput, has_at_most_one, is_sound_payload, is_payload_kind}
-use Rattle.smithy_binding.specs.Placing.{Protocol, Omit}
-use Rattle.smithy_binding.specs.Typed.{IsTyped}
-use Rattle.smithy_binding.specs.NormalForm.{member_view}
 use Rattle.smithy_unambiguity.proofs.BodyObject.{typed_bodied, body_node, body_node_stands, bodied_writes, body_follows, body_field, body_fields_told, free_member_view}
 use Rattle.smithy_unambiguity.proofs.HeadersTold.{AreSeenSame}
 use Rattle.smithy_unambiguity.proofs.Members.{member_in_place}
@@ -48,20 +36,20 @@ unbound_form_is schema checked i m at free = (λ k. form_at (none k) (some k))
       where
         go : (o : Option ShapeType) → is_sound_payload o true ≡ true → o ≡ None
         go None e = refl
-        go (Some k) e = let q = (and_parts (is_payload_kind k) false e).1 in absurd (cc q)
+        go (Some k) e = let q = (and_parts (is_raw_kind k || is_codec_kind k) false e).1 in absurd (cc q)
 
 -- The body is the text of the structure's document.
 
 abbrev pub body_value : Schema → List Write → Value
 body_value schema ws = value.structure (bodied_writes (all_resolved schema ws))
 
-pub unbound_own_text : (protocol : Protocol) (schema : Schema) (endpoint : List ℕ) (omit : Omit) (ws : List Write) → IsCheckedInput schema → is_well_made schema ≡ true → IsTyped protocol schema endpoint omit ws → form_in schema ≡ form.Unbound
+pub unbound_own_text : (protocol : Protocol) (schema : Schema) (endpoint : List ℕ) (omit : OmitFlags) (ws : List Write) → IsCheckedInput schema → is_well_made schema ≡ true → IsTyped protocol schema endpoint omit ws → form_in schema ≡ form.Unbound
     → HasOwnText (body_node schema) (body_value schema ws)
 unbound_own_text protocol schema endpoint omit ws checked well_made typed is =
     own_text protocol schema endpoint omit ws (body_node schema) (body_value schema ws) typed (body_node_stands schema well_made) (document_value_is schema ws form.Unbound is)
     (body_follows schema checked well_made (all_resolved schema ws) (typed_bodied protocol schema endpoint omit ws typed))
 
-pub unbound_member_told : (protocol : Protocol) (schema : Schema) (endpoint : List ℕ) (omit : Omit) (v w : List Write) → AreSeenSame protocol schema endpoint omit v w → (i : ℕ) (m : Schema)
+pub unbound_member_told : (protocol : Protocol) (schema : Schema) (endpoint : List ℕ) (omit : OmitFlags) (v w : List Write) → AreSeenSame protocol schema endpoint omit v w → (i : ℕ) (m : Schema)
     → member_at schema i ≡ Some m → binding_of m ≡ to_body → member_view schema v i m ≡ member_view schema w i m
 unbound_member_told protocol schema endpoint omit v w are i m at in_body =
     let free = free_member m in_body in

@@ -1,27 +1,9 @@
 -- Values of flat kinds: each is a scalar or bytes, and its texts are bytes.
-use Rattle.std.proofs.Common.{◌≡◌, refl, sym, ◌∙◌, ap, ℕ, Bool, true, false, List, [], ◌∷◌, Option, Some, None, option_map, option_and_then}
-use Rattle.std.specs.List.{list_all}
-use Rattle.std.specs.Option.{option_or}
-use Rattle.std.proofs.lemmas.Bool.{and_parts, and_from}
-use Rattle.smithy_types.specs.Results.{each, unless}
-use Rattle.smithy_ids.specs.declared.shape_type.ShapeType.{ShapeType}
+use Rattle.smithy_unambiguity.proofs.Common.{◌≡◌, refl, sym, ◌∙◌, ap, ℕ, Bool, true, false, List, [], ◌∷◌, Option, Some, None, option_map, option_and_then, list_all, option_or, and_parts, and_from, each, unless, ShapeType, TimestampFormat, one_format, Schema, binding_of, Value, Label, Writes, no_writes, write, Write, list_of, label_of, is_in_range, are_writes_in_range, fits, fits_in_range, scalar_kind, settled, settled_elements, Place, wire, texts, header_texts, place_at, member_text, element_text, element_fault, wrong_item_kind, same_format, with_own_elements}
 use Rattle.smithy_ids.specs.declared.shape_type.ShapeType.TheVariants as kind
-use Rattle.smithy_ids.specs.declared.traits.TimestampFormat.{TimestampFormat}
-use Rattle.smithy_ids.proofs.KindLemmas.{one_format}
-use Rattle.smithy_schema.specs.Nodes.{Schema}
 use Rattle.smithy_serde.specs.Values as value
-use Rattle.smithy_serde.specs.Values.{Value, Label, Writes, no_writes, write, Write, list_of, label_of}
-use Rattle.smithy_serde.specs.Ranges.{is_in_range, are_writes_in_range}
-use Rattle.smithy_serde.specs.Fits.{fits, fits_in_range, scalar_kind}
-use Rattle.smithy_serde.specs.NormalBody.{settled, settled_elements}
-use Rattle.smithy_strings.specs.declared.wire.Place.{Place}
-use Rattle.smithy_strings.specs.Wire.{wire}
 use Rattle.smithy_strings.specs.Unwired.{unwired}
 use Rattle.smithy_strings.proofs.UnwireLaws.{unwire_is_exact}
-use Rattle.smithy_binding.specs.Bindings.{member_text, element_text, texts, place_of, header_texts}
-use Rattle.smithy_binding.specs.Faults.{element_fault, wrong_item_kind}
-use Rattle.smithy_binding.specs.Checked.{same_format}
-use Rattle.smithy_binding.specs.NormalForm.{with_own_elements}
 use Rattle.smithy_unambiguity.proofs.Fits.{is_flat, taken}
 
 -- a value of a flat kind is read back from its text
@@ -88,7 +70,7 @@ flat_value k (value.structure ws) flat fit = let q = taken k (Some kind.Structur
 flat_value k _ flat fit = refl
 
 -- it has one text where it is bound, and is its own normal form
-pub flat_texts : (m : Schema) (v : Value) → is_flat_value v ≡ true → texts m v ≡ option_map (λ t. t ∷ []) (member_text (place_of m) m v)
+pub flat_texts : (m : Schema) (v : Value) → is_flat_value v ≡ true → texts m v ≡ option_map (λ t. t ∷ []) (member_text (place_at (binding_of m)) m v)
 flat_texts m (value.list ws) e = absurd (cc e)
 flat_texts m (value.map ws) e = absurd (cc e)
 flat_texts m _ e = refl

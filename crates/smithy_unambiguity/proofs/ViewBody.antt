@@ -1,25 +1,10 @@
 -- The normal form has the same body.
-use Rattle.std.proofs.Common.{◌≡◌, refl, sym, ◌∙◌, ap, subst, ℕ, suc, ◌+◌, arith, ◌⊎◌, inl, inr, Bool, true, false, not, cond, List, [], ◌∷◌, map, filter, find, filter_map, slice_get, Option, Some, None, option_map, option_and_then, unwrap_or, if◌then◌else◌}
-use Rattle.std.specs.List.{AllByRecursion, enumerate_from, cons_option}
-use Rattle.std.specs.Result.{result_ok}
+use Rattle.smithy_unambiguity.proofs.Common.{◌≡◌, refl, sym, ◌∙◌, ap, subst, ℕ, suc, ◌+◌, arith, ◌⊎◌, inl, inr, Bool, true, false, not, cond, List, [], ◌∷◌, map, filter, find, filter_map, slice_get, Option, Some, None, option_map, option_and_then, unwrap_or, if◌then◌else◌, AllByRecursion, enumerate_from, cons_option, result_ok, Document, Schema, member_at, members_of as nodes_of, to_payload, binding_of, is_bound, is_well_made, Value, Write, no_writes, writes_of, label_of, document_of, doc_of, is_kind, settled, last_named, field_of, Resolved, all_resolved, firsts, is_payload, is_codec_kind, form_in, body_parts, body, document_value, document_by, raw_bytes, text_of_document, bytes_by, IsCheckedInput, view, member_view, unless_empty, Protocol, OmitFlags, IsTyped}
 use Rattle.smithy_types.specs.Documents as doc
-use Rattle.smithy_types.specs.Documents.{Document}
 use Rattle.smithy_ids.specs.declared.shape_type.ShapeType.TheVariants as kind
-use Rattle.smithy_schema.specs.Nodes.{Schema, member_at, members_of as nodes_of, to_payload, binding_of, is_bound}
-use Rattle.smithy_schema.specs.WellMade.{is_well_made}
 use Rattle.smithy_serde.specs.Values as value
-use Rattle.smithy_serde.specs.Values.{Value, Write, no_writes, writes_of, label_of}
-use Rattle.smithy_serde.specs.DocumentOf.{document_of, doc_of}
-use Rattle.smithy_serde.specs.Shaped.{is_kind}
-use Rattle.smithy_serde.specs.NormalBody.{settled, last_named, field_of}
-use Rattle.smithy_serde.specs.Writes.{Resolved, all_resolved, firsts}
-use Rattle.smithy_binding.specs.Bodies.{is_payload, is_codec_kind, form_in, body_parts, body, document_value, document_by, raw_bytes, text_of_document, bytes_by}
 use Rattle.smithy_binding.specs.declared.body_form.BodyForm.{BodyForm}
 use Rattle.smithy_binding.specs.declared.body_form.BodyForm.TheVariants as form
-use Rattle.smithy_binding.specs.Checked.{IsCheckedInput}
-use Rattle.smithy_binding.specs.NormalForm.{view, member_view, unless_empty}
-use Rattle.smithy_binding.specs.Placing.{Protocol, Omit}
-use Rattle.smithy_binding.specs.Typed.{IsTyped}
 use Rattle.smithy_document.proofs.NormalDocuments.{normal_document}
 use Rattle.smithy_unambiguity.proofs.BodyObject.{IsBodied, typed_bodied, body_node, bodied_writes, body_fields, body_field, free_view_shaped}
 use Rattle.smithy_unambiguity.proofs.ByMember.{at_member, first_value}
@@ -184,7 +169,7 @@ kept_document : (m : Schema) (o : Option Value) → ((u : Value) → o ≡ Some 
 kept_document m None has = refl
 kept_document m (Some u) has = let h = has u refl in ap Some (normal_document m u h.doc h.shaped h.has ∙ sym h.has)
 
-payload_alike : (protocol : Protocol) (schema : Schema) (endpoint : List ℕ) (omit : Omit) (ws : List Write) → IsCheckedInput schema → is_well_made schema ≡ true → IsTyped protocol schema endpoint omit ws
+payload_alike : (protocol : Protocol) (schema : Schema) (endpoint : List ℕ) (omit : OmitFlags) (ws : List Write) → IsCheckedInput schema → is_well_made schema ≡ true → IsTyped protocol schema endpoint omit ws
     → form_in schema ≡ form.Payload → PayloadOf schema ws → option_map document_of (body_parts schema (view schema ws)).payload ≡ option_map document_of (body_parts schema ws).payload
 payload_alike protocol schema endpoint omit ws checked well_made typed is (inr none) = ap (option_map document_of) (none.0 ∙ sym none.1)
 payload_alike protocol schema endpoint omit ws checked well_made typed is (inl x) =
@@ -193,7 +178,7 @@ payload_alike protocol schema endpoint omit ws checked well_made typed is (inl x
     ∙ ap (option_map document_of) (sym x.5)
 
 -- the documents of both, where there are any
-pub docs_alike : (protocol : Protocol) (schema : Schema) (endpoint : List ℕ) (omit : Omit) (ws : List Write) → IsCheckedInput schema → is_well_made schema ≡ true → IsTyped protocol schema endpoint omit ws
+pub docs_alike : (protocol : Protocol) (schema : Schema) (endpoint : List ℕ) (omit : OmitFlags) (ws : List Write) → IsCheckedInput schema → is_well_made schema ≡ true → IsTyped protocol schema endpoint omit ws
     → option_map document_of (document_value schema (view schema ws)) ≡ option_map document_of (document_value schema ws)
 docs_alike protocol schema endpoint omit ws checked well_made typed = go (form_in schema) refl
   where
@@ -216,7 +201,7 @@ pub doc_by : (o : Option Value) → option_and_then doc_of o ≡ option_and_then
 doc_by None = refl
 doc_by (Some v) = refl
 
-pub body_of_view : (protocol : Protocol) (schema : Schema) (endpoint : List ℕ) (omit : Omit) (ws : List Write) → IsCheckedInput schema → is_well_made schema ≡ true → IsTyped protocol schema endpoint omit ws
+pub body_of_view : (protocol : Protocol) (schema : Schema) (endpoint : List ℕ) (omit : OmitFlags) (ws : List Write) → IsCheckedInput schema → is_well_made schema ≡ true → IsTyped protocol schema endpoint omit ws
     → body protocol.text_of schema (view schema ws) ≡ body protocol.text_of schema ws
 body_of_view protocol schema endpoint omit ws checked well_made typed =
     same_body protocol schema (view schema ws) ws (body_bytes protocol.text_of schema (view schema ws) ∙ go (form_in schema) refl ∙ sym (body_bytes protocol.text_of schema ws))

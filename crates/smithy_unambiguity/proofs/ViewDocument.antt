@@ -1,18 +1,5 @@
 -- The normal form has the document of its input, and is typed where its target is a legal one.
-use Rattle.std.proofs.Common.{◌≡◌, refl, sym, ◌∙◌, ap, List, Option, Some, None, option_map, option_and_then}
-use Rattle.std.specs.Result.{result_ok, result_err}
-use Rattle.smithy_schema.specs.Nodes.{Schema}
-use Rattle.smithy_schema.specs.Templates.{pieces}
-use Rattle.smithy_serde.specs.Values.{Value, Write}
-use Rattle.smithy_serde.specs.DocumentOf.{DocumentFault, document_of, document_fault_text}
-use Rattle.smithy_serde.specs.Writes.{all_resolved}
-use Rattle.smithy_binding.specs.Bindings.{labels}
-use Rattle.smithy_binding.specs.Bodies.{document_value}
-use Rattle.smithy_binding.specs.Faults.{custom, body_fault, fault_of_document}
-use Rattle.smithy_binding.specs.NormalForm.{view}
-use Rattle.smithy_binding.specs.Placing.{template_of}
-use Rattle.smithy_binding.specs.Typed.{is_shallow}
-use Rattle.smithy_binding.proofs.CheckedLaws.{IsCheckedInput-from_test}
+use Rattle.smithy_unambiguity.proofs.Common.{◌≡◌, refl, sym, ◌∙◌, ap, List, Option, Some, None, option_map, option_and_then, result_ok, result_err, Schema, pieces, Value, Write, DocumentFault, document_of, document_fault_text, all_resolved, labels, document_value, custom, body_fault, fault_of_document, view, template_of, is_shallow, IsCheckedInput-from_test}
 use Rattle.smithy_unambiguity.proofs.Setting.{TargetOfView, ViewTyped}
 use Rattle.smithy_unambiguity.proofs.HeadersTold.{typed_writes}
 use Rattle.smithy_unambiguity.proofs.Conformity.{conforming, from_conforming}

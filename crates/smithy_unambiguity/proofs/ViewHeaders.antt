@@ -1,23 +1,6 @@
 -- The normal form gives the same headers at each name.
-use Rattle.std.proofs.Common.{◌≡◌, ◌≢◌, refl, sym, ◌∙◌, ap, ℕ, ◌⊎◌, inl, inr, Bool, true, false, ◌&&◌, ◌==◌, List, [], ◌∷◌, ◌++◌, Option, Some, None, option_and_then, option_to_list, is_some, is_none, if◌then◌else◌, eq-eqb}
-use Rattle.std.specs.Option.{option_map_or}
+use Rattle.smithy_unambiguity.proofs.Common.{◌≡◌, ◌≢◌, refl, sym, ◌∙◌, ap, ℕ, ◌⊎◌, inl, inr, Bool, true, false, ◌&&◌, ◌==◌, List, [], ◌∷◌, ◌++◌, Option, Some, None, option_and_then, option_to_list, is_some, is_none, if◌then◌else◌, eq-eqb, option_map_or, str_to_ascii_lowercase, eqb-true, map-append, found, Schema, member_at, Binding, to_header, to_prefix, binding_of, Value, Write, text_of_key, Resolved, values_at, lower_twice, headers, inserted_at, query_names, place_at, IsCheckedInput, has_bound_kind, is_text_map, is_placed_at, is_well_made, view, bound_view_at, with_default, Pairs, all_put}
 use Rattle.std.specs.Cmp.Lexicographic.{same_text as same_from_test}
-use Rattle.std.specs.Str.{str_to_ascii_lowercase}
-use Rattle.std.proofs.lemmas.Bool.{eqb-true}
-use Rattle.std.proofs.lemmas.List.{map-append}
-use Rattle.smithy_types.specs.Texts.{found}
-use Rattle.smithy_schema.specs.Nodes.{Schema, member_at, Binding, to_header, to_prefix, binding_of}
-use Rattle.smithy_serde.specs.Values.{Value, Write, text_of_key}
-use Rattle.smithy_serde.specs.Writes.{Resolved}
-use Rattle.smithy_http.specs.Facts.{values_at}
-use Rattle.smithy_http.proofs.ValueLemmas.{lower_twice}
-use Rattle.smithy_binding.specs.Bindings.{headers, inserted_at, query_names, place_at}
-use Rattle.smithy_binding.specs.Checked.{IsCheckedInput, has_bound_kind, is_text_map}
-use Rattle.smithy_binding.specs.Faults.{is_placed_at}
-use Rattle.smithy_schema.specs.WellMade.{is_well_made}
-use Rattle.smithy_binding.specs.NormalForm.{view, bound_view_at}
-use Rattle.smithy_binding.specs.Placing.{with_default}
-use Rattle.smithy_document.proofs.OrderedPairs.{Pairs, all_put}
 use Rattle.smithy_unambiguity.proofs.LastTexts.{last_value, lowered}
 use Rattle.smithy_unambiguity.proofs.ByMember.{at_member, first_value, only_member, none_given}
 use Rattle.smithy_unambiguity.proofs.ByName.{found-front, front}

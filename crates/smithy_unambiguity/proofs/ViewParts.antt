@@ -1,21 +1,8 @@
 -- The normal form gives the same pairs, labels and headers at each name.
-use Rattle.std.proofs.Common.{◌≡◌, refl, sym, ◌∙◌, ap, ℕ, zero, suc, ◌⊎◌, inl, inr, Bool, true, false, cond, ◌||◌, List, [], ◌∷◌, flat_map, slice_get, Option, Some, None, option_and_then, unwrap_or, if◌then◌else◌}
+use Rattle.smithy_unambiguity.proofs.Common.{◌≡◌, refl, sym, ◌∙◌, ap, ℕ, zero, suc, ◌⊎◌, inl, inr, Bool, true, false, cond, ◌||◌, List, [], ◌∷◌, flat_map, slice_get, Option, Some, None, option_and_then, unwrap_or, if◌then◌else◌, and_parts, found, same_text, is_one_of, ShapeType, same_kind, is_scalar, Schema, element_of, value_of, member_at, members_of, name_of, Binding, to_query, to_query_map, to_label, binding_of, is_outside_body, Value, Writes, no_writes, write, Write, settled_elements, values_at, pairs, labels, query_names, texts, entry_texts, IsCheckedInput, has_element, is_query_map, is_placed_at, is_well_made, view, bound_view_at, unless_empty, with_own_elements}
 use Rattle.std.specs.Cmp.Lexicographic.{same_text as same_from_test}
-use Rattle.std.proofs.lemmas.Bool.{and_parts}
-use Rattle.smithy_types.specs.Texts.{found, same_text, is_one_of}
-use Rattle.smithy_ids.specs.declared.shape_type.ShapeType.{ShapeType}
 use Rattle.smithy_ids.specs.declared.shape_type.ShapeType.TheVariants as kind
-use Rattle.smithy_ids.specs.Kinds.{same_kind, is_scalar}
-use Rattle.smithy_schema.specs.Nodes.{Schema, element_of, value_of, member_at, members_of, name_of, Binding, to_query, to_query_map, to_label, binding_of, is_outside_body}
 use Rattle.smithy_serde.specs.Values as value
-use Rattle.smithy_serde.specs.Values.{Value, Writes, no_writes, write, Write}
-use Rattle.smithy_serde.specs.NormalBody.{settled_elements}
-use Rattle.smithy_http.specs.Facts.{values_at}
-use Rattle.smithy_binding.specs.Bindings.{pairs, labels, query_names, texts, entry_texts}
-use Rattle.smithy_binding.specs.Checked.{IsCheckedInput, has_element, is_query_map}
-use Rattle.smithy_binding.specs.Faults.{is_placed_at}
-use Rattle.smithy_schema.specs.WellMade.{is_well_made}
-use Rattle.smithy_binding.specs.NormalForm.{view, bound_view_at, unless_empty, with_own_elements}
 use Rattle.smithy_unambiguity.proofs.ByMember.{first_value, first_texts}
 use Rattle.smithy_unambiguity.proofs.ByName.{found-front, front}
 use Rattle.smithy_unambiguity.proofs.EntriesTold.{own_value, key_texts, written_texts, text_pairs, query_texts, query_texts_kept}

@@ -1,24 +1,6 @@
 -- The request of the normal form has the facts of the input's request.
-use Rattle.std.proofs.Common.{◌≡◌, refl, sym, ◌∙◌, ap, ℕ, ◌⊎◌, inl, inr, Bool, true, false, cond, List, [], ◌∷◌, ◌++◌, map, filter, length, codes, decimal, Result, Ok, Some, option_map}
-use Rattle.std.specs.List.{AllByRecursion}
+use Rattle.smithy_unambiguity.proofs.Common.{◌≡◌, refl, sym, ◌∙◌, ap, ℕ, ◌⊎◌, inl, inr, Bool, true, false, cond, List, [], ◌∷◌, ◌++◌, map, filter, length, codes, decimal, Result, Ok, Some, option_map, AllByRecursion, map-append, found, same_text, before_query, then_try, then_give, Piece, Template, pieces, facts, values_at, named_piece, query_pieces, escape, AreBytes, headers, pairs, labels, body, IsCheckedInput, fill, fill_rest, filled_hole, view, request_at, template_of, with_query, pair_text, all_headers, with_default, adds_content_type, adds_content_length, IsTyped, Write, IsCheckedInput-from_test}
 use Rattle.std.specs.Cmp.Lexicographic.{same_text as same_from_test}
-use Rattle.std.proofs.lemmas.List.{map-append}
-use Rattle.smithy_types.specs.Texts.{found, same_text}
-use Rattle.smithy_types.specs.Grammars.{before_query}
-use Rattle.smithy_types.specs.Results.{then_try, then_give}
-use Rattle.smithy_schema.specs.Templates.{Piece, Template, pieces}
-use Rattle.smithy_http.specs.Facts.{facts, values_at, named_piece, query_pieces}
-use Rattle.smithy_strings.specs.Escapes.{escape, AreBytes}
-use Rattle.smithy_binding.specs.Bindings.{headers, pairs, labels}
-use Rattle.smithy_binding.specs.Bodies.{body}
-use Rattle.smithy_binding.specs.Checked.{IsCheckedInput}
-use Rattle.smithy_binding.specs.Filling.{fill, fill_rest, filled_hole}
-use Rattle.smithy_binding.specs.NormalForm.{view}
-use Rattle.smithy_binding.specs.Answer.{request_at}
-use Rattle.smithy_binding.specs.Placing.{template_of, with_query, pair_text, all_headers, with_default, adds_content_type, adds_content_length}
-use Rattle.smithy_binding.specs.Typed.{IsTyped}
-use Rattle.smithy_serde.specs.Values.{Write}
-use Rattle.smithy_binding.proofs.CheckedLaws.{IsCheckedInput-from_test}
 use Rattle.smithy_unambiguity.proofs.Setting.{SeenOfView, ViewTyped}
 use Rattle.smithy_unambiguity.proofs.HeadersTold.{typed_writes}
 use Rattle.smithy_unambiguity.proofs.Placed.{HasTypedWrites}

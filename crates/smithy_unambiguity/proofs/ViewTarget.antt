@@ -1,23 +1,6 @@
 -- The target of the normal form is as long and as legal as the input's.
-use Rattle.std.proofs.Common.{◌≡◌, refl, sym, ◌∙◌, ap, ℕ, nat_le, suc, ◌+◌, arith, Bool, true, false, cond, ◌==◌, List, [], ◌∷◌, ◌++◌, map, filter, length, codes, None, append_assoc, Option}
-use Rattle.std.specs.List.{AllByRecursion, list_all, join_with_byte, after_first}
-use Rattle.std.specs.Option.{option_or}
-use Rattle.std.proofs.lemmas.Bool.{and_parts, and_from, agree_below, agree_below_at}
-use Rattle.std.proofs.lemmas.List.{length-append}
-use Rattle.std.proofs.lemmas.List.Folds.{list_all-append}
-use Rattle.percent_encoding.specs.Percent.{percent_encode_byte}
-use Rattle.smithy_types.specs.Texts.{has_byte, same_text}
-use Rattle.smithy_types.specs.Grammars.{is_query_byte, is_stem, is_target, is_short_target, max_target_len, before_query}
-use Rattle.smithy_types.specs.Results.{unless}
-use Rattle.smithy_http.specs.Facts.{values_at}
-use Rattle.smithy_strings.specs.Escapes.{escape, escape_byte, AreBytes}
-use Rattle.smithy_binding.specs.Bindings.{pairs}
-use Rattle.smithy_binding.specs.Faults.{legal_fault, too_long, not_legal}
-use Rattle.smithy_binding.specs.NormalForm.{view}
-use Rattle.smithy_binding.specs.Placing.{pair_text, with_query, Protocol}
-use Rattle.smithy_binding.proofs.CheckedLaws.{IsCheckedInput-from_test}
-use Rattle.smithy_binding.proofs.Tests.{same_text_self}
-use Rattle.smithy_unambiguity.specs.Laws.{FactsDecideView, ViewSettles, ViewIsTyped}
+use Rattle.std.proofs.Common.{append_assoc}
+use Rattle.smithy_unambiguity.proofs.Common.{◌≡◌, refl, sym, ◌∙◌, ap, ℕ, nat_le, suc, ◌+◌, arith, Bool, true, false, cond, ◌==◌, List, [], ◌∷◌, ◌++◌, map, filter, length, codes, None, Option, AllByRecursion, list_all, join_with_byte, after_first, option_or, and_parts, and_from, agree_below, agree_below_at, length-append, list_all-append, percent_encode_byte, has_byte, same_text, is_query_byte, is_stem, is_target, is_short_target, max_target_len, before_query, unless, values_at, escape, escape_byte, AreBytes, pairs, legal_fault, too_long, not_legal, view, pair_text, with_query, Protocol, IsCheckedInput-from_test, same_text_self, FactsDecideView, ViewSettles, ViewIsTyped, Held, IsLawfulText}
 use Rattle.smithy_unambiguity.proofs.Setting.{TargetOfView, ViewTyped, SeenOfView}
 use Rattle.smithy_unambiguity.proofs.Join.{facts_decide_by, settles_by}
 use Rattle.smithy_unambiguity.proofs.ViewSeen.{seen_of_view}
@@ -31,8 +14,6 @@ use Rattle.smithy_unambiguity.proofs.ViewDocument.{view_typed}
 use Rattle.smithy_unambiguity.proofs.ViewParts.{pairs_of_view}
 use Rattle.smithy_unambiguity.proofs.ViewTyped.{view_writes_conform, view_in_range}
 use Rattle.smithy_unambiguity.proofs.Viewed.{has_viewed}
-use Rattle.smithy_serde.specs.Held.{Held}
-use Rattle.smithy_serde.specs.Lawful.{IsLawfulText}
 
 -- Escapes are legal in a query.
 

@@ -1,11 +1,5 @@
 -- The facts of a request tell the normal form of its input.
-use Rattle.std.proofs.Common.{◌≡◌, refl, sym, ◌∙◌, ap, ℕ, suc, ◌+◌, arith, true, List, [], ◌∷◌, filter_map, slice_get, Option, Some, option_map, IsTrue}
-use Rattle.std.specs.List.{enumerate_from, cons_option}
-use Rattle.smithy_schema.specs.Nodes.{Schema, members_of, Binding, to_header, to_prefix, to_query, to_query_map, to_label, to_payload, to_body, binding_of, member_at}
-use Rattle.smithy_serde.specs.Values.{Value, Write, label_of}
-use Rattle.smithy_binding.specs.Checked.{has_bound_kind, checked_input}
-use Rattle.smithy_binding.specs.NormalForm.{view, member_view}
-use Rattle.smithy_binding.proofs.CheckedLaws.{IsCheckedInput-from_test}
+use Rattle.smithy_unambiguity.proofs.Common.{◌≡◌, refl, sym, ◌∙◌, ap, ℕ, suc, ◌+◌, arith, true, List, [], ◌∷◌, filter_map, slice_get, Option, Some, option_map, IsTrue, enumerate_from, cons_option, Schema, members_of, Binding, to_header, to_prefix, to_query, to_query_map, to_label, to_payload, to_body, binding_of, member_at, Value, Write, label_of, has_bound_kind, checked_input, view, member_view, IsCheckedInput-from_test, IsTyped, OmitFlags, Protocol, SeesSame}
 use Rattle.smithy_unambiguity.proofs.Setting.{SeenTellsView, IsSetting}
 use Rattle.smithy_unambiguity.proofs.HeadersTold.{AreSeenSame, seen_same, header_member_told}
 use Rattle.smithy_unambiguity.proofs.MapsTold.{prefix_member_told, query_map_told, all_pairs_told}
@@ -14,12 +8,9 @@ use Rattle.smithy_unambiguity.proofs.Placed.{kinds_at}
 use Rattle.smithy_unambiguity.proofs.Positions.{members_by_position}
 use Rattle.smithy_unambiguity.proofs.TargetTold.{label_member_told, query_member_told}
 use Rattle.smithy_unambiguity.proofs.UnboundTold.{unbound_member_told}
-use Rattle.smithy_binding.specs.Typed.{IsTyped}
-use Rattle.smithy_binding.specs.Placing.{Omit, Protocol}
-use Rattle.smithy_unambiguity.specs.Laws.{SeesSame}
 
 -- each member's part of the view is told
-pub member_told : (protocol : Protocol) (schema : Schema) (endpoint : List ℕ) (omit : Omit) (v w : List Write) → IsSetting protocol schema
+pub member_told : (protocol : Protocol) (schema : Schema) (endpoint : List ℕ) (omit : OmitFlags) (v w : List Write) → IsSetting protocol schema
     → IsTyped protocol schema endpoint omit v → IsTyped protocol schema endpoint omit w → SeesSame protocol schema endpoint omit v w
     → (i : ℕ) (m : Schema) → member_at schema i ≡ Some m → member_view schema v i m ≡ member_view schema w i m
 member_told protocol schema endpoint omit v w setting typed_v typed_w same i m at = go (binding_of m) refl

@@ -1,25 +1,5 @@
 -- The normal form is typed, from what is known of each of its writes and of its target.
-use Rattle.std.proofs.Common.{◌≡◌, refl, sym, ◌∙◌, ap, ℕ, suc, ◌+◌, arith, Bool, true, false, not, cond, ◌&&◌, ◌||◌, ◌==◌, List, [], ◌∷◌, ◌++◌, filter, filter_map, slice_get, Option, Some, None, option_map, option_to_list, is_some, IsTrue, if◌then◌else◌}
-use Rattle.std.specs.List.{AllByRecursion, list_all, list_any, enumerate_from, cons_option}
-use Rattle.std.specs.Option.{option_map_or, option_or}
-use Rattle.std.specs.Str.{str_to_ascii_lowercase}
-use Rattle.smithy_http.specs.Facts.{values_at}
-use Rattle.std.proofs.lemmas.Bool.{and_from}
-use Rattle.smithy_types.specs.Results.{unless}
-use Rattle.smithy_schema.specs.Nodes.{Schema, member_at, members_of, Binding, to_header, binding_of, is_bound}
-use Rattle.smithy_serde.specs.Values.{Value, Write, label_of}
-use Rattle.smithy_serde.specs.Ranges.{is_in_range, are_in_range}
-use Rattle.smithy_serde.specs.Fits.{fits_member}
-use Rattle.smithy_serde.specs.Writes.{Resolved, resolve, all_resolved, firsts}
-use Rattle.smithy_binding.specs.Bindings.{headers, inserted_at}
-use Rattle.smithy_binding.specs.Bodies.{Body, body}
-use Rattle.smithy_binding.specs.Checked.{IsCheckedInput}
-use Rattle.smithy_binding.specs.Faults.{no_member, wrong_kind, resolved_fault, write_fault, writes_fault, bound_fault, value_fault, pairs_fault, is_placed, is_placed_at}
-use Rattle.smithy_schema.specs.WellMade.{is_well_made}
-use Rattle.smithy_binding.specs.NormalForm.{view, member_view}
-use Rattle.smithy_binding.specs.Placing.{Protocol, Omit}
-use Rattle.smithy_binding.specs.Typed.{has_distinct_keys, has_own_formats, is_placed_typed, has_no_default_name, wants_default, writes_default, is_shaped_write, is_codec_payload, is_shaped_payload}
-use Rattle.smithy_serde.specs.Shaped.{is_shaped}
+use Rattle.smithy_unambiguity.proofs.Common.{◌≡◌, refl, sym, ◌∙◌, ap, ℕ, suc, ◌+◌, arith, Bool, true, false, not, cond, ◌&&◌, ◌||◌, ◌==◌, List, [], ◌∷◌, ◌++◌, filter, filter_map, slice_get, Option, Some, None, option_map, option_to_list, is_some, IsTrue, if◌then◌else◌, AllByRecursion, list_all, list_any, enumerate_from, cons_option, option_map_or, option_or, str_to_ascii_lowercase, values_at, and_from, unless, Schema, member_at, members_of, Binding, to_header, binding_of, is_bound, Value, Write, label_of, is_in_range, are_in_range, fits_member, Resolved, resolve, all_resolved, firsts, has_seen, headers, inserted_at, Body, body, IsCheckedInput, no_member, wrong_kind, resolved_fault, write_fault, writes_fault, bound_fault, value_fault, pairs_fault, is_placed_at, is_well_made, view, member_view, Protocol, OmitFlags, has_distinct_keys, has_own_formats, is_placed_typed, has_no_default_name, wants_default, writes_default, is_shaped_write, is_codec_payload, is_shaped_payload, is_shaped}
 use Rattle.smithy_unambiguity.proofs.ByMember.{at_member}
 use Rattle.smithy_unambiguity.proofs.ByName.{found-front, front}
 use Rattle.smithy_unambiguity.proofs.Firsts.{all_firsts}
@@ -71,12 +51,12 @@ no_write_fault schema (w ∷ ws) all seen =
 viewed_fault : (schema : Schema) (i : ℕ) (m : Schema) (u : Value) → is_well_made schema ≡ true → member_at schema i ≡ Some m → IsViewed m u → (seen : List ℕ) → write_fault schema seen (record { label = label_of m; value = u }) ≡ None
 viewed_fault schema i m u well_made at is seen =
     ap (λ o. option_map_or (resolved_fault seen) o (Some (no_member (label_of m)))) (own_is_resolved schema i m u well_made at)
-    ∙ ap (λ t. option_or (unless t (wrong_kind m u)) (if is_placed seen (at_member i m u) then bound_fault (at_member i m u) else None)) is.fits
+    ∙ ap (λ t. option_or (unless t (wrong_kind m u)) (if is_placed_at (binding_of m) && not (has_seen seen i) then bound_fault (at_member i m u) else None)) is.fits
     ∙ go (is_placed_at (binding_of m)) refl
   where
-    go : (t : Bool) → is_placed_at (binding_of m) ≡ t → (if is_placed seen (at_member i m u) then bound_fault (at_member i m u) else None) ≡ None
+    go : (t : Bool) → is_placed_at (binding_of m) ≡ t → (if is_placed_at (binding_of m) && not (has_seen seen i) then bound_fault (at_member i m u) else None) ≡ None
     go false e = ap (λ b. if b && not (list_any (λ j. j == i) seen) then bound_fault (at_member i m u) else None) e
-    go true e = by (is_placed seen (at_member i m u))
+    go true e = by (is_placed_at (binding_of m) && not (has_seen seen i))
       where
         by : (b : Bool) → (if b then bound_fault (at_member i m u) else None) ≡ None
         by true = is.fault e
@@ -133,12 +113,12 @@ unbound_are_shaped schema (r ∷ rs) all = go (is_bound r.member) refl (unbound_
     go false e rest = (all.0.shaped e, rest)
 
 -- a default is left out beside the same body and the same headers
-writes_default_same : (b : Body) (omit : Omit) (ps qs : List (List ℕ × List ℕ)) (c : Binding) → ((name : List ℕ) → values_at name ps ≡ values_at name qs) → writes_default b omit ps c ≡ writes_default b omit qs c
+writes_default_same : (b : Body) (omit : OmitFlags) (ps qs : List (List ℕ × List ℕ)) (c : Binding) → ((name : List ℕ) → values_at name ps ≡ values_at name qs) → writes_default b omit ps c ≡ writes_default b omit qs c
 writes_default_same b omit ps qs (to_header n) same =
     ap (λ o. not (wants_default b omit (str_to_ascii_lowercase n)) || is_some o) (found-front (str_to_ascii_lowercase n) ps ∙ ap front (same (str_to_ascii_lowercase n)) ∙ sym (found-front (str_to_ascii_lowercase n) qs))
 writes_default_same b omit ps qs _ same = refl
 
-pub view_defaults : (protocol : Protocol) (schema : Schema) (omit : Omit) (ws : List Write) → body protocol.text_of schema (view schema ws) ≡ body protocol.text_of schema ws
+pub view_defaults : (protocol : Protocol) (schema : Schema) (omit : OmitFlags) (ws : List Write) → body protocol.text_of schema (view schema ws) ≡ body protocol.text_of schema ws
     → ((name : List ℕ) → values_at name (headers schema (view schema ws)) ≡ values_at name (headers schema ws))
     → list_all (λ m. writes_default (body protocol.text_of schema ws) omit (headers schema ws) (binding_of m)) (members_of schema) ≡ true
     → list_all (λ m. writes_default (body protocol.text_of schema (view schema ws)) omit (headers schema (view schema ws)) (binding_of m)) (members_of schema) ≡ true

@@ -1,26 +1,6 @@
 -- The normal form of a bound value gives what the value gives.
-use Rattle.std.proofs.Common.{◌≡◌, refl, sym, ◌∙◌, ap, ℕ, Bool, true, false, ◌||◌, List, [], ◌∷◌, map, Option, Some, option_map, option_and_then, if◌then◌else◌}
-use Rattle.std.specs.Option.{option_map_or}
-use Rattle.std.proofs.lemmas.Bool.{and_parts}
-use Rattle.smithy_types.specs.Results.{each}
-use Rattle.smithy_ids.specs.declared.shape_type.ShapeType.{ShapeType}
+use Rattle.smithy_unambiguity.proofs.Common.{◌≡◌, refl, sym, ◌∙◌, ap, ℕ, Bool, true, false, ◌||◌, List, [], ◌∷◌, map, Option, Some, option_map, option_and_then, if◌then◌else◌, option_map_or, and_parts, each, ShapeType, Schema, element_of, key_of, value_of, binding_of, Label, Value, Writes, no_writes, write, Write, list_of, text_of_key, is_in_range, fits, own_label, settled, settled_elements, entry_writes, map_value, is_kind, no_label, Place, Header, wire, listed, values_at, kind_or_none, map_entries, entries_of, entry_texts, texts, place_at, element_text, is_header_kind, has_element, unless_empty, with_own_elements, Pairs, all_put, look_ordered, last_ascending}
 use Rattle.smithy_ids.specs.declared.shape_type.ShapeType.TheVariants as kind
-use Rattle.smithy_schema.specs.Nodes.{Schema, element_of, key_of, value_of}
-use Rattle.smithy_serde.specs.Values.{Label, Value, Writes, no_writes, write, Write, list_of, text_of_key}
-use Rattle.smithy_serde.specs.Ranges.{is_in_range}
-use Rattle.smithy_serde.specs.Fits.{fits}
-use Rattle.smithy_serde.specs.NormalBody.{own_label, settled, settled_elements, entry_writes, map_value}
-use Rattle.smithy_serde.specs.Shaped.{is_kind}
-use Rattle.smithy_serde.specs.StoredValues.{no_label}
-use Rattle.smithy_strings.specs.declared.wire.Place.{Place}
-use Rattle.smithy_strings.specs.declared.wire.Place.TheVariants.{Header}
-use Rattle.smithy_strings.specs.Wire.{wire}
-use Rattle.smithy_strings.specs.Lists.{listed}
-use Rattle.smithy_http.specs.Facts.{values_at}
-use Rattle.smithy_binding.specs.Bindings.{kind_or_none, element_text, map_entries, entries_of, entry_texts, texts, place_of}
-use Rattle.smithy_binding.specs.Checked.{is_header_kind, has_element}
-use Rattle.smithy_binding.specs.NormalForm.{unless_empty, with_own_elements}
-use Rattle.smithy_document.proofs.OrderedPairs.{Pairs, all_put, look_ordered, last_ascending}
 use Rattle.smithy_unambiguity.proofs.LastTexts.{last_value}
 use Rattle.smithy_unambiguity.proofs.EntriesTold.{text_writes, own_list, own_value, as_text, last_of-texts}
 use Rattle.smithy_unambiguity.proofs.Fits.{is_flat}
@@ -44,12 +24,12 @@ elements_kept e k place (write l v ws) flat fit own =
 pub list_texts_kept : (test : ShapeType → Bool) (m : Schema) (v : Value) (l : IsListOf test m) → is_flat l.element.node.kind ≡ true → (b : IsBoundList m l.element v) → texts m (with_own_elements m v) ≡ texts m v
 list_texts_kept test m v l flat b =
     ap (λ u. texts m (with_own_elements m u)) b.is
-    ∙ ap (λ (o : Option Schema). each (element_text (place_of m)) (list_of (settled_elements o b.ws))) l.is
-    ∙ elements_kept l.element l.element.node.kind (place_of m) b.ws flat b.items b.formats
+    ∙ ap (λ (o : Option Schema). each (element_text (place_at (binding_of m))) (list_of (settled_elements o b.ws))) l.is
+    ∙ elements_kept l.element l.element.node.kind (place_at (binding_of m)) b.ws flat b.items b.formats
     ∙ ap (texts m) (sym b.is)
 
 -- a header's texts are those of its normal form
-pub header_kept : (m : Schema) (v : Value) → (is_flat m.node.kind || has_element is_header_kind m) ≡ true → place_of m ≡ Header → IsBoundValue m v → header_values m (with_own_elements m v) ≡ header_values m v
+pub header_kept : (m : Schema) (v : Value) → (is_flat m.node.kind || has_element is_header_kind m) ≡ true → place_at (binding_of m) ≡ Header → IsBoundValue m v → header_values m (with_own_elements m v) ≡ header_values m v
 header_kept m v kinds here is = go (is_flat m.node.kind) refl kinds
   where
     go : (t : Bool) → is_flat m.node.kind ≡ t → (t || has_element is_header_kind m) ≡ true → header_values m (with_own_elements m v) ≡ header_values m v

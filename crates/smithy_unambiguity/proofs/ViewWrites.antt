@@ -1,12 +1,5 @@
 -- The writes of a normal form: one to each member of which it has something.
-use Rattle.std.proofs.Common.{◌≡◌, refl, sym, ◌∙◌, ap, ℕ, zero, suc, ◌+◌, ◌<◌, arith, Bool, true, false, cond, ◌==◌, List, [], ◌∷◌, filter, find, filter_map, slice_get, Option, Some, None, option_map, option_and_then, option_to_list, is_some, eq-eqb, ne_eqb}
-use Rattle.std.specs.List.{enumerate_from, cons_option, last_or}
-use Rattle.smithy_schema.specs.Nodes.{Schema, member_at, members_of}
-use Rattle.smithy_serde.specs.Values.{Value, Write, label_of}
-use Rattle.smithy_serde.specs.Writes.{Resolved, resolved, all_resolved, first, position_in, only_if, is_of}
-use Rattle.smithy_binding.specs.Checked.{IsCheckedInput}
-use Rattle.smithy_schema.specs.WellMade.{is_well_made}
-use Rattle.smithy_binding.specs.NormalForm.{view, member_view, last_of}
+use Rattle.smithy_unambiguity.proofs.Common.{◌≡◌, refl, sym, ◌∙◌, ap, ℕ, zero, suc, ◌+◌, ◌<◌, arith, Bool, true, false, cond, ◌==◌, List, [], ◌∷◌, filter, find, filter_map, slice_get, Option, Some, None, option_map, option_and_then, option_to_list, is_some, eq-eqb, ne_eqb, enumerate_from, cons_option, last_or, Schema, member_at, members_of, Value, Write, label_of, Resolved, resolved, all_resolved, first, position_in, only_if, is_of, IsCheckedInput, is_well_made, view, member_view, last_of}
 use Rattle.smithy_unambiguity.proofs.ByMember.{at_member, first_value}
 use Rattle.smithy_unambiguity.proofs.Members.{member_in_place}
 use Rattle.smithy_unambiguity.proofs.Positions.{members_by_position}

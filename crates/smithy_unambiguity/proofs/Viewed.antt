@@ -1,22 +1,6 @@
 -- The normal form of a typed input is typed, if its target is a legal one.
-use Rattle.std.proofs.Common.{◌≡◌, refl, sym, ◌∙◌, ap, subst, ℕ, Bool, true, false, not, ◌&&◌, ◌||◌, List, Option, Some, if◌then◌else◌}
-use Rattle.smithy_ids.specs.declared.shape_type.ShapeType.{ShapeType}
-use Rattle.smithy_schema.specs.Nodes.{Schema, member_at, Binding, to_header, to_prefix, to_query, to_query_map, to_label, to_payload, to_body, binding_of, is_outside_body, is_bound}
-use Rattle.smithy_schema.specs.WellMade.{is_well_made}
+use Rattle.smithy_unambiguity.proofs.Common.{◌≡◌, refl, sym, ◌∙◌, ap, subst, ℕ, Bool, true, false, not, ◌&&◌, ◌||◌, List, Option, Some, if◌then◌else◌, ShapeType, Schema, member_at, Binding, to_header, to_prefix, to_query, to_query_map, to_label, to_payload, to_body, binding_of, is_outside_body, is_bound, is_well_made, Value, Write, is_in_range, fits, is_null, is_shaped, settled, firsts, query_names, is_payload, is_codec_kind, IsCheckedInput, has_bound_kind, is_placed_at, member_view, bound_view_at, unless_empty, has_distinct_keys, has_own_formats, has_no_default_name, is_codec_payload, is_shaped_write, IsTyped, Protocol, OmitFlags}
 use Rattle.smithy_serde.specs.Values as value
-use Rattle.smithy_serde.specs.Values.{Value, Write}
-use Rattle.smithy_serde.specs.Ranges.{is_in_range}
-use Rattle.smithy_serde.specs.Fits.{fits, is_null}
-use Rattle.smithy_serde.specs.Shaped.{is_shaped}
-use Rattle.smithy_serde.specs.NormalBody.{settled}
-use Rattle.smithy_serde.specs.Writes.{firsts}
-use Rattle.smithy_binding.specs.Bindings.{query_names}
-use Rattle.smithy_binding.specs.Bodies.{is_payload, is_codec_kind}
-use Rattle.smithy_binding.specs.Checked.{IsCheckedInput, has_bound_kind}
-use Rattle.smithy_binding.specs.Faults.{is_placed_at}
-use Rattle.smithy_binding.specs.NormalForm.{member_view, bound_view_at, unless_empty}
-use Rattle.smithy_binding.specs.Typed.{has_distinct_keys, has_own_formats, has_no_default_name, is_codec_payload, is_shaped_write, IsTyped}
-use Rattle.smithy_binding.specs.Placing.{Protocol, Omit}
 use Rattle.smithy_unambiguity.proofs.ByMember.{at_member, first_value}
 use Rattle.smithy_unambiguity.proofs.Conforming.{IsFittingWrite}
 use Rattle.smithy_unambiguity.proofs.HeadersTold.{typed_writes}
@@ -46,7 +30,7 @@ payload_parts m u payload fit range shaped =
       codec = ap (λ b. not (is_payload b && is_codec_kind m.node.kind) || is_shaped (Some m) u) payload ∙ shaped;
     }
 
-payload_viewed : (protocol : Protocol) (schema : Schema) (endpoint : List ℕ) (omit : Omit) (ws : List Write) (i : ℕ) (m : Schema) (u : Value) → IsTyped protocol schema endpoint omit ws
+payload_viewed : (protocol : Protocol) (schema : Schema) (endpoint : List ℕ) (omit : OmitFlags) (ws : List Write) (i : ℕ) (m : Schema) (u : Value) → IsTyped protocol schema endpoint omit ws
     → member_at schema i ≡ Some m → binding_of m ≡ to_payload → member_view schema ws i m ≡ Some u → IsViewed m u
 payload_viewed protocol schema endpoint omit ws i m u typed at payload e = go (is_codec_kind m.node.kind) refl x.gives
   where
@@ -80,7 +64,7 @@ payload_viewed protocol schema endpoint omit ws i m u typed at payload e = go (i
         (ap (λ t. not t || is_shaped (Some m) (settled (Some m) x.from)) q ∙ kept))
 
 -- each member's part of a typed input's normal form may be written to it
-pub has_viewed : (protocol : Protocol) (schema : Schema) (endpoint : List ℕ) (omit : Omit) (ws : List Write) → IsCheckedInput schema → is_well_made schema ≡ true → IsTyped protocol schema endpoint omit ws → HasViewed schema ws
+pub has_viewed : (protocol : Protocol) (schema : Schema) (endpoint : List ℕ) (omit : OmitFlags) (ws : List Write) → IsCheckedInput schema → is_well_made schema ≡ true → IsTyped protocol schema endpoint omit ws → HasViewed schema ws
 has_viewed protocol schema endpoint omit ws checked well_made typed i m u at e = go (binding_of m) refl
   where
     writes : HasTypedWrites schema ws

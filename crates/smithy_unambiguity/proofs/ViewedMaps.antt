@@ -1,35 +1,8 @@
 -- What the normal form has for the prefix map and the query map is what a typed input may write to them.
-use Rattle.std.proofs.Common.{◌≡◌, refl, sym, ◌∙◌, ap, subst, ℕ, ◌<◌, arith, nat_le, length, Bool, true, false, not, ◌&&◌, ◌||◌, ◌==◌, List, [], ◌∷◌, ◌++◌, Option, Some, None, option_and_then, is_none, IsTrue, codes, if◌then◌else◌}
-use Rattle.std.specs.List.{AllByRecursion, list_all}
-use Rattle.std.specs.Option.{option_or}
-use Rattle.std.specs.Str.{str_to_ascii_lowercase, is_utf8}
-use Rattle.std.proofs.lemmas.Bool.{and_parts, and_from, eqb-true, not-true, lt-ltb, leb-true}
-use Rattle.std.proofs.lemmas.List.Folds.{list_all-append}
-use Rattle.std.proofs.lemmas.List.{map-append}
-use Rattle.smithy_types.specs.Texts.{is_one_of, are_distinct, has_byte}
-use Rattle.smithy_types.specs.Grammars.{is_token, is_token_byte, is_between, is_header_value}
-use Rattle.smithy_types.specs.Results.{unless}
-use Rattle.smithy_http.proofs.ValueLemmas.{lower_twice}
+use Rattle.smithy_unambiguity.proofs.Common.{◌≡◌, refl, sym, ◌∙◌, ap, subst, ℕ, ◌<◌, arith, nat_le, length, Bool, true, false, not, ◌&&◌, ◌||◌, ◌==◌, List, [], ◌∷◌, ◌++◌, Option, Some, None, option_and_then, is_none, IsTrue, codes, if◌then◌else◌, AllByRecursion, list_all, option_or, str_to_ascii_lowercase, is_utf8, and_parts, and_from, eqb-true, not-true, lt-ltb, leb-true, list_all-append, map-append, is_one_of, are_distinct, has_byte, is_token, is_token_byte, is_between, is_header_value, unless, lower_twice, same_kind, one_kind, Schema, member_at, element_of, key_of, value_of, to_prefix, to_query_map, binding_of, Label, Value, Writes, no_writes, write, Write, text_of_key, is_in_range, are_writes_in_range, fits, is_kind, map_value, entry_writes, own_label, no_label, firsts, inserted_at, map_entries, entries_of, entry_texts, query_names, IsCheckedInput, is_plain_string, is_plain_list, member_view, element_fault, nested_fault, part_fault, entry_fault, item_fault, wrong_item_kind, unmatched_key, ends_with_value, pairs_fault, pair_fault, wrong_header, is_placed_at, has_no_default_name, default_names, Pairs, all_put, is_low, are_low, utf8_from_low}
 use Rattle.smithy_ids.specs.declared.shape_type.ShapeType.TheVariants as kind
-use Rattle.smithy_ids.specs.Kinds.{same_kind}
-use Rattle.smithy_ids.proofs.KindLemmas.{one_kind}
-use Rattle.smithy_schema.specs.Nodes.{Schema, member_at, element_of, key_of, value_of, to_prefix, to_query_map, binding_of}
 use Rattle.smithy_serde.specs.Values as value
-use Rattle.smithy_serde.specs.Values.{Label, Value, Writes, no_writes, write, Write, text_of_key}
-use Rattle.smithy_serde.specs.Ranges.{is_in_range, are_writes_in_range}
-use Rattle.smithy_serde.specs.Fits.{fits}
-use Rattle.smithy_serde.specs.Shaped.{is_kind}
-use Rattle.smithy_serde.specs.NormalBody.{map_value, entry_writes, own_label}
-use Rattle.smithy_serde.specs.StoredValues.{no_label}
-use Rattle.smithy_serde.specs.Writes.{firsts}
-use Rattle.smithy_binding.specs.Bindings.{inserted_at, map_entries, entries_of, entry_texts, query_names}
-use Rattle.smithy_binding.specs.Checked.{IsCheckedInput, is_plain_string, is_plain_list}
-use Rattle.smithy_binding.specs.NormalForm.{member_view}
-use Rattle.smithy_binding.specs.Faults.{element_fault, nested_fault, part_fault, entry_fault, item_fault, wrong_item_kind, unmatched_key, ends_with_value, pairs_fault, pair_fault, wrong_header, is_placed_at}
-use Rattle.smithy_binding.specs.Typed.{has_no_default_name, default_names}
-use Rattle.smithy_document.proofs.OrderedPairs.{Pairs, all_put}
 use Rattle.smithy_unambiguity.proofs.LastTexts.{lowered}
-use Rattle.smithy_strings.proofs.AsciiTexts.{is_low, are_low, utf8_from_low}
 use Rattle.smithy_unambiguity.proofs.ByMember.{at_member}
 use Rattle.smithy_unambiguity.proofs.Conforming.{no_first}
 use Rattle.smithy_unambiguity.proofs.EntriesTold.{passed, text_writes, own_list, own_value, own_value_list, as_text, is_text_node, string_kind, text_part, key_texts, has_texts, query_texts, query_texts_ascend}

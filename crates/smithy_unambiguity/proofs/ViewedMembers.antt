@@ -1,28 +1,7 @@
 -- What the normal form has for each member is what a typed input may write to it.
-use Rattle.std.proofs.Common.{◌≡◌, refl, sym, ◌∙◌, ap, subst, ℕ, ◌⊎◌, inl, inr, Bool, true, false, not, ◌&&◌, ◌||◌, List, [], ◌∷◌, Option, Some, None, option_and_then, is_some, if◌then◌else◌, eq-eqb}
-use Rattle.std.specs.List.{list_all}
-use Rattle.std.specs.Option.{option_or}
-use Rattle.std.specs.Str.{str_to_ascii_lowercase}
-use Rattle.std.proofs.lemmas.Bool.{and_parts, and_from}
-use Rattle.smithy_types.specs.Results.{unless, first_of_all}
-use Rattle.smithy_ids.specs.declared.traits.TimestampFormat.{TimestampFormat}
-use Rattle.smithy_ids.specs.Kinds.{same_kind, is_scalar}
-use Rattle.smithy_schema.specs.Nodes.{Schema, element_of, member_at, Binding, to_header, to_query, to_label, to_payload, to_body, binding_of, is_outside_body, is_bound}
+use Rattle.smithy_unambiguity.proofs.Common.{◌≡◌, refl, sym, ◌∙◌, ap, subst, ℕ, ◌⊎◌, inl, inr, Bool, true, false, not, ◌&&◌, ◌||◌, List, [], ◌∷◌, Option, Some, None, option_and_then, is_some, if◌then◌else◌, eq-eqb, list_all, option_or, str_to_ascii_lowercase, and_parts, and_from, unless, first_of_all, TimestampFormat, same_kind, is_scalar, Schema, element_of, member_at, Binding, to_header, to_query, to_label, to_payload, to_body, binding_of, is_outside_body, is_bound, ShapeType, Value, Writes, no_writes, write, Write, list_of, fits, fits_member, is_null, is_in_range, are_writes_in_range, is_shaped, fits_at, settled, settled_elements, inserted_at, texts, query_names, kind_or_none, pairs_with, place_at, is_payload, is_codec_kind, has_bound_kind, has_element, is_header_kind, same_format, no_year, item_fault, element_fault, wrong_item_kind, key_fault, year_fault, pairs_fault, is_placed_at, member_view, bound_view_at, unless_empty, is_empty_value, with_own_elements, is_one_of, has_distinct_keys, has_own_formats, has_no_default_name, default_names}
 use Rattle.smithy_serde.specs.Values as value
-use Rattle.smithy_ids.specs.declared.shape_type.ShapeType.{ShapeType}
 use Rattle.smithy_ids.specs.declared.shape_type.ShapeType.TheVariants as kind
-use Rattle.smithy_serde.specs.Values.{Value, Writes, no_writes, write, Write, list_of}
-use Rattle.smithy_serde.specs.Fits.{fits, fits_member, is_null}
-use Rattle.smithy_serde.specs.Ranges.{is_in_range, are_writes_in_range}
-use Rattle.smithy_serde.specs.Shaped.{is_shaped, fits_at}
-use Rattle.smithy_serde.specs.NormalBody.{settled, settled_elements}
-use Rattle.smithy_binding.specs.Bindings.{inserted_at, texts, query_names, kind_or_none, pairs_with, place_at}
-use Rattle.smithy_binding.specs.Bodies.{is_payload, is_codec_kind}
-use Rattle.smithy_binding.specs.Checked.{has_bound_kind, has_element, is_header_kind, same_format}
-use Rattle.smithy_binding.specs.Faults.{no_year, item_fault, element_fault, wrong_item_kind, key_fault, year_fault, pairs_fault, is_placed_at}
-use Rattle.smithy_binding.specs.NormalForm.{member_view, bound_view_at, unless_empty, is_empty_value, with_own_elements}
-use Rattle.smithy_types.specs.Texts.{is_one_of}
-use Rattle.smithy_binding.specs.Typed.{has_distinct_keys, has_own_formats, has_no_default_name, default_names}
 use Rattle.smithy_unambiguity.proofs.ByMember.{at_member, first_value}
 use Rattle.smithy_unambiguity.proofs.Conforming.{conforming_bound}
 use Rattle.smithy_unambiguity.proofs.Settled.{shaped_fits}

@@ -1,14 +1,7 @@
 -- A schema that is well made stands in its table, and its texts are UTF-8.
-use Rattle.std.proofs.Common.{◌≡◌, ap, sym, subst, ◌∙◌, ℕ, zero, suc, ◌+◌, arith, Bool, true, false, ◌&&◌, ◌||◌, ◌==◌, List, [], ◌∷◌, slice_get, Option, Some, None, option_map, is_some}
-use Rattle.std.specs.List.{list_all}
-use Rattle.std.specs.Option.{option_map_or, is_none}
-use Rattle.std.specs.Str.{is_utf8}
-use Rattle.std.proofs.lemmas.Bool.{and_parts}
+use Rattle.smithy_unambiguity.proofs.Common.{◌≡◌, ap, sym, subst, ◌∙◌, ℕ, zero, suc, ◌+◌, arith, Bool, true, false, ◌&&◌, ◌||◌, ◌==◌, List, [], ◌∷◌, slice_get, Option, Some, None, option_map, is_some, list_all, option_map_or, is_utf8, and_parts, is_member, IsSound, Node, Table, Schema, node_at, has_utf8, has_utf8_traits, has_utf8_texts, is_whole, are_in_place, is_node_well_made, is_table_well_made, is_well_made, Stands}
+use Rattle.std.specs.Option.{is_none}
 use Rattle.smithy_ids.specs.ShapeIds.{has_hash}
-use Rattle.smithy_schema.specs.Defining.{is_member, IsSound}
-use Rattle.smithy_schema.specs.Nodes.{Node, Table, Schema, node_at}
-use Rattle.smithy_schema.specs.WellMade.{has_utf8, has_utf8_traits, has_utf8_texts, is_whole, are_in_place, is_node_well_made, is_table_well_made, is_well_made}
-use Rattle.smithy_document.specs.ReadsBack.{Stands}
 
 all_nodes : (q : Node → Bool) (nodes : Table) (place : ℕ) (n : Node) → list_all (λ (o : Option Node). option_map_or q o true) nodes ≡ true → node_at nodes place ≡ Some n → q n ≡ true
 all_nodes q [] place n all e = absurd (cc e)

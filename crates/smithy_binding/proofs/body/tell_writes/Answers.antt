@@ -1,6 +1,4 @@
-use Rattle.std.proofs.Common.{rules, refl}
-use Rattle.smithy_serde.proofs.Calls.{tells_none, one_tells}
-use Rattle.smithy_serde.proofs.InOrder.{told_next, told_stop, told_end}
+use Rattle.smithy_binding.proofs.Common.{rules, refl, tells_none, one_tells, told_next, told_stop, told_end}
 use Rattle.smithy_binding.proofs.TellingUnbound.{told_in_order, defined-at}
 use Rattle.smithy_binding.proofs.body.tell_writes.Goals as goal
 

@@ -1,6 +1,4 @@
-use Rattle.std.proofs.Common.{Ok, take}
-use Rattle.smithy_serde.specs.Writing.{Tells}
-use Rattle.smithy_binding.proofs.TellingUnbound.{told}
+use Rattle.smithy_binding.proofs.Common.{Ok, take, Tells, told}
 use Rattle.smithy_binding.proofs.body.tell_writes.Given as goal
 
 -- the writes so far were told

@@ -1,13 +1,6 @@
-use Rattle.std.proofs.Common.{rules}
+use Rattle.smithy_binding.proofs.Common.{rules, no_writes, structure, empty_state, document_fault, IsFaultRefusal, label, call_rule, writes_rule, told}
 use Rattle.smithy_serde.specs.declared.scalar.Group.TheVariants as group
-use Rattle.smithy_serde.specs.Values.{no_writes, structure}
-use Rattle.smithy_serde.specs.Told.{empty_state}
-use Rattle.smithy_serde.specs.DocumentOf.{document_fault}
-use Rattle.smithy_serde.specs.Refusing.{IsFaultRefusal}
-use Rattle.smithy_serde.specs.Writing.{label}
-use Rattle.smithy_serde.proofs.Calls.{call_rule, writes_rule}
 use Rattle.smithy_serde.proofs.FinishingLemmas.{refused_part, refused_group}
-use Rattle.smithy_binding.proofs.TellingUnbound.{told}
 use Rattle.smithy_binding.proofs.body.text_of_writes.Goals as goal
 
 pub returns-in_err-open_struct-clause-err : goal.returns-in_err-open_struct-clause-err

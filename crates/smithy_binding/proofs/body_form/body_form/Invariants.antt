@@ -1,6 +1,4 @@
-use Rattle.std.proofs.Common.{◌≡◌, ◌||◌}
-use Rattle.smithy_schema.specs.References.{schema_of}
-use Rattle.smithy_binding.specs.Bodies.{payload_kind, has_unbound_member}
+use Rattle.smithy_binding.proofs.Common.{◌≡◌, ◌||◌, schema_of, payload_kind, has_unbound_member}
 use Rattle.smithy_binding.proofs.PayloadMembers.{payload_from}
 use Rattle.smithy_binding.proofs.UnboundMembers.{unbound_from}
 use Rattle.smithy_binding.proofs.body_form.body_form.Given as goal

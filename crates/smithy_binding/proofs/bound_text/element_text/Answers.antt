@@ -1,7 +1,5 @@
-use Rattle.std.proofs.Common.{◌≡◌, sym, ◌∙◌, false, None}
-use Rattle.smithy_serde.specs.StoredValues.{value_in}
+use Rattle.smithy_binding.proofs.Common.{◌≡◌, sym, ◌∙◌, false, None, value_in, no_year}
 use Rattle.smithy_strings.specs.Wire.{wire}
-use Rattle.smithy_binding.specs.Faults.{no_year}
 use Rattle.smithy_binding.proofs.Refusals.{IfErr-at, IfErr-then}
 use Rattle.smithy_binding.proofs.bound_text.element_text.Goals as goal
 

@@ -1,5 +1,4 @@
-use Rattle.std.proofs.Common.{sym, ◌∙◌}
-use Rattle.smithy_serde.specs.StoredValues.{value_in}
+use Rattle.smithy_binding.proofs.Common.{sym, ◌∙◌, value_in}
 use Rattle.smithy_strings.specs.Wire.{wire}
 use Rattle.smithy_binding.proofs.Refusals.{IfErr-each}
 use Rattle.smithy_binding.proofs.bound_text.text_of.Goals as goal

@@ -1,9 +1,4 @@
-use Rattle.std.proofs.Common.{◌≡◌, ap, sym, ◌∙◌, true, false}
-use Rattle.std.proofs.lemmas.Result.{IfOk-weaker}
-use Rattle.smithy_schema.specs.Nodes.{members_of}
-use Rattle.smithy_schema.specs.References.{schema_of}
-use Rattle.smithy_binding.specs.Checked.{has_sound_names, has_sound_http}
-use Rattle.smithy_binding.specs.Checking.{are_sound, have_sound_names}
+use Rattle.smithy_binding.proofs.Common.{◌≡◌, ap, sym, ◌∙◌, true, false, IfOk-weaker, members_of, schema_of, has_sound_names, has_sound_http, are_sound, have_sound_names}
 use Rattle.smithy_binding.proofs.JointTests.{first_fails, second_fails, third_decides}
 use Rattle.smithy_binding.proofs.check.are_checked.Goals as goal
 

@@ -1,8 +1,4 @@
-use Rattle.std.proofs.Common.{ap, ◌∙◌, ◌&&◌}
-use Rattle.smithy_schema.specs.Nodes.{members_of}
-use Rattle.smithy_schema.specs.References.{schema_of}
-use Rattle.smithy_binding.specs.Checked.{has_named_members, has_sound_names, has_sound_http, checked_input}
-use Rattle.smithy_binding.specs.Checking.{shown, are_sound}
+use Rattle.smithy_binding.proofs.Common.{ap, ◌∙◌, ◌&&◌, members_of, schema_of, has_named_members, has_sound_names, has_sound_http, checked_input, shown, are_sound}
 use Rattle.smithy_binding.proofs.JointTests.{first_decides, others_decide}
 use Rattle.smithy_binding.proofs.CheckingLemmas.{checked_input-is}
 use Rattle.smithy_binding.proofs.check.checked_input.Goals as goal

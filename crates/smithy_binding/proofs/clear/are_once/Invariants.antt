@@ -1,6 +1,4 @@
-use Rattle.std.proofs.Common.{◌≡◌, drop}
-use Rattle.std.specs.List.{list_all}
-use Rattle.smithy_binding.specs.ClearParts.{is_marked_once}
+use Rattle.smithy_binding.proofs.Common.{◌≡◌, drop, list_all, is_marked_once}
 use Rattle.smithy_binding.proofs.clear.are_once.Given as goal
 
 abbrev pub invariant-loop-name : goal.invariant-loop-name

@@ -1,7 +1,4 @@
-use Rattle.std.proofs.Common.{◌≡◌, drop}
-use Rattle.smithy_binding.specs.Clear.{are_whole_segments}
-use Rattle.smithy_binding.specs.ClearParts.{are_whole_behind}
-use Rattle.smithy_binding.specs.CutTemplate.{behind_holes, literal_alone, template_shown}
+use Rattle.smithy_binding.proofs.Common.{◌≡◌, drop, are_whole_segments, are_whole_behind, behind_holes, literal_alone, template_shown}
 use Rattle.smithy_binding.proofs.clear.are_whole_segments.Given as goal
 
 abbrev pub invariant-loop-hole : goal.invariant-loop-hole

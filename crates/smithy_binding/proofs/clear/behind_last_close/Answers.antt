@@ -1,5 +1,4 @@
-use Rattle.std.proofs.Common.{◌≡◌, ◌≤◌, ◌-◌, ◌∙◌, length, drop, arith, length-drop}
-use Rattle.std.proofs.lemmas.List.{take_all}
+use Rattle.smithy_binding.proofs.Common.{◌≡◌, ◌≤◌, ◌-◌, ◌∙◌, length, drop, arith, length-drop, take_all}
 use Rattle.smithy_binding.proofs.ClearLemmas.{after_last-at}
 use Rattle.smithy_binding.proofs.clear.behind_last_close.Goals as goal
 

@@ -1,4 +1,4 @@
-use Rattle.std.proofs.Common.{◌≡◌, ◌≢◌, ◌≤◌, ◌<◌, ◌-◌, ℕ, get_or}
+use Rattle.smithy_binding.proofs.Common.{◌≡◌, ◌≢◌, ◌≤◌, ◌<◌, ◌-◌, ℕ, get_or}
 use Rattle.smithy_binding.proofs.clear.behind_last_close.Given as goal
 
 abbrev pub invariant-loop-i : goal.invariant-loop-i

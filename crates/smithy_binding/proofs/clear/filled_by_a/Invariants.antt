@@ -1,6 +1,4 @@
-use Rattle.std.proofs.Common.{◌≡◌, ◌++◌, drop, string_bytes}
-use Rattle.smithy_binding.specs.Clear.{filled_by_a}
-use Rattle.smithy_binding.specs.CutTemplate.{behind_holes, literal_alone, template_shown}
+use Rattle.smithy_binding.proofs.Common.{◌≡◌, ◌++◌, drop, string_bytes, filled_by_a, behind_holes, literal_alone, template_shown}
 use Rattle.smithy_binding.proofs.clear.filled_by_a.Given as goal
 
 abbrev pub invariant-loop-hole : goal.invariant-loop-hole

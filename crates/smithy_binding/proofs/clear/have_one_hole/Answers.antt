@@ -1,6 +1,4 @@
-use Rattle.std.proofs.Common.{ap, ◌∙◌, false, map, unwrap_or}
-use Rattle.smithy_binding.specs.ClearParts.{is_marked_once, once_mark, times_named}
-use Rattle.smithy_binding.specs.CutTemplate.{hole_shown}
+use Rattle.smithy_binding.proofs.Common.{ap, ◌∙◌, false, map, unwrap_or, is_marked_once, once_mark, times_named, hole_shown}
 use Rattle.smithy_binding.proofs.ClearLemmas.{one_hole, list_all-same}
 use Rattle.smithy_binding.proofs.clear.have_one_hole.Goals as goal
 

@@ -1,4 +1,4 @@
-use Rattle.std.proofs.Common.{ap, sym, ◌∙◌, length}
+use Rattle.smithy_binding.proofs.Common.{ap, sym, ◌∙◌, length}
 use Rattle.smithy_binding.proofs.ClearLemmas.{holes-count}
 use Rattle.smithy_binding.proofs.clear.hole_count.Goals as goal
 

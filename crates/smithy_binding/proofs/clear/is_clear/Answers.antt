@@ -1,10 +1,4 @@
-use Rattle.std.specs.Borrow.{Bor}
-use Rattle.std.proofs.Common.{◌≡◌, ℕ, List, ap, sym, ◌∙◌, false, true, ◌&&◌, ◌==◌, length}
-use Rattle.std.specs.List.{list_all}
-use Rattle.smithy_types.specs.Grammars.{is_legal_target}
-use Rattle.smithy_schema.specs.Templates.{Template, pieces, has_unclosed_brace, holes_of}
-use Rattle.smithy_binding.specs.Checking.{texts_shown}
-use Rattle.smithy_binding.specs.Clear.{filled_by_a, are_whole_segments, has_whole_authority, holes_named, is_greedy_last}
+use Rattle.smithy_binding.proofs.Common.{Bor, ◌≡◌, ℕ, List, ap, sym, ◌∙◌, false, true, ◌&&◌, ◌==◌, length, list_all, is_legal_target, Template, pieces, has_unclosed_brace, holes_of, texts_shown, filled_by_a, are_whole_segments, has_whole_authority, holes_named, is_greedy_last}
 use Rattle.smithy_binding.proofs.ClearLemmas.{path_false, path_true, list_all-map}
 use Rattle.smithy_binding.proofs.clear.is_clear.Goals as goal
 

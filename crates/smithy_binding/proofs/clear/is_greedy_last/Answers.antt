@@ -1,5 +1,4 @@
-use Rattle.std.proofs.Common.{◌≡◌, ◌<◌, ◌-◌, ap, sym, ◌∙◌, length, drop, arith, length-drop}
-use Rattle.smithy_binding.specs.CutTemplate.{literal_alone}
+use Rattle.smithy_binding.proofs.Common.{◌≡◌, ◌<◌, ◌-◌, ap, sym, ◌∙◌, length, drop, arith, length-drop, literal_alone}
 use Rattle.smithy_binding.proofs.ClearLemmas.{greedy-behind}
 use Rattle.smithy_binding.proofs.clear.is_greedy_last.Goals as goal
 

@@ -1,8 +1,4 @@
-use Rattle.std.proofs.Common.{◌≡◌, drop}
-use Rattle.smithy_schema.specs.Templates.{holes_of}
-use Rattle.smithy_binding.specs.Clear.{is_greedy_last}
-use Rattle.smithy_binding.specs.ClearParts.{is_greedy_last_behind}
-use Rattle.smithy_binding.specs.CutTemplate.{behind_holes, literal_alone, template_shown}
+use Rattle.smithy_binding.proofs.Common.{◌≡◌, drop, holes_of, is_greedy_last, is_greedy_last_behind, behind_holes, literal_alone, template_shown}
 use Rattle.smithy_binding.proofs.clear.is_greedy_last.Given as goal
 
 abbrev pub invariant-loop-hole : goal.invariant-loop-hole

@@ -1,13 +1,4 @@
-use Rattle.std.proofs.Common.{◌≡◌, ap, ◌∙◌, ℕ, ◌+◌, Bool, false, List, [], ◌∷◌, ◌++◌, map, take, cond, Option, Some, is_none, get_or}
-use Rattle.std.specs.BTreeMap.{BTreeMap, get_by}
-use Rattle.std.specs.Borrow.{Bor}
-use Rattle.std.specs.Cmp.Lexicographic.{slice_cmp}
-use Rattle.std.specs.Ordering.{nat_cmp}
-use Rattle.std.specs.Str.{bytes_eq}
-use Rattle.std.proofs.lemmas.List.{take_more, map-append}
-use Rattle.std.proofs.lemmas.Map.Text.{btree_map_updates_str}
-use Rattle.smithy_binding.specs.declared.template.CutHole.{CutHole}
-use Rattle.smithy_binding.specs.CutTemplate.{hole_shown}
+use Rattle.smithy_binding.proofs.Common.{◌≡◌, ap, ◌∙◌, ℕ, ◌+◌, Bool, false, List, [], ◌∷◌, ◌++◌, map, take, cond, Option, Some, is_none, get_or, BTreeMap, get_by, Bor, slice_cmp, nat_cmp, bytes_eq, take_more, map-append, btree_map_updates_str, CutHole, hole_shown}
 use Rattle.smithy_binding.proofs.ClearLemmas.{marks-more, is_none-copied}
 use Rattle.smithy_binding.proofs.clear.names_once.Goals as goal
 

@@ -1,9 +1,4 @@
-use Rattle.std.proofs.Common.{◌≡◌, ℕ, List, take, map}
-use Rattle.std.specs.BTreeMap.{get_by}
-use Rattle.std.specs.Cmp.Lexicographic.{slice_cmp}
-use Rattle.std.specs.Ordering.{nat_cmp}
-use Rattle.smithy_binding.specs.ClearParts.{once_mark, times_named}
-use Rattle.smithy_binding.specs.CutTemplate.{hole_shown}
+use Rattle.smithy_binding.proofs.Common.{◌≡◌, ℕ, List, take, map, get_by, slice_cmp, nat_cmp, once_mark, times_named, hole_shown}
 use Rattle.smithy_binding.proofs.clear.names_once.Given as goal
 
 abbrev pub invariant-loop-hole : goal.invariant-loop-hole

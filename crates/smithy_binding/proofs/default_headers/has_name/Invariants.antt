@@ -1,5 +1,4 @@
-use Rattle.std.proofs.Common.{◌≡◌, is_some}
-use Rattle.smithy_types.specs.Texts.{found}
+use Rattle.smithy_binding.proofs.Common.{◌≡◌, is_some, found}
 use Rattle.smithy_binding.proofs.default_headers.has_name.Given as goal
 
 abbrev pub invariant-loop-own : goal.invariant-loop-own

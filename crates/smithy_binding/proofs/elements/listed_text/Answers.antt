@@ -1,12 +1,7 @@
-use Rattle.std.proofs.Common.{rules, ◌≡◌, refl, ap, sym, ◌∙◌, [], Some, None, option_map, IfErr}
+use Rattle.smithy_binding.proofs.Common.{rules, ◌≡◌, refl, ap, sym, ◌∙◌, [], Some, None, option_map, IfErr, writes_in, value_in, label_at, Write, list_of, element_text, no_year, TellsFault}
 use Rattle.smithy_serde.specs.StoredValues as stored
-use Rattle.smithy_serde.specs.StoredValues.{writes_in, value_in, label_at}
-use Rattle.smithy_serde.specs.Values.{Write, list_of}
 use Rattle.smithy_strings.specs.declared.wire.Place.TheVariants as at
 use Rattle.smithy_strings.specs.Lists.{listed}
-use Rattle.smithy_binding.specs.Bindings.{element_text}
-use Rattle.smithy_binding.specs.Faults.{no_year}
-use Rattle.smithy_binding.specs.Refusing.{TellsFault}
 use Rattle.smithy_binding.proofs.ElementSteps.{AreTexts-none, AreTexts-stop, AreTexts-end, written-more, some_texts, left}
 use Rattle.smithy_binding.proofs.Refusals.{IfErr-then}
 use Rattle.smithy_binding.proofs.elements.listed_text.Goals as goal

@@ -1,9 +1,6 @@
-use Rattle.std.proofs.Common.{◌≡◌, ◌==◌, length, string_bytes}
-use Rattle.smithy_serde.specs.StoredValues.{writes_in}
-use Rattle.smithy_serde.specs.Values.{list_of}
+use Rattle.smithy_binding.proofs.Common.{◌≡◌, ◌==◌, length, string_bytes, writes_in, list_of, element_text}
 use Rattle.smithy_strings.specs.declared.wire.Place.TheVariants as at
 use Rattle.smithy_strings.specs.Lists.{listed}
-use Rattle.smithy_binding.specs.Bindings.{element_text}
 use Rattle.smithy_binding.proofs.ElementSteps.{HasWritten, left}
 use Rattle.smithy_binding.proofs.elements.listed_text.Given as goal
 

@@ -1,12 +1,5 @@
-use Rattle.std.proofs.Common.{rules, ◌≡◌, ap, sym, ◌∙◌, ◌++◌, [], string_bytes, Some, None, option_map, IfErr}
-use Rattle.std.proofs.lemmas.List.{append-nil}
-use Rattle.smithy_serde.specs.StoredValues.{writes_in, value_in, label_at, listed}
-use Rattle.smithy_serde.specs.Values.{Write, list_of}
+use Rattle.smithy_binding.proofs.Common.{rules, ◌≡◌, ap, sym, ◌∙◌, ◌++◌, [], string_bytes, Some, None, option_map, IfErr, append-nil, writes_in, value_in, label_at, listed, Write, list_of, pairs_with, element_text, no_year, TellsFault, queries}
 use Rattle.smithy_strings.specs.declared.wire.Place.TheVariants as at
-use Rattle.smithy_binding.specs.Bindings.{element_text, pairs_with}
-use Rattle.smithy_binding.specs.Faults.{no_year}
-use Rattle.smithy_binding.specs.Refusing.{TellsFault}
-use Rattle.smithy_binding.specs.TargetParts.{queries}
 use Rattle.smithy_binding.proofs.ElementSteps.{AreTexts-none, AreTexts-stop, AreTexts-end, written-more, queries-push, left}
 use Rattle.smithy_binding.proofs.Refusals.{IfErr-then}
 use Rattle.smithy_binding.proofs.elements.push_elements.Goals as goal

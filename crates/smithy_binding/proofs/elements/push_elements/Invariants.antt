@@ -1,9 +1,5 @@
-use Rattle.std.proofs.Common.{◌++◌, string_bytes}
-use Rattle.smithy_serde.specs.StoredValues.{writes_in}
-use Rattle.smithy_serde.specs.Values.{list_of}
+use Rattle.smithy_binding.proofs.Common.{◌++◌, string_bytes, writes_in, list_of, pairs_with, element_text, queries}
 use Rattle.smithy_strings.specs.declared.wire.Place.TheVariants as at
-use Rattle.smithy_binding.specs.Bindings.{element_text, pairs_with}
-use Rattle.smithy_binding.specs.TargetParts.{queries}
 use Rattle.smithy_binding.proofs.ElementSteps.{HasWritten, left}
 use Rattle.smithy_binding.proofs.elements.push_elements.Given as goal
 

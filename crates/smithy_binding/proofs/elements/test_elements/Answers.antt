@@ -1,5 +1,4 @@
-use Rattle.std.proofs.Common.{ap, sym, ◌∙◌, Some}
-use Rattle.smithy_schema.specs.References.{schema_of}
+use Rattle.smithy_binding.proofs.Common.{ap, sym, ◌∙◌, Some, schema_of}
 use Rattle.smithy_binding.proofs.ElementSteps.{fault-more, fault-stop, fault-end}
 use Rattle.smithy_binding.proofs.Refusals.{TellsFault-then}
 use Rattle.smithy_binding.proofs.elements.test_elements.Goals as goal

@@ -1,4 +1,4 @@
-use Rattle.std.proofs.Common.{◌≡◌, ◌++◌, map}
+use Rattle.smithy_binding.proofs.Common.{◌≡◌, ◌++◌, map}
 use Rattle.smithy_binding.specs.Pointing.{in_lower_case}
 use Rattle.smithy_binding.proofs.endpoint.append_all.Given as goal
 

@@ -1,4 +1,4 @@
-use Rattle.std.proofs.Common.{◌≡◌}
+use Rattle.smithy_binding.proofs.Common.{◌≡◌}
 use Rattle.smithy_binding.specs.Pointing.{without_all}
 use Rattle.smithy_binding.proofs.endpoint.remove_all.Given as goal
 

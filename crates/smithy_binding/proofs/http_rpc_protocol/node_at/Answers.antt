@@ -1,7 +1,5 @@
-use Rattle.std.proofs.Common.{ap}
 use Rattle.std.specs.Prelude.{option_map, unwrap_or}
-use Rattle.smithy_serde.specs.Values.{label_of}
-use Rattle.smithy_serde.specs.StoredValues.{no_label}
+use Rattle.smithy_binding.proofs.Common.{ap, label_of, no_label}
 use Rattle.smithy_binding.proofs.http_rpc_protocol.node_at.Goals as goal
 
 pub returns : goal.returns

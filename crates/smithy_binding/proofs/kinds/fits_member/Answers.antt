@@ -1,7 +1,4 @@
-use Rattle.std.proofs.Common.{ap, sym, ◌∙◌}
-use Rattle.smithy_schema.specs.References.{schema_of}
-use Rattle.smithy_serde.specs.Fits.{fits}
-use Rattle.smithy_serde.specs.StoredValues.{value_in}
+use Rattle.smithy_binding.proofs.Common.{ap, sym, ◌∙◌, schema_of, fits, value_in}
 use Rattle.smithy_binding.proofs.FittingKinds.{fits-some}
 use Rattle.smithy_binding.proofs.kinds.fits_member.Goals as goal
 

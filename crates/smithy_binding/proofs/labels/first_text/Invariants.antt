@@ -1,6 +1,4 @@
-use Rattle.std.proofs.Common.{◌≡◌, map, drop}
-use Rattle.smithy_types.specs.Texts.{found}
-use Rattle.smithy_binding.specs.Seen.{label_pair}
+use Rattle.smithy_binding.proofs.Common.{◌≡◌, map, drop, found, label_pair}
 use Rattle.smithy_binding.proofs.labels.first_text.Given as goal
 
 abbrev pub invariant-loop-label : goal.invariant-loop-label

@@ -1,7 +1,4 @@
-use Rattle.std.proofs.Common.{◌≡◌, ◌-◌, ℕ, List, map, arith}
-use Rattle.smithy_types.specs.Texts.{found}
-use Rattle.smithy_binding.specs.LabelTexts.{text_in_map}
-use Rattle.smithy_binding.specs.Seen.{label_pair}
+use Rattle.smithy_binding.proofs.Common.{◌≡◌, ◌-◌, ℕ, List, map, arith, found, text_in_map, label_pair}
 use Rattle.smithy_binding.proofs.LabelLemmas.{text-more}
 use Rattle.smithy_binding.proofs.labels.texts_in_map.Goals as goal
 

@@ -1,7 +1,4 @@
-use Rattle.std.proofs.Common.{◌≡◌, ◌≤◌, ℕ, List, length, map, drop}
-use Rattle.smithy_types.specs.Texts.{found}
-use Rattle.smithy_binding.specs.LabelTexts.{text_in_map}
-use Rattle.smithy_binding.specs.Seen.{label_pair}
+use Rattle.smithy_binding.proofs.Common.{◌≡◌, ◌≤◌, ℕ, List, length, map, drop, found, text_in_map, label_pair}
 use Rattle.smithy_binding.proofs.labels.texts_in_map.Given as goal
 
 abbrev pub invariant-loop-i : goal.invariant-loop-i

@@ -1,5 +1,4 @@
-use Rattle.std.proofs.Common.{ap, ◌∙◌, ◌%◌, ◌==◌}
-use Rattle.smithy_serde.specs.StoredValues.{writes_in}
+use Rattle.smithy_binding.proofs.Common.{ap, ◌∙◌, ◌%◌, ◌==◌, writes_in}
 use Rattle.smithy_binding.proofs.MapEntries.{ends-even}
 use Rattle.smithy_binding.proofs.maps.ends_with_value.Goals as goal
 

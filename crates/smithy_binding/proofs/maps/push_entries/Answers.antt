@@ -1,10 +1,4 @@
-use Rattle.std.proofs.Common.{ap, sym, ◌∙◌, ◌+◌, ◌*◌, ◌++◌, string_bytes}
-use Rattle.std.proofs.lemmas.List.{append-nil}
-use Rattle.smithy_schema.specs.References.{schema_of}
-use Rattle.smithy_serde.specs.StoredValues.{writes_in}
-use Rattle.smithy_binding.specs.Bindings.{query_names}
-use Rattle.smithy_binding.specs.Entries.{has_key, unnamed, pairs_at_place}
-use Rattle.smithy_binding.specs.TargetParts.{queries}
+use Rattle.smithy_binding.proofs.Common.{ap, sym, ◌∙◌, ◌+◌, ◌*◌, ◌++◌, string_bytes, append-nil, schema_of, writes_in, query_names, has_key, unnamed, pairs_at_place, queries}
 use Rattle.smithy_binding.proofs.MapEntries.{kept_from, kept-all, kept-at, kept-end, pairs-push}
 use Rattle.smithy_binding.proofs.maps.push_entries.Goals as goal
 

@@ -1,11 +1,5 @@
-use Rattle.std.proofs.Common.{◌≡◌, ◌++◌, string_bytes}
-use Rattle.smithy_schema.specs.Nodes.{Schema, Table, to_query_map}
-use Rattle.smithy_schema.specs.References.{schema_of}
-use Rattle.smithy_serde.specs.StoredValues.{writes_in}
+use Rattle.smithy_binding.proofs.Common.{◌≡◌, ◌++◌, string_bytes, Schema, Table, to_query_map, schema_of, writes_in, pairs_at, query_names, has_key, queries}
 use Rattle.smithy_serde.specs.Values.{map}
-use Rattle.smithy_binding.specs.Bindings.{pairs_at, query_names}
-use Rattle.smithy_binding.specs.Entries.{has_key}
-use Rattle.smithy_binding.specs.TargetParts.{queries}
 use Rattle.smithy_binding.proofs.MapEntries.{kept_from}
 use Rattle.smithy_binding.proofs.maps.push_entries.Given as goal
 

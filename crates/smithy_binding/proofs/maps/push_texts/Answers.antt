@@ -1,4 +1,4 @@
-use Rattle.std.proofs.Common.{sym, ◌∙◌, string_bytes}
+use Rattle.smithy_binding.proofs.Common.{sym, ◌∙◌, string_bytes}
 use Rattle.smithy_binding.proofs.MapEntries.{texts-push, texts-end}
 use Rattle.smithy_binding.proofs.maps.push_texts.Goals as goal
 

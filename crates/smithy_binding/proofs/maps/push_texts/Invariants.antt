@@ -1,9 +1,4 @@
-use Rattle.std.proofs.Common.{◌≡◌, ◌++◌, string_bytes}
-use Rattle.smithy_schema.specs.Nodes.{Table}
-use Rattle.smithy_serde.specs.StoredValues.{listed, writes_in}
-use Rattle.smithy_serde.specs.Values.{list}
-use Rattle.smithy_binding.specs.Bindings.{entry_pairs}
-use Rattle.smithy_binding.specs.TargetParts.{queries}
+use Rattle.smithy_binding.proofs.Common.{◌≡◌, ◌++◌, string_bytes, Table, listed, writes_in, list, entry_pairs, queries}
 use Rattle.smithy_binding.proofs.maps.push_texts.Given as goal
 
 abbrev pub invariant-loop-text : goal.invariant-loop-text

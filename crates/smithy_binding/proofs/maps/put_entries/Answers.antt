@@ -1,9 +1,4 @@
-use Rattle.std.proofs.Common.{rules, ◌≡◌, refl, ap, sym, ◌∙◌, ◌+◌, ◌∷◌, [], Some, IfErr}
-use Rattle.smithy_schema.specs.References.{schema_of}
-use Rattle.smithy_serde.specs.StoredValues.{writes_in}
-use Rattle.smithy_http.specs.Headers.{put_all}
-use Rattle.smithy_binding.specs.Faults.{pairs_fault}
-use Rattle.smithy_binding.specs.Refusing.{TellsFault}
+use Rattle.smithy_binding.proofs.Common.{rules, ◌≡◌, refl, ap, sym, ◌∙◌, ◌+◌, ◌∷◌, [], Some, IfErr, schema_of, writes_in, put_all, pairs_fault, TellsFault}
 use Rattle.smithy_binding.proofs.MapEntries.{header_of, headers_from, headers-at, headers-end, pairs_fault-more, pairs_fault-stop}
 use Rattle.smithy_binding.proofs.Refusals.{IfErr-then}
 use Rattle.smithy_binding.proofs.maps.put_entries.Goals as goal
@@ -26,8 +21,8 @@ loop-place-preserved c =
       put = ap (λ hs. put_all hs rest) c.in_ok-put_entry.ensures.put ∙ sym (ap (put_all c.loop-place.headers) here) ∙ c.loop-place.invariant.put;
     }
 
-pub returns-in_err-put_entry-clause-err : goal.returns-in_err-put_entry-clause-err
-returns-in_err-put_entry-clause-err c =
+pub returns-in_err-put_entry : goal.returns-in_err-put_entry
+returns-in_err-put_entry c =
     let t = c.args.table.now in
     let m = schema_of c.args.member in
     let ws = writes_in t c.args.entries.now in
@@ -37,14 +32,18 @@ returns-in_err-put_entry-clause-err c =
     let rest = headers_from prefix ws (i + 1) in
     let here = headers-at prefix ws i c.text_at-key.result.now c.text_at-value.result.now (c.len-place-end.ensures t) c.loop-place-test.true (c.text_at-key.ensures t) (c.text_at-value.ensures t) in
     let told : IfErr c.from_residual.result (λ r. TellsFault r (λ f. pairs_fault m (e ∷ []) ≡ Some f)) = search rules in
-    IfErr-then c.from_residual.result _ _ (λ f one. sym c.loop-place.invariant.legal ∙ ap (pairs_fault m) here ∙ pairs_fault-stop m e rest f one) told
+    record {
+      ok = search rules;
+      put = search rules;
+      err = IfErr-then c.from_residual.result _ _ (λ f one. sym c.loop-place.invariant.legal ∙ ap (pairs_fault m) here ∙ pairs_fault-stop m e rest f one) told;
+    }
 
-pub returns-clause-ok : goal.returns-clause-ok
-returns-clause-ok c =
+pub returns : goal.returns
+returns c =
     let ws = writes_in c.args.table.now c.args.entries.now in
-    sym c.loop-place.invariant.legal ∙ ap (pairs_fault (schema_of c.args.member)) (headers-end c.args.prefix.now ws c.loop-place.place (c.len-place-end.ensures c.args.table.now) c.loop-place-test.false)
-
-pub returns-clause-put : goal.returns-clause-put
-returns-clause-put c =
-    let ws = writes_in c.args.table.now c.args.entries.now in
-    sym (ap (put_all c.loop-place.headers) (headers-end c.args.prefix.now ws c.loop-place.place (c.len-place-end.ensures c.args.table.now) c.loop-place-test.false)) ∙ c.loop-place.invariant.put
+    let none = headers-end c.args.prefix.now ws c.loop-place.place (c.len-place-end.ensures c.args.table.now) c.loop-place-test.false in
+    record {
+      ok = sym c.loop-place.invariant.legal ∙ ap (pairs_fault (schema_of c.args.member)) none;
+      put = sym (ap (put_all c.loop-place.headers) none) ∙ c.loop-place.invariant.put;
+      err = search rules;
+    }

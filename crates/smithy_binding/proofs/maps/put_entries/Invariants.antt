@@ -1,11 +1,5 @@
-use Rattle.std.proofs.Common.{◌≡◌}
-use Rattle.smithy_schema.specs.Nodes.{to_prefix}
-use Rattle.smithy_schema.specs.References.{schema_of}
-use Rattle.smithy_serde.specs.StoredValues.{writes_in}
+use Rattle.smithy_binding.proofs.Common.{◌≡◌, to_prefix, schema_of, writes_in, put_all, inserted_at, pairs_fault}
 use Rattle.smithy_serde.specs.Values.{map}
-use Rattle.smithy_http.specs.Headers.{put_all}
-use Rattle.smithy_binding.specs.Bindings.{inserted_at}
-use Rattle.smithy_binding.specs.Faults.{pairs_fault}
 use Rattle.smithy_binding.proofs.MapEntries.{headers_from}
 use Rattle.smithy_binding.proofs.maps.put_entries.Given as goal
 

@@ -1,12 +1,4 @@
-use Rattle.std.proofs.Common.{ap, ◌∙◌, ◌||◌, ℕ, List, Option, Some}
-use Rattle.std.specs.BTreeMap.{BTreeMap, get_by}
-use Rattle.std.specs.Borrow.{Bor}
-use Rattle.std.specs.Cmp.Lexicographic.{slice_cmp}
-use Rattle.std.specs.Ordering.{nat_cmp}
-use Rattle.std.proofs.lemmas.Map.Text.{btree_map_updates_str}
-use Rattle.smithy_types.specs.Texts.{is_one_of}
-use Rattle.smithy_schema.specs.References.{schema_of}
-use Rattle.smithy_binding.specs.Entries.{has_key}
+use Rattle.smithy_binding.proofs.Common.{ap, ◌∙◌, ◌||◌, ℕ, List, Option, Some, BTreeMap, get_by, Bor, slice_cmp, nat_cmp, btree_map_updates_str, is_one_of, schema_of, has_key}
 use Rattle.smithy_binding.proofs.MapEntries.{names-put, names-skip}
 use Rattle.smithy_binding.proofs.maps.query_names.Goals.{in-Some+in_ok-insert, in_default}
 use Rattle.smithy_binding.proofs.maps.query_names.Goals as goal

@@ -1,8 +1,4 @@
-use Rattle.std.proofs.Common.{◌≡◌, ◌||◌, ℕ, List}
-use Rattle.smithy_types.specs.Texts.{is_one_of}
-use Rattle.smithy_schema.specs.References.{schema_of}
-use Rattle.smithy_binding.specs.Bindings.{query_names}
-use Rattle.smithy_binding.specs.Entries.{has_key}
+use Rattle.smithy_binding.proofs.Common.{◌≡◌, ◌||◌, ℕ, List, is_one_of, schema_of, query_names, has_key}
 use Rattle.smithy_binding.proofs.MapEntries.{names_from}
 use Rattle.smithy_binding.proofs.maps.query_names.Given as goal
 

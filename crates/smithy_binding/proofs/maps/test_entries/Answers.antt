@@ -1,8 +1,4 @@
-use Rattle.std.proofs.Common.{rules, ◌≡◌, sym, ◌∙◌, Some, option_map, IfErr}
-use Rattle.smithy_schema.specs.References.{schema_of}
-use Rattle.smithy_serde.specs.StoredValues.{value_in}
-use Rattle.smithy_binding.specs.Faults.{part_fault}
-use Rattle.smithy_binding.specs.Refusing.{TellsFault}
+use Rattle.smithy_binding.proofs.Common.{rules, ◌≡◌, sym, ◌∙◌, Some, option_map, IfErr, schema_of, value_in, part_fault, TellsFault}
 use Rattle.smithy_binding.proofs.MapEntries.{entry-more, entry-stop, entry-end}
 use Rattle.smithy_binding.proofs.Refusals.{IfErr-then}
 use Rattle.smithy_binding.proofs.maps.test_entries.Goals as goal

@@ -1,8 +1,4 @@
-use Rattle.std.proofs.Common.{◌≡◌, option_map}
-use Rattle.smithy_schema.specs.Nodes.{key_of, value_of}
-use Rattle.smithy_schema.specs.References.{schema_of}
-use Rattle.smithy_serde.specs.StoredValues.{listed, writes_in}
-use Rattle.smithy_binding.specs.Faults.{entry_fault}
+use Rattle.smithy_binding.proofs.Common.{◌≡◌, option_map, key_of, value_of, schema_of, listed, writes_in, entry_fault}
 use Rattle.smithy_binding.proofs.maps.test_entries.Given as goal
 
 abbrev pub invariant-loop-value : goal.invariant-loop-value

@@ -1,9 +1,4 @@
-use Rattle.std.proofs.Common.{ap, sym, ◌∙◌, Some, option_map}
-use Rattle.std.proofs.lemmas.Result.{on_ok_weaker}
-use Rattle.smithy_schema.specs.References.{schema_of}
-use Rattle.smithy_serde.specs.Fits.{fits}
-use Rattle.smithy_serde.specs.StoredValues.{value_in}
-use Rattle.smithy_binding.specs.Faults.{wrong_item_kind}
+use Rattle.smithy_binding.proofs.Common.{ap, sym, ◌∙◌, Some, option_map, on_ok_weaker, schema_of, fits, value_in, wrong_item_kind}
 use Rattle.smithy_binding.proofs.MapEntries.{part-wrong, part-fits}
 use Rattle.smithy_binding.proofs.Refusals.{TellsFault-then, IfErr-then}
 use Rattle.smithy_binding.proofs.maps.test_part.Goals as goal

@@ -1,10 +1,6 @@
-use Rattle.std.proofs.Common.{rules, ◌≡◌, true, false}
-use Rattle.std.proofs.lemmas.Iterator.{cases_from_all, YieldsList-from_slice}
-use Rattle.smithy_schema.specs.References.{schema_of}
-use Rattle.smithy_binding.specs.Checking.{is_sound_in}
+use Rattle.smithy_binding.proofs.Common.{rules, ◌≡◌, true, false, cases_from_all, YieldsList-from_slice, schema_of, is_sound_in, tests}
 use Rattle.smithy_binding.proofs.Walks.{all_items}
 use Rattle.smithy_binding.proofs.members.are_sound_members.Goals as goal
-use borrow.Author.Tests.{tests}
 
 pub returns : goal.returns
 returns c =

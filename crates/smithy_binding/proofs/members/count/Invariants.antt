@@ -1,5 +1,4 @@
-use Rattle.std.proofs.Common.{◌≡◌, ◌+◌, ◌≤◌, drop}
-use Rattle.smithy_binding.specs.Checking.{shown, count_of}
+use Rattle.smithy_binding.proofs.Common.{◌≡◌, ◌+◌, ◌≤◌, drop, shown, count_of}
 use Rattle.smithy_binding.proofs.members.count.Given as goal
 
 abbrev pub invariant-loop-member : goal.invariant-loop-member

@@ -1,9 +1,5 @@
-use Rattle.std.proofs.Common.{◌≡◌, ◌<◌, ◌+◌, List, ap, sym, ◌∙◌, ◌++◌, [], ◌∷◌, append_assoc, length, get_or, arith}
-use Rattle.std.proofs.lemmas.List.{map-append, length-map}
+use Rattle.smithy_binding.proofs.Common.{◌≡◌, ◌<◌, ◌+◌, List, ap, sym, ◌∙◌, ◌++◌, [], ◌∷◌, append_assoc, length, get_or, arith, map-append, length-map, Schema, schema_of, shown}
 use Rattle.std.proofs.lemmas.Option.{slice_get-get_or}
-use Rattle.smithy_schema.specs.Nodes.{Schema}
-use Rattle.smithy_schema.specs.References.{schema_of}
-use Rattle.smithy_binding.specs.Checking.{shown}
 use Rattle.smithy_binding.proofs.MemberSteps.{members_from, member-here, member-hole}
 use Rattle.smithy_binding.proofs.members.defined_members.Goals as goal
 

@@ -1,8 +1,4 @@
-use Rattle.std.proofs.Common.{◌≡◌, ◌++◌}
-use Rattle.smithy_schema.specs.Nodes.{members_of}
-use Rattle.smithy_schema.specs.References.{schema_of}
-use Rattle.smithy_binding.specs.Checked.{has_defined_members}
-use Rattle.smithy_binding.specs.Checking.{shown}
+use Rattle.smithy_binding.proofs.Common.{◌≡◌, ◌++◌, members_of, schema_of, has_defined_members, shown}
 use Rattle.smithy_binding.proofs.MemberSteps.{members_from, are_defined_from}
 use Rattle.smithy_binding.proofs.members.defined_members.Given as goal
 

@@ -1,10 +1,6 @@
-use Rattle.std.proofs.Common.{rules, ◌≡◌, true, false, not}
-use Rattle.std.proofs.lemmas.Iterator.{cases_from_any, YieldsList-from_slice}
-use Rattle.smithy_schema.specs.References.{schema_of}
-use Rattle.smithy_binding.specs.Checking.{is_bound_in}
+use Rattle.smithy_binding.proofs.Common.{rules, ◌≡◌, true, false, not, cases_from_any, YieldsList-from_slice, schema_of, is_bound_in, tests}
 use Rattle.smithy_binding.proofs.Walks.{any_item}
 use Rattle.smithy_binding.proofs.members.has_unbound_member.Goals as goal
-use borrow.Author.Tests.{tests}
 
 pub returns : goal.returns
 returns c =

@@ -1,5 +1,4 @@
-use Rattle.std.proofs.Common.{◌≡◌, drop}
-use Rattle.smithy_binding.specs.Checking.{shown, payload_in}
+use Rattle.smithy_binding.proofs.Common.{◌≡◌, drop, shown, payload_in}
 use Rattle.smithy_binding.proofs.members.payload_kind.Given as goal
 
 abbrev pub invariant-loop-member : goal.invariant-loop-member

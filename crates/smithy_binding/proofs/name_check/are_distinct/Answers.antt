@@ -1,12 +1,4 @@
-use Rattle.std.proofs.Common.{◌≡◌, ◌+◌, ◌-◌, ap, sym, ◌∙◌, ℕ, true, false, List, [], ◌∷◌, drop, get_or, Option, Some, is_some, arith}
-use Rattle.std.specs.BTreeMap.{BTreeMap, get_by}
-use Rattle.std.specs.Borrow.{Bor}
-use Rattle.std.specs.Cmp.Lexicographic.{slice_cmp}
-use Rattle.std.specs.Ordering.{nat_cmp}
-use Rattle.std.proofs.lemmas.List.{drop_more}
-use Rattle.std.proofs.lemmas.Map.Text.{btree_map_updates_str}
-use Rattle.smithy_types.specs.Texts.{is_one_of}
-use Rattle.smithy_binding.specs.Checking.{texts_shown}
+use Rattle.smithy_binding.proofs.Common.{◌≡◌, ◌+◌, ◌-◌, ap, sym, ◌∙◌, ℕ, true, false, List, [], ◌∷◌, drop, get_or, Option, Some, is_some, arith, BTreeMap, get_by, Bor, slice_cmp, nat_cmp, drop_more, btree_map_updates_str, is_one_of, texts_shown}
 use Rattle.smithy_binding.proofs.DistinctNames.{later-more, distinct-more, distinct-again, is_some-copied}
 use Rattle.smithy_binding.proofs.name_check.are_distinct.Goals as goal
 

@@ -1,9 +1,4 @@
-use Rattle.std.proofs.Common.{◌≡◌, ◌≤◌, ℕ, List, true, length, drop, is_some}
-use Rattle.smithy_types.specs.Texts.{are_distinct, is_one_of}
-use Rattle.smithy_binding.specs.Checking.{texts_shown}
-use Rattle.std.specs.BTreeMap.{get_by}
-use Rattle.std.specs.Cmp.Lexicographic.{slice_cmp}
-use Rattle.std.specs.Ordering.{nat_cmp}
+use Rattle.smithy_binding.proofs.Common.{◌≡◌, ◌≤◌, ℕ, List, true, length, drop, is_some, are_distinct, is_one_of, texts_shown, get_by, slice_cmp, nat_cmp}
 use Rattle.smithy_binding.proofs.name_check.are_distinct.Given as goal
 
 abbrev pub invariant-loop-i : goal.invariant-loop-i

@@ -1,6 +1,4 @@
-use Rattle.std.proofs.Common.{◌≡◌, drop}
-use Rattle.smithy_types.specs.Texts.{are_distinct}
-use Rattle.smithy_binding.specs.Checking.{texts_shown}
+use Rattle.smithy_binding.proofs.Common.{◌≡◌, drop, are_distinct, texts_shown}
 use Rattle.smithy_binding.proofs.name_check.are_few_distinct.Given as goal
 
 abbrev pub invariant-loop-place : goal.invariant-loop-place

@@ -1,6 +1,4 @@
-use Rattle.std.proofs.Common.{◌≡◌, drop}
-use Rattle.std.specs.List.{list_all}
-use Rattle.smithy_binding.specs.Checking.{texts_shown, is_sound_prefix_of}
+use Rattle.smithy_binding.proofs.Common.{◌≡◌, drop, list_all, texts_shown, is_sound_prefix_of}
 use Rattle.smithy_binding.proofs.name_check.are_sound_prefixes.Given as goal
 
 abbrev pub invariant-loop-prefix : goal.invariant-loop-prefix

@@ -1,9 +1,6 @@
-use Rattle.std.proofs.Common.{rules, ◌≡◌, true, false}
-use Rattle.std.proofs.lemmas.Iterator.{cases_from_all, YieldsList-from_slice}
-use Rattle.smithy_types.specs.Grammars.{is_token}
+use Rattle.smithy_binding.proofs.Common.{rules, ◌≡◌, true, false, cases_from_all, YieldsList-from_slice, is_token, tests}
 use Rattle.smithy_binding.proofs.Walks.{all_items}
 use Rattle.smithy_binding.proofs.name_check.are_tokens.Goals as goal
-use borrow.Author.Tests.{tests}
 
 pub returns : goal.returns
 returns c =

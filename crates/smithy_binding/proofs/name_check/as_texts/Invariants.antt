@@ -1,5 +1,4 @@
-use Rattle.std.proofs.Common.{◌≡◌, ◌++◌, drop, map, string_bytes}
-use Rattle.smithy_binding.specs.Checking.{texts_shown}
+use Rattle.smithy_binding.proofs.Common.{◌≡◌, ◌++◌, drop, map, string_bytes, texts_shown}
 use Rattle.smithy_binding.proofs.name_check.as_texts.Given as goal
 
 abbrev pub invariant-loop-name : goal.invariant-loop-name

@@ -1,9 +1,6 @@
-use Rattle.std.proofs.Common.{rules, ◌≡◌, true, false, nat_eq}
-use Rattle.std.proofs.lemmas.Iterator.{cases_from_any, YieldsList-from_slice}
-use Rattle.std.specs.List.{starts_with}
+use Rattle.smithy_binding.proofs.Common.{rules, ◌≡◌, true, false, nat_eq, cases_from_any, YieldsList-from_slice, starts_with, tests}
 use Rattle.smithy_binding.proofs.Walks.{any_item}
 use Rattle.smithy_binding.proofs.name_check.begins_any.Goals as goal
-use borrow.Author.Tests.{tests}
 
 pub returns : goal.returns
 returns c =

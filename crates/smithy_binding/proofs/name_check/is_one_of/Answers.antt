@@ -1,9 +1,6 @@
-use Rattle.std.proofs.Common.{rules, ◌≡◌, true, false}
-use Rattle.std.proofs.lemmas.Iterator.{cases_from_any, YieldsList-from_slice}
-use Rattle.smithy_types.specs.Texts.{same_text}
+use Rattle.smithy_binding.proofs.Common.{rules, ◌≡◌, true, false, cases_from_any, YieldsList-from_slice, same_text, tests}
 use Rattle.smithy_binding.proofs.Walks.{any_item}
 use Rattle.smithy_binding.proofs.name_check.is_one_of.Goals as goal
-use borrow.Author.Tests.{tests}
 
 pub returns : goal.returns
 returns c =

@@ -1,5 +1,4 @@
-use Rattle.std.proofs.Common.{◌≡◌, ◌++◌, drop}
-use Rattle.smithy_binding.specs.Checking.{shown, names_under, texts_shown}
+use Rattle.smithy_binding.proofs.Common.{◌≡◌, ◌++◌, drop, shown, names_under, texts_shown}
 use Rattle.smithy_binding.proofs.name_check.names_of.Given as goal
 
 abbrev pub invariant-loop-member : goal.invariant-loop-member

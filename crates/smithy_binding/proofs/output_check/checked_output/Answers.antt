@@ -1,9 +1,4 @@
-use Rattle.std.proofs.Common.{ap, ◌∙◌, List, ◌&&◌}
-use Rattle.smithy_schema.specs.Nodes.{Schema, members_of}
-use Rattle.smithy_schema.specs.References.{schema_of}
-use Rattle.smithy_binding.specs.Checked.{has_named_members, has_sound_headers}
-use Rattle.smithy_binding.specs.CheckedOutput.{checked_output}
-use Rattle.smithy_binding.specs.Checking.{shown, are_sound_response, have_sound_headers}
+use Rattle.smithy_binding.proofs.Common.{ap, ◌∙◌, List, ◌&&◌, Schema, members_of, schema_of, has_named_members, has_sound_headers, checked_output, shown, are_sound_response, have_sound_headers}
 use Rattle.smithy_binding.proofs.JointTests.{first_decides, others_decide}
 use Rattle.smithy_binding.proofs.CheckingLemmas.{checked_output-is}
 use Rattle.smithy_binding.proofs.output_check.checked_output.Goals as goal

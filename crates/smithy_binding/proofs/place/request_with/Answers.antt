@@ -1,6 +1,4 @@
-use Rattle.std.proofs.Common.{rules, ◌≡◌, Some, string_bytes}
-use Rattle.smithy_binding.specs.Faults.{legal_fault}
-use Rattle.smithy_binding.specs.Refusing.{TellsFault}
+use Rattle.smithy_binding.proofs.Common.{rules, ◌≡◌, Some, string_bytes, legal_fault, TellsFault}
 use Rattle.smithy_binding.proofs.Ends.{request-fault}
 use Rattle.smithy_binding.proofs.Refusals.{TellsFault-then}
 use Rattle.smithy_binding.proofs.place.request_with.Goals as goal

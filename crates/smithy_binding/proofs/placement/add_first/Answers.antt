@@ -1,10 +1,6 @@
-use Rattle.std.proofs.Common.{rules, ◌≡◌, ap, sym, ◌∙◌, true}
-use Rattle.smithy_schema.specs.References.{schema_of}
-use Rattle.smithy_serde.specs.Fits.{fits_member}
-use Rattle.smithy_serde.specs.StoredValues.{value_in, writes_in}
-use Rattle.smithy_serde.specs.Values.{list, map}
+use Rattle.smithy_binding.proofs.Common.{rules, ◌≡◌, ap, sym, ◌∙◌, true, schema_of, fits_member, value_in, writes_in, list, IsSingle}
+use Rattle.smithy_serde.specs.Values.{map}
 use Rattle.smithy_serde.specs.declared.value.ShapeValue.{ShapeValue}
-use Rattle.smithy_binding.specs.Placed.{IsSingle}
 use Rattle.smithy_binding.proofs.FirstKinds.{list-fits, map-fits, single-fits}
 use Rattle.smithy_binding.proofs.placement.add_first.Goals as goal
 

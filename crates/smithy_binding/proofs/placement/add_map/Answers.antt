@@ -1,9 +1,6 @@
-use Rattle.std.proofs.Common.{rules, ap, sym, ◌∙◌, string_bytes}
-use Rattle.smithy_schema.specs.References.{schema_of}
+use Rattle.smithy_binding.proofs.Common.{rules, ap, sym, ◌∙◌, string_bytes, schema_of, writes_in, gathered_of}
 use Rattle.smithy_schema.specs.ShownBindings.{binding_shown}
-use Rattle.smithy_serde.specs.StoredValues.{writes_in}
 use Rattle.smithy_serde.specs.Values.{map}
-use Rattle.smithy_binding.specs.Seen.{gathered_of}
 use Rattle.smithy_binding.proofs.FirstKinds.{placed-query_map}
 use Rattle.smithy_binding.proofs.placement.add_map.Goals as goal
 

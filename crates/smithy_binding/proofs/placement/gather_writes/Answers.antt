@@ -1,12 +1,4 @@
-use Rattle.std.proofs.Common.{rules, ◌≡◌, ap, sym, ◌∙◌, subst, Err, IfErr}
-use Rattle.smithy_schema.specs.References.{schema_of}
-use Rattle.smithy_serde.specs.StoredValues.{label_at, value_in, writes_in, listed, AreListedDefined}
-use Rattle.smithy_serde.specs.Values.{Write, Writes, list_of}
-use Rattle.smithy_serde.specs.Writes.{all_resolved}
-use Rattle.smithy_binding.specs.Gather.{gather, gather_one, nothing_yet}
-use Rattle.smithy_binding.specs.Refusing.{TellsFault}
-use Rattle.smithy_binding.specs.Seen.{gathered_of}
-use Rattle.smithy_binding.specs.KeptWrites.{no_parts, keep_all, kept_in}
+use Rattle.smithy_binding.proofs.Common.{rules, ◌≡◌, ap, sym, ◌∙◌, subst, Err, IfErr, schema_of, label_at, value_in, writes_in, listed, AreListedDefined, Write, Writes, list_of, all_resolved, gather, gather_one, nothing_yet, TellsFault, gathered_of, no_parts, keep_all, kept_in}
 use Rattle.smithy_binding.proofs.Refusals.{IfErr-then}
 use Rattle.smithy_binding.proofs.KeptSteps.{kept-step, kept-end, kept-all, kept-empty, defined-empty, first-defined}
 use Rattle.smithy_binding.proofs.WriteSteps.{gather-more, gather-stop, gather-end}
@@ -29,14 +21,18 @@ loop-node-init c =
 pub add_write-requires-clause-defined : goal.add_write-requires-clause-defined
 add_write-requires-clause-defined c = (first-defined c.args.table.now _ _ _ c.in-Some.ensures.steps c.loop-node.invariant.nodes).0
 
-pub returns-in_err-add_write-clause-err : goal.returns-in_err-add_write-clause-err
-returns-in_err-add_write-clause-err c =
+pub returns-in_err-add_write-clause-gathered : goal.returns-in_err-add_write-clause-gathered
+returns-in_err-add_write-clause-gathered c =
     let schema = schema_of c.args.schema in
     let t = c.args.table.now in
     let s = gathered_of c.loop-node.parts in
     let w : Write = record { label = label_at t c.in-Some.node.0; value = value_in t c.in-Some.value.now } in
     let told : IfErr c.from_residual.result (λ e. TellsFault e (λ f. gather_one schema s w ≡ Err f)) = search rules in
-    IfErr-then c.from_residual.result _ _ (λ f e. sym c.loop-node.invariant.walk ∙ gather-stop t schema s _ _ _ c.in-Some.ensures.steps f e) told
+    record {
+      ok = search rules;
+      err = IfErr-then c.from_residual.result _ _ (λ f e. sym c.loop-node.invariant.walk ∙ gather-stop t schema s _ _ _ c.in-Some.ensures.steps f e) told;
+      body = search rules;
+    }
 
 pub loop-node-preserved : goal.loop-node-preserved
 loop-node-preserved c =
@@ -44,17 +40,18 @@ loop-node-preserved c =
     let t = c.args.table.now in
     let first = first-defined t _ _ _ c.in-Some.ensures.steps c.loop-node.invariant.nodes in
     record {
-      walk = sym (gather-more t schema (gathered_of c.loop-node.parts) _ _ _ c.in-Some.ensures.steps (gathered_of c.add_write.new.parts) c.in_ok-add_write.ensures.ok) ∙ c.loop-node.invariant.walk;
-      body = kept-step t schema _ _ _ (kept_in t c.loop-node.parts.body) (kept_in t c.add_write.new.parts.body) c.in-Some.ensures.steps c.in_ok-add_write.ensures.body ∙ c.loop-node.invariant.body;
+      walk = sym (gather-more t schema (gathered_of c.loop-node.parts) _ _ _ c.in-Some.ensures.steps (gathered_of c.add_write.new.parts) c.in_ok-add_write.ensures.added.ok) ∙ c.loop-node.invariant.walk;
+      body = kept-step t schema _ _ _ (kept_in t c.loop-node.parts.body) (kept_in t c.add_write.new.parts.body) c.in-Some.ensures.steps c.in_ok-add_write.ensures.added.body ∙ c.loop-node.invariant.body;
       defined = c.in_ok-add_write.ensures.defined c.loop-node.invariant.defined first.1;
       nodes = first.2;
     }
 
-pub returns-clause-ok : goal.returns-clause-ok
-returns-clause-ok c = sym c.loop-node.invariant.walk ∙ gather-end c.args.table.now (schema_of c.args.schema) (gathered_of c.loop-node.parts) _ c.in-None.ensures.steps.0
-
-pub returns-clause-body : goal.returns-clause-body
-returns-clause-body c =
+pub returns-clause-gathered : goal.returns-clause-gathered
+returns-clause-gathered c =
     let schema = schema_of c.args.schema in
     let t = c.args.table.now in
-    sym (kept-end t schema _ (kept_in t c.loop-node.parts.body) c.in-None.ensures.steps.0) ∙ c.loop-node.invariant.body ∙ kept-all schema (list_of (writes_in t c.args.writes.now))
+    record {
+      ok = sym c.loop-node.invariant.walk ∙ gather-end t schema (gathered_of c.loop-node.parts) _ c.in-None.ensures.steps.0;
+      err = search rules;
+      body = sym (kept-end t schema _ (kept_in t c.loop-node.parts.body) c.in-None.ensures.steps.0) ∙ c.loop-node.invariant.body ∙ kept-all schema (list_of (writes_in t c.args.writes.now));
+    }

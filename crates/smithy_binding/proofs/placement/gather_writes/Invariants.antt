@@ -1,11 +1,4 @@
-use Rattle.std.proofs.Common.{◌≡◌}
-use Rattle.smithy_schema.specs.References.{schema_of}
-use Rattle.smithy_serde.specs.StoredValues.{listed, writes_in, AreListedDefined}
-use Rattle.smithy_serde.specs.Values.{list_of}
-use Rattle.smithy_serde.specs.Writes.{all_resolved}
-use Rattle.smithy_binding.specs.Gather.{gather, nothing_yet}
-use Rattle.smithy_binding.specs.KeptWrites.{no_parts, keep_all, kept_in, IsKeptDefined}
-use Rattle.smithy_binding.specs.Seen.{gathered_of}
+use Rattle.smithy_binding.proofs.Common.{◌≡◌, schema_of, listed, writes_in, AreListedDefined, list_of, all_resolved, gather, nothing_yet, no_parts, keep_all, kept_in, IsKeptDefined, gathered_of}
 use Rattle.smithy_binding.proofs.placement.gather_writes.Given as goal
 
 abbrev pub invariant-loop-node : goal.invariant-loop-node

@@ -1,5 +1,4 @@
-use Rattle.std.proofs.Common.{lit<}
-use Rattle.std.proofs.lemmas.Str.Pattern.{strip_prefix_char}
+use Rattle.smithy_binding.proofs.Common.{lit<, strip_prefix_char}
 use Rattle.smithy_binding.proofs.QueryEnds.{behind_first-cut}
 use Rattle.smithy_binding.proofs.target.behind_first.Goals as goal
 

@@ -1,8 +1,4 @@
-use Rattle.std.proofs.Common.{ap, sym, ◌∙◌}
-use Rattle.std.proofs.lemmas.Result.{IfOk-weaker}
-use Rattle.smithy_binding.specs.Faults.{hole_fault}
-use Rattle.smithy_binding.specs.Filling.{filled_by}
-use Rattle.smithy_schema.specs.Templates.{pieces}
+use Rattle.smithy_binding.proofs.Common.{ap, sym, ◌∙◌, IfOk-weaker, hole_fault, filled_by, pieces}
 use Rattle.smithy_binding.proofs.Refusals.{IfErr-then}
 use Rattle.smithy_binding.proofs.target.fill.Goals as goal
 

@@ -1,11 +1,4 @@
-use Rattle.std.proofs.Common.{rules, ◌≡◌, sym, ap, ◌∙◌, Err, Some, IfErr, string_bytes}
-use Rattle.smithy_schema.specs.Templates.{pieces}
-use Rattle.smithy_binding.specs.CutTemplate.{hole_shown}
-use Rattle.smithy_binding.specs.Faults.{Fault, hole_fault}
-use Rattle.smithy_binding.specs.Filling.{text_in}
-use Rattle.smithy_binding.specs.LabelTexts.{text_under}
-use Rattle.smithy_binding.specs.Faults.{missing_hole}
-use Rattle.smithy_binding.specs.Refusing.{TellsFault}
+use Rattle.smithy_binding.proofs.Common.{rules, ◌≡◌, sym, ap, ◌∙◌, Err, Some, IfErr, string_bytes, pieces, hole_shown, Fault, hole_fault, text_in, text_under, missing_hole, TellsFault}
 use Rattle.smithy_binding.proofs.Fills.{fill-stop}
 use Rattle.smithy_binding.proofs.Refusals.{IfErr-then}
 use Rattle.smithy_binding.proofs.target.fill_by.Goals as goal

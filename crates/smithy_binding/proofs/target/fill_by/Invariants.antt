@@ -1,8 +1,4 @@
-use Rattle.std.proofs.Common.{◌≡◌, ◌++◌, length, string_bytes}
-use Rattle.smithy_types.specs.Results.{then_give}
-use Rattle.smithy_schema.specs.Templates.{pieces}
-use Rattle.smithy_binding.specs.Filling.{filled_by}
-use Rattle.smithy_binding.specs.LabelTexts.{text_under}
+use Rattle.smithy_binding.proofs.Common.{◌≡◌, ◌++◌, length, string_bytes, then_give, pieces, filled_by, text_under}
 use Rattle.smithy_binding.proofs.target.fill_by.Given as goal
 use denote.Shadow.{shadow}
 use denote.Text.{Utf8}

@@ -1,4 +1,4 @@
-use Rattle.std.proofs.Common.{arith, ◌∙◌}
+use Rattle.smithy_binding.proofs.Common.{arith, ◌∙◌}
 use Rattle.smithy_binding.proofs.KeptSlashes.{keep_slashes-percent_encode}
 use Rattle.smithy_binding.proofs.target.push_path.Goals as goal
 

@@ -1,10 +1,4 @@
-use Rattle.std.proofs.Common.{rules, ◌≡◌, refl, Some, IfErr, map}
-use Rattle.smithy_schema.specs.Templates.{pieces}
-use Rattle.smithy_binding.specs.Faults.{hole_fault}
-use Rattle.smithy_binding.specs.Filling.{fill}
-use Rattle.smithy_binding.specs.Refusing.{TellsFault}
-use Rattle.smithy_binding.specs.Seen.{label_pair}
-use Rattle.smithy_binding.specs.TargetParts.{target_behind}
+use Rattle.smithy_binding.proofs.Common.{rules, ◌≡◌, refl, Some, IfErr, map, pieces, hole_fault, fill, TellsFault, label_pair, target_behind}
 use Rattle.smithy_binding.proofs.Fills.{hole-given}
 use Rattle.smithy_binding.proofs.Refusals.{IfErr-then}
 use Rattle.smithy_binding.proofs.target.whole_target.Goals as goal

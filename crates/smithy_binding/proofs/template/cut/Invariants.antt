@@ -1,6 +1,4 @@
-use Rattle.std.proofs.Common.{◌≡◌, length}
-use Rattle.smithy_schema.specs.Templates.{pieces}
-use Rattle.smithy_binding.specs.CutTemplate.{behind_holes}
+use Rattle.smithy_binding.proofs.Common.{◌≡◌, length, pieces, behind_holes}
 use Rattle.smithy_binding.proofs.template.cut.Given as goal
 use denote.Shadow.{shadow}
 use denote.Text.{Utf8}

@@ -1,5 +1,4 @@
-use Rattle.std.proofs.Common.{lit<}
-use Rattle.std.proofs.lemmas.Str.Pattern.{strip_suffix_char}
+use Rattle.smithy_binding.proofs.Common.{lit<, strip_suffix_char}
 use Rattle.smithy_binding.proofs.Fills.{greedy_cases}
 use Rattle.smithy_binding.proofs.template.greedy_name.Goals as goal
 

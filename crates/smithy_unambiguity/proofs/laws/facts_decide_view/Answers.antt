@@ -1,6 +1,5 @@
 use Rattle.smithy_unambiguity.proofs.ViewTarget.{facts_decide}
-use Rattle.smithy_binding.specs.Protocols.{codec_of}
 use Rattle.smithy_unambiguity.proofs.laws.facts_decide_view.Goals as goal
 
 pub returns : goal.returns
-returns g c = facts_decide _ _ (g.met.C.Codec.tells (codec_of c.args.protocol.now) c.requires.lawful)
+returns g c = facts_decide _ _ (g.met.C.Codec.tells c.args.protocol.now.codec c.requires.lawful)

@@ -1,13 +1,6 @@
-use Rattle.std.proofs.Common.{rules, ◌≡◌, ap, ◌∙◌, subst, ℕ, List, [], length, true, codes, string_bytes, Result, Err}
-use Rattle.smithy_http.specs.Requests.{Request}
-use Rattle.smithy_serde.specs.Finishing.{IsTextOf}
-use Rattle.smithy_serde.specs.Values.{structure}
-use Rattle.smithy_binding.specs.Answer.{legal_request}
-use Rattle.smithy_binding.specs.DefaultHeaders.{omit_of, with_defaults}
-use Rattle.smithy_binding.specs.Faults.{Fault}
-use Rattle.smithy_binding.specs.Placing.{endpoint_or_slash}
-use Rattle.smithy_binding.specs.Refusing.{Answers}
-use Rattle.smithy_binding.specs.Rpc.{rpc_protocol, rpc_answer}
+use Rattle.smithy_binding.proofs.Common.{rules, ◌≡◌, ap, ◌∙◌, subst, ℕ, List, [], length, true, codes, string_bytes, Result, Err, Request, IsTextOf, structure, legal_request, Fault, endpoint_or_slash, with_defaults, Answers}
+use Rattle.smithy_binding.specs.Protocols.{protocol_of}
+use Rattle.smithy_binding.specs.Rpc.{rpc_answer}
 use Rattle.smithy_binding.proofs.RpcAnswers.{rpc-refused, rpc-posted}
 use Rattle.smithy_binding.proofs.http_rpc_protocol.HttpRpcProtocol.serialize_request.Goals as goal
 
@@ -15,8 +8,8 @@ pub returns-in_err-body : goal.returns-in_err-body
 returns-in_err-body g c =
     let ws = (goal.SerializableStruct-dyn g c.args.input.now).writes c.args.input.now.1 in
     let e = c.in_err-body.field-0.0 in
-    let told : Answers {A = Request} (Err e) (rpc_answer (rpc_protocol g.C.Codec.text c.args.self.now) ws c.args.endpoint.now (omit_of c.args.omit))
-    = rpc-refused (rpc_protocol g.C.Codec.text c.args.self.now) ws c.args.endpoint.now (omit_of c.args.omit) e c.in_err-body.ensures.err in
+    let told : Answers {A = Request} (Err e) (rpc_answer (protocol_of g.C.Codec.text c.args.self.now) ws c.args.endpoint.now c.args.omit)
+    = rpc-refused (protocol_of g.C.Codec.text c.args.self.now) ws c.args.endpoint.now c.args.omit e c.in_err-body.ensures.err in
     search rules
 
 pub returns : goal.returns
@@ -24,7 +17,7 @@ returns g c =
     let p = c.args.self.now in
     let ws = (goal.SerializableStruct-dyn g c.args.input.now).writes c.args.input.now.1 in
     let text = g.C.Codec.text in
-    let omit = omit_of c.args.omit in
+    let omit = c.args.omit in
     let bytes = c.in_ok-body.body in
     let codec : c.self.inside.codec ≡ p.codec = search rules in
     let content_type : c.self.inside.content_type.now ≡ p.content_type = search rules in
@@ -37,4 +30,4 @@ returns g c =
     subst (λ (answer : Result Request Fault). Answers c.request_with.result answer)
     (ap (λ (t : List ℕ). legal_request (codes "POST") t c.add_defaults.new.headers bytes) target
     ∙ ap (λ hs. legal_request (codes "POST") (endpoint_or_slash c.args.endpoint.now) hs bytes) headers
-    ∙ rpc-posted (rpc_protocol text p) ws c.args.endpoint.now omit bytes is_text) c.request_with.ensures
+    ∙ rpc-posted (protocol_of text p) ws c.args.endpoint.now omit bytes is_text) c.request_with.ensures

@@ -1,15 +1,9 @@
 -- The writes one by one: what they put into the request so far, or the first fault.
 use Rattle.std.specs.Prelude.{ℕ, Bool, true, false, not, ◌&&◌, List, [], ◌∷◌, ◌++◌, length, replicate, slice_index_or, slice_set, Result, Ok, Err, Option, Some, None, if◌then◌else◌}
-use Rattle.std.specs.Option.{option_or}
-use Rattle.smithy_types.specs.Results.{then_try, unless}
-use Rattle.smithy_schema.specs.Nodes.{Schema, binding_of}
-use Rattle.smithy_serde.specs.Values.{Write}
-use Rattle.smithy_serde.specs.Writes.{Resolved, resolved}
-use Rattle.smithy_serde.specs.Fits.{fits_member}
-use Rattle.smithy_http.specs.Headers.{put_all}
-use Rattle.smithy_binding.specs.Bindings.{inserted, pairs_of, labelled}
+use Rattle.smithy_binding.specs.Words.{option_or, then_try, unless, Schema, binding_of, Write, Resolved, resolved, fits_member, put_all}
+use Rattle.smithy_binding.specs.Bindings.{inserted, pairs_at, query_names, labelled_at}
 use Rattle.smithy_binding.specs.Faults.{Fault, wrong_kind, bound_fault, is_placed_at, no_member}
-use Rattle.smithy_binding.specs.TargetParts.{queries}
+use Rattle.smithy_binding.specs.views.TargetParts.{queries}
 
 -- what the writes so far have put into the request
 pub record Gathered : Type 0 where
@@ -19,6 +13,14 @@ pub record Gathered : Type 0 where
   -- each pair behind a `&`
   pub query : List ℕ
   pub labels : List (List ℕ × List ℕ)
+
+-- the pairs that a write gives to the query
+abbrev pub pairs_of : Schema → Resolved → List (List ℕ × List ℕ)
+pairs_of schema r = pairs_at (binding_of r.member) (query_names schema) r.member r.value
+
+-- the texts that it gives to the labels
+abbrev pub labelled : Resolved → List (List ℕ × List ℕ)
+labelled r = labelled_at (binding_of r.member) r.member r.value
 
 abbrev pub is_seen : Gathered → ℕ → Bool
 is_seen s position = slice_index_or s.seen position false

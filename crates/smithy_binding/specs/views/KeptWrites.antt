@@ -1,14 +1,7 @@
 -- What is kept of the writes for the body.
-use Rattle.std.specs.Prelude.{◌≡◌, List, [], ◌∷◌, ◌++◌, map, None, Some, option_map, IfSome}
-use Rattle.std.specs.Option.{option_or}
-use Rattle.smithy_schema.specs.Nodes.{Schema, Table, Binding, to_body, to_payload, binding_of}
-use Rattle.smithy_schema.specs.References.{schema_of}
-use Rattle.smithy_schema.specs.declared.schema_ref.SchemaRef.{SchemaRef}
-use Rattle.smithy_serde.specs.StoredValues.{value_in, IsDefined}
-use Rattle.smithy_serde.specs.declared.value.ShapeValue.{ShapeValue}
-use Rattle.smithy_serde.specs.Values.{Value, Write, label_of}
-use Rattle.smithy_serde.specs.Writes.{Resolved}
-use Rattle.smithy_binding.specs.Bodies.{BodyParts}
+use Rattle.std.specs.Prelude.{◌≡◌, ℕ, List, [], ◌∷◌, ◌++◌, map, None, Some, Option, option_map, unwrap_or, IfSome}
+use Rattle.smithy_binding.specs.Words.{option_or, Document, Schema, Table, Binding, to_body, to_payload, binding_of, schema_of, SchemaRef, value_in, IsDefined, ShapeValue, Value, Write, Writes, writes_of, label_of, Resolved}
+use Rattle.smithy_binding.specs.Bodies.{BodyParts, raw_bytes, text_of_document}
 use Rattle.smithy_binding.specs.declared.body_writes.BodyWrite.{BodyWrite}
 use Rattle.smithy_binding.specs.declared.body_writes.BodyWrites.{BodyWrites}
 
@@ -41,9 +34,25 @@ write_in t w = record { label = label_of (schema_of w.member); value = value_of 
 abbrev pub unbound_in : Table → List BodyWrite → List Write
 unbound_in t ws = map (write_in t) ws
 
+-- the same, as they stand inside a value
+abbrev pub told : Table → List BodyWrite → Writes
+told t ws = writes_of (unbound_in t ws)
+
+-- the value of the write of a payload, if there is one
+abbrev pub kept_payload : Table → Option BodyWrite → Option Value
+kept_payload t w = option_map (value_of t) w
+
+-- the bytes are those of a text or blob payload, over the nodes of any table, and none where it was not written
+abbrev pub AreRaw : Option BodyWrite → List ℕ → Type 0
+AreRaw w bytes = (t : Table) → bytes ≡ unwrap_or (option_map raw_bytes (kept_payload t w)) []
+
+-- the bytes are the text of a payload's document, over the nodes of a table, and none where it was not written
+abbrev pub AreText : (Document → List ℕ) → Table → Option BodyWrite → List ℕ → Type 0
+AreText text t w bytes = bytes ≡ text_of_document text (kept_payload t w)
+
 -- what the code keeps
 abbrev pub kept_in : Table → BodyWrites → BodyParts
-kept_in t b = record { unbound = unbound_in t b.unbound.items; payload = option_map (value_of t) b.payload }
+kept_in t b = record { unbound = unbound_in t b.unbound.items; payload = kept_payload t b.payload }
 
 -- nothing is kept
 pub record IsEmpty (b : BodyWrites) : Type 0 where

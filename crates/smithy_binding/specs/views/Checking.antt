@@ -1,20 +1,11 @@
 -- The tests of a schema over the members that the code lists.
-use Rattle.std.specs.Borrow.{Bor}
-use Rattle.std.specs.Prelude.{ℕ, Bool, false, not, ◌&&◌, ◌||◌, if◌then◌else◌, None, List, length, filter, map, find, filter_map, nat_le, nat_eq, ◌==◌, Option, option_map, is_some}
-use Rattle.std.specs.List.{list_all, list_any, starts_with}
-use Rattle.std.specs.Str.{str_to_ascii_lowercase}
-use Rattle.std.specs.Option.{option_map_or}
-use Rattle.smithy_types.specs.Grammars.{is_token, is_legal_target}
-use Rattle.smithy_types.specs.Texts.{are_distinct}
-use Rattle.smithy_ids.specs.declared.shape_type.ShapeType.{ShapeType}
-use Rattle.smithy_ids.specs.Kinds.{is_structure_or_union}
-use Rattle.smithy_schema.specs.Nodes.{Schema, Traits, is_bound, is_response_bound, binding_of}
-use Rattle.smithy_schema.specs.Templates.{pieces, holes_of, has_unclosed_brace}
+use Rattle.std.specs.Prelude.{◌≡◌, ℕ, Bool, true, false, not, ◌&&◌, ◌||◌, if◌then◌else◌, None, List, length, filter, map, find, filter_map, nat_le, nat_eq, ◌==◌, Option, option_map, is_some, MatchOption}
+use Rattle.smithy_binding.specs.Words.{Bor, list_all, list_any, starts_with, str_to_ascii_lowercase, option_map_or, is_token, is_legal_target, are_distinct, ShapeType, same_kind, is_structure_or_union, Schema, Traits, members_of, element_of, is_bound, is_response_bound, binding_of, pieces, holes_of, has_unclosed_brace, schema_of, SchemaRef}
+use Rattle.std.specs.Global.{Vec}
+use Rattle.smithy_ids.specs.declared.shape_type.ShapeType.TheVariants as kind
 use Rattle.smithy_binding.specs.Clear.{filled_by_a, are_whole_segments, has_whole_authority, holes_named, is_greedy_last}
-use Rattle.smithy_schema.specs.References.{schema_of}
-use Rattle.smithy_schema.specs.declared.schema_ref.SchemaRef.{SchemaRef}
 use Rattle.smithy_binding.specs.Bodies.{is_payload}
-use Rattle.smithy_binding.specs.Checked.{is_sound_member, is_sound_payload, agrees}
+use Rattle.smithy_binding.specs.Checked.{is_sound_member, is_sound_payload, agrees, has_sound_names, has_sound_http}
 use Rattle.smithy_binding.specs.CheckedOutput.{is_sound_response_member}
 use Rattle.smithy_binding.specs.declared.name_check.NameKind.{NameKind}
 use Rattle.smithy_binding.specs.declared.name_check.NameKind.TheVariants as names
@@ -25,6 +16,14 @@ use Rattle.smithy_binding.specs.declared.members.Counted.TheVariants as counted
 
 abbrev pub shown : List SchemaRef → List Schema
 shown members = map schema_of members
+
+-- the members are listed where the test passes, and not where it fails
+abbrev pub ListsIf : Bool → Schema → Option (Vec SchemaRef) → Type 0
+ListsIf test schema listed = MatchOption listed (test ≡ false) (λ ms. (test ≡ true) × (shown ms.items ≡ members_of schema))
+
+-- the element of a list
+abbrev pub list_element : Schema → Option Schema
+list_element m = if same_kind m.node.kind kind.List then element_of m else None
 
 -- a trait whose members are counted
 abbrev pub counted_test : Counted → Traits → Bool
@@ -77,6 +76,10 @@ are_sound schema ms =
     && nat_le (count_of counted.QueryMap ms) 1
     && has_true_flags_for schema ms
 
+-- what is asked of a structure whose members are defined and have distinct names
+abbrev pub is_sound_input : Schema → Bool
+is_sound_input schema = are_sound schema (members_of schema) && has_sound_names schema && has_sound_http schema
+
 -- what needs no memory, over the members of an output
 abbrev pub are_sound_response : List Schema → Bool
 are_sound_response ms =
@@ -98,12 +101,15 @@ name_under names.Query m = m.node.traits.http_query
 
 -- the names of a kind
 abbrev pub names_under : NameKind → List Schema → List (List ℕ)
-names_under kind ms = filter_map (name_under kind) ms
+names_under which ms = filter_map (name_under which) ms
 
 -- empty or a token, and at the start of no name
 abbrev pub is_sound_prefix_of : List (List ℕ) → List ℕ → Bool
 is_sound_prefix_of headers prefix =
     ((length prefix == 0) || is_token prefix) && not (list_any (λ name. starts_with nat_eq name (str_to_ascii_lowercase prefix)) headers)
+
+abbrev pub are_sound_prefixes : List (List ℕ) → List (List ℕ) → Bool
+are_sound_prefixes headers prefixes = list_all (is_sound_prefix_of headers) prefixes
 
 abbrev pub lower_names : List (List ℕ) → List (List ℕ)
 lower_names headers = map str_to_ascii_lowercase headers
@@ -112,11 +118,15 @@ lower_names headers = map str_to_ascii_lowercase headers
 abbrev pub have_sound_headers : List Schema → Bool
 have_sound_headers ms =
     let headers = lower_names (names_under names.Header ms) in
-    list_all is_token headers && are_distinct headers && list_all (is_sound_prefix_of headers) (names_under names.Prefix ms)
+    list_all is_token headers && are_distinct headers && are_sound_prefixes headers (names_under names.Prefix ms)
 
 -- and query names are distinct
 abbrev pub have_sound_names : List Schema → Bool
 have_sound_names ms = have_sound_headers ms && are_distinct (names_under names.Query ms)
+
+-- what is asked of an output whose members are defined and have distinct names
+abbrev pub is_sound_output : List Schema → Bool
+is_sound_output ms = are_sound_response ms && have_sound_headers ms
 
 -- a clear template, for labels of these names
 abbrev pub is_clear_for : List ℕ → List (List ℕ) → ℕ → Bool
@@ -128,3 +138,7 @@ is_clear_for text labels count =
     && has_whole_authority template
     && (list_all (λ name. length (holes_named name template) == 1) labels && (length (holes_of template) == count))
     && is_greedy_last (holes_of template)
+
+-- a clear template, for the labels among these members
+abbrev pub is_clear_among : List ℕ → List Schema → Bool
+is_clear_among text ms = is_clear_for text (names_under names.Label ms) (count_of counted.Label ms)

@@ -1,15 +1,12 @@
 -- What the first write of a member does to a request so far.
 use Rattle.std.specs.Prelude.{ℕ, Bool, true, false, ◌&&◌, ◌++◌, Option, None, if◌then◌else◌}
-use Rattle.smithy_schema.specs.Nodes.{Schema, Binding, to_header, to_prefix, to_query, to_query_map, to_label, binding_of}
-use Rattle.smithy_serde.specs.Values.{Value, list}
+use Rattle.smithy_binding.specs.Words.{Schema, Binding, to_header, to_prefix, to_query, to_query_map, to_label, binding_of, Value, list, Resolved, put_all}
 use Rattle.smithy_serde.specs.Values as value
-use Rattle.smithy_serde.specs.Writes.{Resolved}
-use Rattle.smithy_http.specs.Headers.{put_all}
 use Rattle.smithy_binding.specs.Bindings.{inserted_at, pairs_at, labelled_at, query_names}
 use Rattle.smithy_binding.specs.Checked.{has_bound_kind, has_map_kind}
 use Rattle.smithy_binding.specs.Faults.{Fault, bound_fault, is_placed_at}
-use Rattle.smithy_binding.specs.Gather.{Gathered}
-use Rattle.smithy_binding.specs.TargetParts.{queries}
+use Rattle.smithy_binding.specs.views.Gather.{Gathered}
+use Rattle.smithy_binding.specs.views.TargetParts.{queries}
 
 -- a member is of a kind that its binding takes
 abbrev pub has_placed_kind : Schema → Bool

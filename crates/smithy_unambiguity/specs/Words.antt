@@ -1,0 +1,1 @@
+-- The names of other crates that this crate's specs and clauses cite, from one place.
