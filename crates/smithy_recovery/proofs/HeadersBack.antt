@@ -27,11 +27,12 @@ use Rattle.smithy_strings.specs.Lists.{listed}
 use Rattle.smithy_strings.proofs.ReadBack.{tokens-listed}
 use Rattle.smithy_strings.proofs.TimeLists.{times_are_read}
 use Rattle.smithy_strings.proofs.WireTexts.{wire_utf8}
-use Rattle.smithy_binding.specs.Bindings.{headers, member_text, element_text, query_names, place_of, place_at}
+use Rattle.smithy_binding.specs.Bindings.{headers, query_names, place_at}
+use Rattle.smithy_binding.specs.views.StoredTexts.{member_text, element_text}
 use Rattle.smithy_binding.specs.Bodies.{body}
 use Rattle.smithy_binding.specs.Checked.{IsCheckedInput, is_header_kind, has_element}
 use Rattle.smithy_binding.specs.Faults.{is_placed_at}
-use Rattle.smithy_binding.specs.Placing.{Protocol, Omit, all_headers}
+use Rattle.smithy_binding.specs.Placing.{Protocol, OmitFlags, all_headers}
 use Rattle.smithy_binding.specs.Typed.{IsTyped}
 use Rattle.smithy_binding.specs.NormalForm.{member_view, with_own_elements, bound_view_at}
 use Rattle.smithy_unambiguity.proofs.ByMember.{first_value}
@@ -84,7 +85,7 @@ list_back e ws ts flat plain fit own is = go (same_kind e.node.kind kind.Timesta
         other : e.node.kind ≢ kind.Timestamp
         other q = let z : true ≡ false = ap (λ k. same_kind k kind.Timestamp) (sym q) ∙ h in cc z
 
-pub header_value_back : (m : Schema) (v : Value) (t : List ℕ) → (is_flat m.node.kind || has_element is_header_kind m) ≡ true → place_of m ≡ Header → HasPlainElements m → IsBoundValue m v
+pub header_value_back : (m : Schema) (v : Value) (t : List ℕ) → (is_flat m.node.kind || has_element is_header_kind m) ≡ true → place_at (binding_of m) ≡ Header → HasPlainElements m → IsBoundValue m v
     → header_values m v ≡ t ∷ [] → header_value m t ≡ Some (with_own_elements m v)
 header_value_back m v t kinds here plain is p = go (is_flat m.node.kind) refl kinds
   where
@@ -110,7 +111,7 @@ header_value_back m v t kinds here plain is p = go (is_flat m.node.kind) refl ki
         ∙ ap (λ u. Some (with_own_elements m u)) (sym a.is)
 
 -- what a request has of a header member is the normal form's part
-pub header_member_back : (protocol : Protocol) (schema : Schema) (endpoint : List ℕ) (omit : Omit) (ws : List Write) (i : ℕ) (m : Schema) (name : List ℕ) → IsCheckedInput schema → IsTyped protocol schema endpoint omit ws
+pub header_member_back : (protocol : Protocol) (schema : Schema) (endpoint : List ℕ) (omit : OmitFlags) (ws : List Write) (i : ℕ) (m : Schema) (name : List ℕ) → IsCheckedInput schema → IsTyped protocol schema endpoint omit ws
     → member_at schema i ≡ Some m → binding_of m ≡ to_header name → HasPlainElements m
     → header_part m (values_at (str_to_ascii_lowercase name) (all_headers protocol (body protocol.text_of schema ws) omit (headers schema ws))) ≡ Some (member_view schema ws i m)
 header_member_back protocol schema endpoint omit ws i m name checked typed at header plain =

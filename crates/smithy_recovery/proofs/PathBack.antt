@@ -1,11 +1,11 @@
 -- The path is read as the labels that it was filled with.
-use Rattle.std.proofs.Common.{◌≡◌, refl, sym, ◌∙◌, ap, subst, cond, ℕ, arith, Bool, true, false, not, ◌==◌, ◌&&◌, ◌||◌, List, [], ◌∷◌, ◌++◌, length, drop, map, Some, None, Ok, option_map, option_and_then, is_some, codes, nat_eq, eq-eqb, ne_eqb, find}
+use Rattle.std.proofs.Common.{◌≡◌, refl, sym, ◌∙◌, ap, subst, cond, ℕ, arith, Bool, true, false, not, ◌==◌, ◌&&◌, ◌||◌, List, [], ◌∷◌, ◌++◌, length, drop, map, Some, Ok, option_map, option_and_then, is_some, codes, nat_eq, ne_eqb, find}
 use Rattle.std.proofs.Math.Seq.{drop-append_seam}
 use Rattle.std.specs.List.{AllByRecursion, starts_with}
 use Rattle.std.specs.Str.{is_utf8}
 use Rattle.std.specs.Cmp.Lexicographic.{same_text as same_from_test}
 use Rattle.std.proofs.lemmas.Bool.{eqb-true, and_parts, not-true}
-use Rattle.std.proofs.lemmas.List.{append-nil, length-append}
+use Rattle.std.proofs.lemmas.List.{append-nil}
 use Rattle.smithy_strings.proofs.UnescapeLaws.{same_self}
 use Rattle.percent_encoding.specs.Percent.{percent_decode}
 use Rattle.smithy_types.specs.Texts.{found, has_byte, same_text}
@@ -22,6 +22,7 @@ use Rattle.smithy_unambiguity.proofs.Holes.{decode-keep_slashes}
 use Rattle.smithy_unambiguity.proofs.Labels.{filled_path}
 use Rattle.smithy_unambiguity.proofs.Paths.{filled, before-behind, between, plain_hole, spelled, HasNo-from_has_byte}
 use Rattle.smithy_unambiguity.proofs.Reserved.{slash, question, HasNo-escape, HasNo-hole_text}
+use Rattle.smithy_recovery.proofs.Cutting.{behind_front-append, before_end-append}
 use Rattle.smithy_recovery.specs.PathParts.{behind_front, before_end, segment, hole_part, with_part, hole_texts, path_texts, path_texts_by}
 
 abbrev Labels : Type 0
@@ -30,29 +31,6 @@ Labels = List (List ℕ × List ℕ)
 -- each text is UTF-8
 abbrev pub HaveUtf8 : Labels → Type 0
 HaveUtf8 ps = AllByRecursion (λ p. is_utf8 p.1 ≡ true) ps
-
--- Cuts.
-
-pub behind_front-append : (front text : List ℕ) → behind_front front (front ++ text) ≡ Some text
-behind_front-append [] text = refl
-behind_front-append (f ∷ front) text = ap (λ t. cond t (behind_front front (front ++ text)) None) (eq-eqb f f refl) ∙ behind_front-append front text
-
-unlike_longer : (x : List ℕ) (b : ℕ) (end : List ℕ) → same_text (b ∷ x ++ end) end ≡ false
-unlike_longer x b end = go (same_text (b ∷ x ++ end) end) refl
-  where
-    go : (t : Bool) → same_text (b ∷ x ++ end) end ≡ t → t ≡ false
-    go false e = refl
-    go true e = absurd (let lengths = ap length (same_from_test (b ∷ x ++ end) end (sym e)) in let sum = length-append x end in omega (arith, lengths, sum))
-
-end_self : (end : List ℕ) → before_end end end ≡ Some []
-end_self [] = refl
-end_self (b ∷ end) = ap (λ t. cond t (Some []) (option_map (λ front. b ∷ front) (before_end (b ∷ end) end))) (same_self (b ∷ end))
-
-pub before_end-append : (x end : List ℕ) → before_end end (x ++ end) ≡ Some x
-before_end-append [] end = end_self end
-before_end-append (b ∷ x) end =
-    ap (λ t. cond t (Some []) (option_map (λ front. b ∷ front) (before_end end (x ++ end)))) (unlike_longer x b end)
-    ∙ ap (option_map (λ front. b ∷ front)) (before_end-append x end)
 
 -- The text of a hole.
 

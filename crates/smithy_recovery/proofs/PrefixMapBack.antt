@@ -19,7 +19,7 @@ use Rattle.smithy_binding.specs.Bindings.{headers, query_names, inserted_at, map
 use Rattle.smithy_binding.specs.Bodies.{body}
 use Rattle.smithy_binding.specs.Faults.{is_placed_at}
 use Rattle.smithy_binding.specs.NormalForm.{member_view, unless_empty}
-use Rattle.smithy_binding.specs.Placing.{Protocol, Omit}
+use Rattle.smithy_binding.specs.Placing.{Protocol, OmitFlags}
 use Rattle.smithy_binding.specs.Typed.{default_names, has_no_default_name}
 use Rattle.smithy_unambiguity.proofs.ByMember.{at_member, first_value, none_given}
 use Rattle.smithy_unambiguity.proofs.Defaults.{all_headers_at, leaves-elsewhere}
@@ -159,7 +159,7 @@ entries_utf8 : (es : List (List ℕ × Value)) → AllByRecursion IsEntryInRange
 entries_utf8 [] all = tt
 entries_utf8 (e ∷ es) all = (text_utf8 e.1 all.0.1, entries_utf8 es all.1)
 
-pub prefix_back : (protocol : Protocol) (schema : Schema) (endpoint : List ℕ) (omit : Omit) (ws : List Write) (q : Request) → IsSeen protocol schema endpoint omit ws q → (i : ℕ) (m : Schema) (prefix : List ℕ)
+pub prefix_back : (protocol : Protocol) (schema : Schema) (endpoint : List ℕ) (omit : OmitFlags) (ws : List Write) (q : Request) → IsSeen protocol schema endpoint omit ws q → (i : ℕ) (m : Schema) (prefix : List ℕ)
     → member_at schema i ≡ Some m → binding_of m ≡ to_prefix prefix → prefix_part m prefix q.headers ≡ Some (member_view schema ws i m)
 prefix_back protocol schema endpoint omit ws q is i m prefix at begins =
     ap (λ t. cond t (Some (unless_empty (map_value (Some m) (in_key_order (valued as_text entries))))) None) (test_from_all (λ (e : List ℕ × List ℕ). is_utf8 e.1) entries utf8)

@@ -21,7 +21,8 @@ use Rattle.smithy_serde.specs.NormalBody.{settled_elements}
 use Rattle.smithy_strings.specs.declared.wire.Place.TheVariants.{Query}
 use Rattle.smithy_strings.specs.Escapes.{escape, unescaped, AreBytes}
 use Rattle.smithy_strings.proofs.UnescapeLaws.{unescaped-escape}
-use Rattle.smithy_binding.specs.Bindings.{pairs, member_text, element_text, texts, query_names, place_of, place_at}
+use Rattle.smithy_binding.specs.Bindings.{pairs, texts, query_names, place_at}
+use Rattle.smithy_binding.specs.views.StoredTexts.{member_text, element_text}
 use Rattle.smithy_binding.specs.Checked.{IsCheckedInput, has_element}
 use Rattle.smithy_binding.specs.Clear.{is_clear, are_whole_segments, ends_segment, begins_segment}
 use Rattle.smithy_binding.specs.Faults.{is_placed_at}
@@ -105,10 +106,10 @@ query_texts_back schema template labels path name ps clear fills bytes all utf8 
 
 -- The value.
 
-scalar_part : (m : Schema) (u : Value) (ts : List (List ℕ)) → is_flat m.node.kind ≡ true → place_of m ≡ Query → IsBoundValue m u → texts m u ≡ Some ts → query_part m ts ≡ Some (Some u)
-scalar_part m u ts flat here is e = go (member_text (place_of m) m u) refl (sym (flat_texts m u (flat_value m.node.kind u flat is.fits)) ∙ e)
+scalar_part : (m : Schema) (u : Value) (ts : List (List ℕ)) → is_flat m.node.kind ≡ true → place_at (binding_of m) ≡ Query → IsBoundValue m u → texts m u ≡ Some ts → query_part m ts ≡ Some (Some u)
+scalar_part m u ts flat here is e = go (member_text (place_at (binding_of m)) m u) refl (sym (flat_texts m u (flat_value m.node.kind u flat is.fits)) ∙ e)
   where
-    go : (o : Option (List ℕ)) → member_text (place_of m) m u ≡ o → option_map (λ (t : List ℕ). t ∷ []) o ≡ Some ts → query_part m ts ≡ Some (Some u)
+    go : (o : Option (List ℕ)) → member_text (place_at (binding_of m)) m u ≡ o → option_map (λ (t : List ℕ). t ∷ []) o ≡ Some ts → query_part m ts ≡ Some (Some u)
     go None at h = absurd (cc h)
     go (Some t) at h =
         let same : t ∷ [] ≡ ts = cc h in
@@ -126,7 +127,7 @@ listed_part m e (write l v ws) (t ∷ ts) is_list at h back =
     ∙ ap (λ o. option_map (λ u. Some u) (option_and_then (λ e. texts_value e Query (t ∷ ts)) o)) at
     ∙ ap (option_map (λ u. Some u)) back
 
-list_part : (m : Schema) (u : Value) (ts : List (List ℕ)) → has_element is_scalar m ≡ true → place_of m ≡ Query → HasPlainElements m → IsBoundValue m u → texts m u ≡ Some ts
+list_part : (m : Schema) (u : Value) (ts : List (List ℕ)) → has_element is_scalar m ≡ true → place_at (binding_of m) ≡ Query → HasPlainElements m → IsBoundValue m u → texts m u ≡ Some ts
     → query_part m ts ≡ Some (unless_empty (with_own_elements m u))
 list_part m u ts has here plain is e =
     let l = list_of_element is_scalar m has in

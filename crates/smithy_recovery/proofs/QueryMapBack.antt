@@ -30,7 +30,7 @@ use Rattle.smithy_binding.specs.Bindings.{pairs, labels, query_names, entries_of
 use Rattle.smithy_binding.specs.Checked.{is_plain_string, is_plain_list, is_query_map}
 use Rattle.smithy_binding.specs.Faults.{entry_fault, item_fault, part_fault, is_placed_at}
 use Rattle.smithy_binding.specs.NormalForm.{member_view, unless_empty}
-use Rattle.smithy_binding.specs.Placing.{Protocol, Omit, pair_text, template_of}
+use Rattle.smithy_binding.specs.Placing.{Protocol, OmitFlags, pair_text, template_of}
 use Rattle.smithy_document.proofs.OrderedPairs.{Pairs, last_of, all_put, look_ordered, known_by_names}
 use Rattle.smithy_unambiguity.proofs.ByMember.{first_value}
 use Rattle.smithy_unambiguity.proofs.ByName.{nothing_at}
@@ -278,7 +278,7 @@ module _ (others : List (List ℕ)) (ps : List (List ℕ × List ℕ)) (here : O
       go (Some x) = refl
 
 -- what a request has of a query map is the normal form's part
-pub query_map_back : (protocol : Protocol) (schema : Schema) (endpoint : List ℕ) (omit : Omit) (ws : List Write) (q : Request) → IsSeen protocol schema endpoint omit ws q → (i : ℕ) (m : Schema)
+pub query_map_back : (protocol : Protocol) (schema : Schema) (endpoint : List ℕ) (omit : OmitFlags) (ws : List Write) (q : Request) → IsSeen protocol schema endpoint omit ws q → (i : ℕ) (m : Schema)
     → member_at schema i ≡ Some m → binding_of m ≡ to_query_map → query_map_part (pieces (template_of schema endpoint)) (query_names schema) m (query_pieces q.target) ≡ Some (member_view schema ws i m)
 query_map_back protocol schema endpoint omit ws q is i m at query_map =
     ap (option_map (λ es. unless_empty (map_value (Some m) (in_key_order es)))) (entries_read others ps here template target target each_entry)

@@ -19,9 +19,9 @@ use Rattle.smithy_serde.specs.Values.{Value, Write, list_of}
 use Rattle.smithy_strings.specs.Escapes.{escape, AreBytes}
 use Rattle.smithy_binding.specs.Bindings.{pairs, labels}
 use Rattle.smithy_binding.specs.Bodies.{has_unbound_member}
-use Rattle.smithy_binding.specs.Checked.{IsCheckedInput, has_plain_elements, is_element_plain, is_plain_element, same_format}
+use Rattle.smithy_binding.specs.Checked.{IsCheckedInput, has_plain_elements, is_element_plain, same_format}
 use Rattle.smithy_binding.specs.NormalForm.{member_view}
-use Rattle.smithy_binding.specs.Placing.{Protocol, Omit, template_of}
+use Rattle.smithy_binding.specs.Placing.{Protocol, OmitFlags, template_of}
 use Rattle.smithy_strings.proofs.Bytes.{AreBytes-from_utf8}
 use Rattle.smithy_unambiguity.proofs.ByMember.{first_value, first_texts}
 use Rattle.smithy_unambiguity.proofs.HeadersTold.{clear_template}
@@ -38,7 +38,7 @@ use Rattle.smithy_recovery.specs.HeaderParts.{header_part}
 use Rattle.smithy_recovery.specs.MemberParts.{part_writes, with_body}
 use Rattle.smithy_recovery.specs.PathParts.{path_texts}
 use Rattle.smithy_recovery.specs.QueryParts.{pieces_named, query_texts, query_part}
-use Rattle.smithy_recovery.specs.Recovered.{Reading, template, part_at, body_writes}
+use Rattle.smithy_recovery.specs.Recovered.{Reading, template, part_at, body_writes, read_writes}
 use Rattle.smithy_recovery.proofs.BodyBack.{payload_member_back, unbound_back}
 use Rattle.smithy_recovery.proofs.Exact.{ReadsView}
 use Rattle.smithy_recovery.proofs.HeadersBack.{HasPlainElements, header_member_back}
@@ -55,8 +55,9 @@ plain_elements : (schema : Schema) → IsCheckedInput schema → (i : ℕ) (m : 
 plain_elements schema checked i m at bound e is_list element =
     let test = member_has has_plain_elements (members_of schema) i m (list_all-from_AllPass has_plain_elements (members_of schema) checked.elements) (members_by_position schema checked i ∙ at) in
     let plain : is_element_plain m ≡ true = ap (λ b. b || is_element_plain m) (sym bound) ∙ test in
-    let one : is_plain_element m e ≡ true =
-    sym (ap (λ k. not (same_kind k kind.List) || option_map_or (is_plain_element m) (element_of m) true) is_list ∙ ap (λ o. option_map_or (is_plain_element m) o true) element)
+    let is_plain = λ (x : Schema). is_none x.node.traits.media_type && same_format x.node.traits.timestamp_format m.node.traits.timestamp_format in
+    let one : is_plain e ≡ true =
+    sym (ap (λ k. not (same_kind k kind.List) || option_map_or is_plain (element_of m) true) is_list ∙ ap (λ o. option_map_or is_plain o true) element)
     ∙ plain in
     go e.node.traits.media_type (and_parts (is_none e.node.traits.media_type) (same_format e.node.traits.timestamp_format m.node.traits.timestamp_format) one).0
   where
@@ -81,7 +82,7 @@ first_utf8 schema ws i m typed at range = go (first_value schema ws i) range
     go None r = tt
     go (Some u) r = texts_utf8 m u (r u refl)
 
-query_seen : (protocol : Protocol) (schema : Schema) (endpoint : List ℕ) (omit : Omit) (ws : List Write) (q : Request) → IsSeen protocol schema endpoint omit ws q → (i : ℕ) (m : Schema) (name : List ℕ) → member_at schema i ≡ Some m → binding_of m ≡ to_query name
+query_seen : (protocol : Protocol) (schema : Schema) (endpoint : List ℕ) (omit : OmitFlags) (ws : List Write) (q : Request) → IsSeen protocol schema endpoint omit ws q → (i : ℕ) (m : Schema) (name : List ℕ) → member_at schema i ≡ Some m → binding_of m ≡ to_query name
     → query_texts (pieces (template_of schema endpoint)) (pieces_named (escape name) (query_pieces q.target)) name ≡ Some (values_at name (pairs schema ws))
 query_seen protocol schema endpoint omit ws q is i m name at query =
     ap (λ xs. query_texts (pieces (template_of schema endpoint)) xs name) (sym (is.query (escape name)))
@@ -95,7 +96,7 @@ query_seen protocol schema endpoint omit ws q is i m name at query =
 outside : (schema : Schema) (ws : List Write) (i : ℕ) (m : Schema) (b : Binding) → binding_of m ≡ b → is_outside_body b ≡ true → Some (member_view schema ws i m) ≡ Some (bound_part schema ws (i, m))
 outside schema ws i m b is out = sym (ap (λ t. Some (if t then member_view schema ws i m else None)) (ap is_outside_body is ∙ out))
 
-bound_back : (r : Reading) → IsLawfulText r.protocol.text_of r.holds → (omit : Omit) (ws : List Write) (q : Request) (is : IsSeen r.protocol r.schema r.endpoint omit ws q)
+bound_back : (r : Reading) → IsLawfulText r.protocol.text_of r.holds → (omit : OmitFlags) (ws : List Write) (q : Request) (is : IsSeen r.protocol r.schema r.endpoint omit ws q)
     → (x : AreLabelTexts r.schema ws (template_of r.schema r.endpoint) is.request.path) → (i : ℕ) (m : Schema) → member_at r.schema i ≡ Some m → part_at r q x.texts (binding_of m) m ≡ Some (bound_part r.schema ws (i, m))
 bound_back r lawful omit ws q is x i m at = go (binding_of m) refl
   where
@@ -136,7 +137,7 @@ some_member (m ∷ ms) e = go (is_bound m) refl e (some_member ms)
     go false is h later = (0, m, refl, is)
     go true is h later = let rest = later h in (suc rest.0, rest.1, rest.2, rest.3)
 
-body_back : (r : Reading) → IsLawfulText r.protocol.text_of r.holds → (omit : Omit) (ws : List Write) (q : Request) → IsSeen r.protocol r.schema r.endpoint omit ws q → body_writes r q ≡ Some (writes (free_part r.schema ws) 0 (members_of r.schema))
+body_back : (r : Reading) → IsLawfulText r.protocol.text_of r.holds → (omit : OmitFlags) (ws : List Write) (q : Request) → IsSeen r.protocol r.schema r.endpoint omit ws q → body_writes r q ≡ Some (writes (free_part r.schema ws) 0 (members_of r.schema))
 body_back r lawful omit ws q is = go (has_unbound_member r.schema) refl
   where
     go : (b : Bool) → has_unbound_member r.schema ≡ b → cond b (option_map list_of (unbound_part r.holds r.schema q.body)) (Some []) ≡ Some (writes (free_part r.schema ws) 0 (members_of r.schema))
@@ -149,6 +150,7 @@ body_back r lawful omit ws q is = go (has_unbound_member r.schema) refl
         ∙ ap Some (unbound_is_free r.protocol r.schema r.endpoint omit ws is.checked is.well_made is.typed)
 
 pub reads_by : (r : Reading) → IsLawfulText r.protocol.text_of r.holds → ReadsView r
+unfolding read_writes
 reads_by r lawful omit q ws checked well_made typed e =
     let is = seen r.protocol r.schema r.endpoint omit ws q checked well_made typed e in
     let x = labels_back r.schema ws (template_of r.schema r.endpoint) is.request.path is.well_made is.writes (clear_template r.schema r.endpoint is.checked is.typed.clear) is.request.fills in

@@ -10,7 +10,7 @@ use Rattle.smithy_binding.specs.Answer.{place, request_at}
 use Rattle.smithy_binding.specs.Bindings.{headers, pairs}
 use Rattle.smithy_binding.specs.Bodies.{body}
 use Rattle.smithy_binding.specs.Checked.{IsCheckedInput, checked_input}
-use Rattle.smithy_binding.specs.Placing.{Protocol, Omit, with_query, all_headers}
+use Rattle.smithy_binding.specs.Placing.{Protocol, OmitFlags, with_query, all_headers}
 use Rattle.smithy_binding.specs.Typed.{IsTyped}
 use Rattle.smithy_binding.proofs.CheckedLaws.{IsCheckedInput-from_test}
 use Rattle.smithy_unambiguity.proofs.HeadersTold.{typed_writes}
@@ -19,7 +19,7 @@ use Rattle.smithy_unambiguity.proofs.Requests.{IsPlacedRequest, placed_request}
 use Rattle.smithy_unambiguity.proofs.TemplateQuery.{query_leaves_path}
 
 -- What its parts have of the input.
-pub record IsSeen (protocol : Protocol) (schema : Schema) (endpoint : List ℕ) (omit : Omit) (ws : List Write) (q : Request) : Type 0 where
+pub record IsSeen (protocol : Protocol) (schema : Schema) (endpoint : List ℕ) (omit : OmitFlags) (ws : List Write) (q : Request) : Type 0 where
   pub checked : IsCheckedInput schema
   pub well_made : is_well_made schema ≡ true
   pub typed : IsTyped protocol schema endpoint omit ws
@@ -30,7 +30,7 @@ pub record IsSeen (protocol : Protocol) (schema : Schema) (endpoint : List ℕ) 
   pub query : (name : List ℕ) → values_at name (map named_piece (query_pieces (with_query request.path (pairs schema ws)))) ≡ values_at name (map named_piece (query_pieces q.target))
   pub body : (body protocol.text_of schema ws).bytes ≡ q.body
 
-pub seen : (protocol : Protocol) (schema : Schema) (endpoint : List ℕ) (omit : Omit) (ws : List Write) (q : Request) → IsTrue (checked_input schema) → IsTrue (is_well_made schema) → IsTyped protocol schema endpoint omit ws
+pub seen : (protocol : Protocol) (schema : Schema) (endpoint : List ℕ) (omit : OmitFlags) (ws : List Write) (q : Request) → IsTrue (checked_input schema) → IsTrue (is_well_made schema) → IsTyped protocol schema endpoint omit ws
     → option_map facts (place protocol schema ws endpoint omit) ≡ Some (facts q) → IsSeen protocol schema endpoint omit ws q
 seen protocol schema endpoint omit ws q checked well_made typed e =
     let x = placed_request protocol schema ws endpoint omit typed.conforming in

@@ -17,7 +17,7 @@ use Rattle.smithy_strings.specs.declared.wire.Place.{Place}
 use Rattle.smithy_strings.specs.Wire.{wire}
 use Rattle.smithy_strings.specs.Unwired.{unwired}
 use Rattle.smithy_strings.proofs.UnwireLaws.{unwired-wire}
-use Rattle.smithy_binding.specs.Bindings.{member_text, element_text}
+use Rattle.smithy_binding.specs.views.StoredTexts.{member_text, element_text}
 use Rattle.smithy_unambiguity.proofs.Fits.{is_flat, taken}
 use Rattle.smithy_unambiguity.proofs.Values.{AreItems, HaveFormat, flat_value, flat_settled, each_first}
 use Rattle.smithy_recovery.specs.HeaderParts.{text_value, list_value, texts_value}

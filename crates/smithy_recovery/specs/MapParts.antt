@@ -17,7 +17,7 @@ use Rattle.smithy_binding.specs.NormalForm.{unless_empty}
 use Rattle.smithy_binding.specs.Typed.{default_names}
 use Rattle.smithy_recovery.specs.HeaderParts.{list_value}
 use Rattle.smithy_recovery.specs.PathParts.{behind_front}
-use Rattle.smithy_recovery.specs.QueryParts.{piece_text, own_query, pieces_named}
+use Rattle.smithy_recovery.specs.QueryParts.{piece_text, own_query, pieces_named, one_of}
 
 abbrev pub as_text : List ℕ → Value
 as_text t = value.scalar (value.text t)
@@ -30,18 +30,19 @@ abbrev pub entries_behind : List ℕ → List (List ℕ × List ℕ) → List (L
 entries_behind prefix [] = []
 entries_behind prefix (p ∷ ps) = cons_option (entry_behind prefix p) (entries_behind prefix ps)
 
+-- entries of texts in byte order of the keys, of equal keys the last
+abbrev pub text_entries : List (List ℕ × List ℕ) → List (List ℕ × Value)
+text_entries es = in_key_order (map (λ e. (e.0, as_text e.1)) es)
+
 -- The map of the headers behind a prefix: nothing of none.
 abbrev pub prefix_part : Schema → List ℕ → List (List ℕ × List ℕ) → Option (Option Value)
 prefix_part m prefix headers =
     let entries = entries_behind (str_to_ascii_lowercase prefix) headers in
-    if list_all (λ (e : List ℕ × List ℕ). is_utf8 e.1) entries
-    then Some (unless_empty (map_value (Some m) (in_key_order (map (λ e. (e.0, as_text e.1)) entries))))
-    else None
+    if list_all (λ (e : List ℕ × List ℕ). is_utf8 e.1) entries then Some (unless_empty (map_value (Some m) (text_entries entries))) else None
 
 -- the one text where a String stands
 abbrev pub one_text : List (List ℕ) → Option Value
-one_text (t ∷ []) = Some (as_text t)
-one_text ts = None
+one_text ts = option_map as_text (one_of ts)
 
 -- else the list of the texts
 abbrev pub text_list : Option Schema → List (List ℕ) → Option Value

@@ -1,5 +1,5 @@
 //! Laws of the way back. The functions do no work: each has a law as its contract.
-ghost use Rattle.smithy_binding.specs.Protocols.{codec_of, protocol_of};
+ghost use Rattle.smithy_binding.specs.Protocols.{protocol_of};
 ghost use Rattle.smithy_recovery.specs.Recovered.{RecoversExactly};
 
 use smithy_binding::HttpBindingProtocol;
@@ -10,6 +10,6 @@ use smithy_serde::Codec;
 /// holds, every endpoint and every choice of default headers to leave out. Condition: the codec is
 /// lawful (Smithy, HTTP protocol bindings).
 pub fn recovered_is_exact<C: Codec>(protocol: &HttpBindingProtocol<C>)
-    requires lawful { C.lawful (codec_of protocol.now) }
-    ensures { RecoversExactly (protocol_of C.text protocol.now) (C.holds (codec_of protocol.now)) }
+    requires lawful { C.lawful protocol.now.codec }
+    ensures { RecoversExactly (protocol_of C.text protocol.now) (C.holds protocol.now.codec) }
 {}

@@ -1,0 +1,198 @@
+-- Entries that are put one after another.
+use Rattle.std.proofs.Common.{◌≡◌, refl, sym, ◌∙◌, ap, subst, cond, arith, ℕ, Bool, true, false, ◌&&◌, List, [], ◌∷◌, length, map, Option, Some, None, String, Global, option_map, option_and_then, unwrap_or, is_some, string_bytes, string_cmp}
+use Rattle.std.specs.Borrow.{Bor}
+use Rattle.std.specs.BTreeMap.{BTreeMap, insert_entry, get_by_text}
+use Rattle.std.specs.Cmp.Lexicographic.{slice_cmp}
+use Rattle.std.specs.List.{list_all, cons_option}
+use Rattle.std.specs.Ordering.{nat_cmp, match_ordering}
+use Rattle.std.specs.declared.cmp.Ordering.{Ordering}
+use Rattle.std.specs.declared.cmp.Ordering.TheVariants.{Less, Equal, Greater}
+use Rattle.std.specs.Str.{is_utf8, str_to_ascii_lowercase}
+use Rattle.std.proofs.lemmas.Bool.{and_parts}
+use Rattle.smithy_http.specs.HeaderValues.{text_of}
+use Rattle.smithy_schema.specs.Nodes.{Schema, Node, Table, node_at, at_place, key_of, value_of}
+use Rattle.smithy_types.specs.Maps.{with_value, all_put}
+use Rattle.smithy_types.proofs.MapLemmas.{lookup-pairs_of}
+use Rattle.smithy_serde.specs.NormalBody.{map_value, entry_writes, own_label}
+use Rattle.smithy_serde.specs.StoredValues.{no_label, label_at, value_in, HasNode, IsDefined}
+use Rattle.smithy_serde.specs.Told.{appended, one_write}
+use Rattle.smithy_serde.specs.Values as value
+use Rattle.smithy_serde.specs.Values.{Label, Value, Writes, label_of}
+use Rattle.smithy_serde.specs.declared.value.ShapeValue.{ShapeValue}
+use Rattle.smithy_serde.proofs.WritesLemmas.{appended-no_writes, appended_assoc}
+use Rattle.smithy_binding.specs.NormalForm.{unless_empty}
+use Rattle.smithy_recovery.specs.views.KeptEntries.{shown_entries, text_put, part_put, headers_put, ArePlaces, has_entry_nodes}
+use Rattle.smithy_recovery.specs.views.KeptQueries.{shown_values, entries_in, has_key, AreValuesDefined}
+use Rattle.smithy_recovery.specs.MapParts.{as_text, entry_behind, entries_behind, text_entries, prefix_part}
+
+abbrev Entries : Type 0
+Entries = List (List ℕ × Value)
+
+abbrev order : Bor (List ℕ) → Bor (List ℕ) → Ordering
+order a b = slice_cmp nat_cmp a.now b.now
+
+-- an insertion into the map
+pub shown_put : (es : List (Bor (List ℕ) × Bor (List ℕ))) (k v : Bor (List ℕ)) → shown_entries (insert_entry order es k v) ≡ with_value k.now (as_text v.now) (shown_entries es)
+shown_put [] k v = refl
+shown_put (e ∷ es) k v = go (slice_cmp nat_cmp k.now e.0.now) (shown_put es k v)
+  where
+    go : (o : Ordering) → shown_entries (insert_entry order es k v) ≡ with_value k.now (as_text v.now) (shown_entries es)
+        → shown_entries (match_ordering o ((k, v) ∷ e ∷ es) ((e.0, v) ∷ es) (e ∷ insert_entry order es k v))
+        ≡ match_ordering o ((k.now, as_text v.now) ∷ shown_entries (e ∷ es)) ((e.0.now, as_text v.now) ∷ shown_entries es) ((e.0.now, as_text e.1.now) ∷ with_value k.now (as_text v.now) (shown_entries es))
+    go Less rest = refl
+    go Equal rest = refl
+    go Greater rest = ap (λ xs. (e.0.now, as_text e.1.now) ∷ xs) rest
+
+-- all headers are put as the texts behind the prefix are
+abbrev with_text : List ℕ × List ℕ → List ℕ × Value
+with_text e = (e.0, as_text e.1)
+
+abbrev all_utf8 : List (List ℕ × List ℕ) → Bool
+all_utf8 es = list_all (λ (e : List ℕ × List ℕ). is_utf8 e.1) es
+
+pub put_behind : (prefix : List ℕ) (hs : List (List ℕ × List ℕ)) (es : Entries)
+    → headers_put prefix hs es ≡ cond (all_utf8 (entries_behind prefix hs)) (Some (all_put (map with_text (entries_behind prefix hs)) es)) None
+put_behind prefix [] es = refl
+put_behind prefix (h ∷ hs) es = go (entry_behind prefix h) (put_behind prefix hs)
+  where
+    later : List (List ℕ × List ℕ)
+    later = entries_behind prefix hs
+
+    by : (e : List ℕ × List ℕ) (t : Bool) → ((es : Entries) → headers_put prefix hs es ≡ cond (all_utf8 later) (Some (all_put (map with_text later) es)) None)
+        → option_and_then (headers_put prefix hs) (cond t (Some (with_value e.0 (as_text e.1) es)) None) ≡ cond (t && all_utf8 later) (Some (all_put (map with_text later) (with_value e.0 (as_text e.1) es))) None
+    by e true rest = rest (with_value e.0 (as_text e.1) es)
+    by e false rest = refl
+
+    go : (o : Option (List ℕ × List ℕ)) → ((es : Entries) → headers_put prefix hs es ≡ cond (all_utf8 later) (Some (all_put (map with_text later) es)) None)
+        → option_and_then (headers_put prefix hs) (part_put o es) ≡ cond (all_utf8 (cons_option o later)) (Some (all_put (map with_text (cons_option o later)) es)) None
+    go None rest = rest es
+    go (Some e) rest = by e (is_utf8 e.1) rest
+
+-- the part of a prefix, by what was put
+abbrev pub part_of : Schema → Option Entries → Option (Option Value)
+part_of m o = option_map (λ es. unless_empty (map_value (Some m) es)) o
+
+pub prefix_put : (m : Schema) (prefix : List ℕ) (hs : List (List ℕ × List ℕ)) → part_of m (headers_put (str_to_ascii_lowercase prefix) hs []) ≡ prefix_part m prefix hs
+prefix_put m prefix hs =
+    let low = str_to_ascii_lowercase prefix in
+    ap (part_of m) (put_behind low hs []) ∙ go (all_utf8 (entries_behind low hs)) (text_entries (entries_behind low hs))
+  where
+    go : (t : Bool) (es : Entries) → part_of m (cond t (Some es) None) ≡ cond t (Some (unless_empty (map_value (Some m) es))) None
+    go true es = refl
+    go false es = refl
+
+-- no entries leave nothing, and some leave the map
+pub part_none : (m : Schema) (o : Option Entries) → o ≡ Some [] → part_of m o ≡ Some None
+part_none m o e = ap (part_of m) e
+
+pub part_some : (m : Schema) (o : Option Entries) (es : List (Bor (List ℕ) × Bor (List ℕ))) → o ≡ Some (shown_entries es) → (length es ≡ 0 → ⊥) → part_of m o ≡ Some (Some (map_value (Some m) (shown_entries es)))
+part_some m o [] e some = absurd (some refl)
+part_some m o (x ∷ es) e some = ap (part_of m) e
+
+pub none_shown : (es : List (Bor (List ℕ) × Bor (List ℕ))) → length es ≡ 0 → shown_entries es ≡ []
+none_shown [] e = refl
+none_shown (x ∷ es) e = absurd (omega (arith, e))
+
+-- an entry is put where it is a text
+pub text_put_some : (key bytes text : List ℕ) (es : Entries) → Some text ≡ text_of bytes → text_put (key, bytes) es ≡ Some (with_value key (as_text text) es)
+text_put_some key bytes text es e = go (is_utf8 bytes) e
+  where
+    go : (t : Bool) → Some text ≡ cond t (Some bytes) None → cond t (Some (with_value key (as_text bytes) es)) None ≡ Some (with_value key (as_text text) es)
+    go true h = let same : text ≡ bytes = cc h in ap (λ x. Some (with_value key (as_text x) es)) (sym same)
+    go false h = absurd (cc h)
+
+-- two writes are an entry
+pub two_writes : (k v : Label) (old mid new : Writes) (a b : Value) (x : List ℕ) → a ≡ as_text x → mid ≡ appended old (one_write k a) → new ≡ appended mid (one_write v b)
+    → new ≡ appended old (entry_writes k v ((x, b) ∷ []))
+two_writes k v old mid new a b x is first second =
+    second ∙ ap (λ w. appended w (one_write v b)) first ∙ appended_assoc old (one_write k a) (one_write v b) ∙ ap (λ y. appended old (appended (one_write k y) (one_write v b))) is
+
+-- a cited node stands in the table of the node that cites it
+pub placed_in : (m s : Schema) (o : Option ℕ) (i : ℕ) → Some s ≡ option_and_then (at_place m.table) o → at_place s.table i ≡ Some s → at_place m.table i ≡ Some s
+placed_in m s None i e own = absurd (cc e)
+placed_in m s (Some p) i e own = go (node_at m.table p) e
+  where
+    go : (n : Option Node) → Some s ≡ option_map (λ n. record { table = m.table; node = n }) n → at_place m.table i ≡ Some s
+    go None h = absurd (cc h)
+    go (Some n) h =
+        let same : s ≡ record { table = m.table; node = n } = cc h in
+        subst (λ t. at_place t i ≡ Some s) (ap (λ (x : Schema). x.table) same) own
+
+pub cited_table : (m s : Schema) (o : Option ℕ) → Some s ≡ option_and_then (at_place m.table) o → s.table ≡ m.table
+cited_table m s None e = absurd (cc e)
+cited_table m s (Some p) e = go (node_at m.table p) e
+  where
+    go : (n : Option Node) → Some s ≡ option_map (λ n. record { table = m.table; node = n }) n → s.table ≡ m.table
+    go None h = absurd (cc h)
+    go (Some n) h = let same : s ≡ record { table = m.table; node = n } = cc h in ap (λ (x : Schema). x.table) same
+
+-- An entry further among the writes.
+pub entries_further : (k v : Label) (ws ns : Writes) (e : List ℕ × Value) (all rest : Entries) → all ≡ e ∷ rest → ns ≡ appended ws (entry_writes k v (e ∷ []))
+    → appended ns (entry_writes k v rest) ≡ appended ws (entry_writes k v all)
+entries_further k v ws ns e all rest steps more =
+    ap (λ w. appended w (entry_writes k v rest)) more ∙ appended_assoc ws (entry_writes k v (e ∷ [])) (entry_writes k v rest) ∙ ap (λ es. appended ws (entry_writes k v es)) (sym steps)
+
+pub entries_all : (k v : Label) (ws all : Writes) (rest : Entries) → rest ≡ [] → appended ws (entry_writes k v rest) ≡ all → ws ≡ all
+entries_all k v ws all rest none same = sym (appended-no_writes ws) ∙ ap (λ es. appended ws (entry_writes k v es)) (sym none) ∙ same
+
+-- at the places of a map's nodes stand its own labels
+own_at : (t : Table) (i : ℕ) (o : Option Schema) → at_place t i ≡ o → label_at t i ≡ own_label o no_label
+own_at t i o is = ap (λ p. unwrap_or (option_map label_of p) no_label) is ∙ go o
+  where
+    go : (o : Option Schema) → unwrap_or (option_map label_of o) no_label ≡ own_label o no_label
+    go None = refl
+    go (Some s) = refl
+
+-- so entries that are written there are the map
+pub own_map : (m : Schema) (i j : ℕ) (ws : Writes) (es : Entries) → ArePlaces m i j → ws ≡ entry_writes (label_at m.table i) (label_at m.table j) es → value.map ws ≡ map_value (Some m) es
+own_map m i j ws es at is =
+    ap value.map is ∙ (λ n. value.map (entry_writes (own_at m.table i (key_of m) at.key_node n) (own_at m.table j (value_of m) at.value_node n) es))
+
+-- and they have nodes
+pub key_there : (m : Schema) (i j : ℕ) → ArePlaces m i j → has_entry_nodes m ≡ true → HasNode m.table i
+key_there m i j at nodes = ap is_some at.key_node ∙ (and_parts (is_some (key_of m)) (is_some (value_of m)) nodes).0
+
+pub value_there : (m : Schema) (i j : ℕ) → ArePlaces m i j → has_entry_nodes m ≡ true → HasNode m.table j
+value_there m i j at nodes = ap is_some at.value_node ∙ (and_parts (is_some (key_of m)) (is_some (value_of m)) nodes).1
+
+-- Values that are kept by their keys.
+
+-- an insertion into the map
+pub value_inserted : (t : Table) (es : List (String Global × ShapeValue)) (k : String Global) (v : ShapeValue)
+    → shown_values t (insert_entry string_cmp es k v) ≡ with_value (string_bytes k) (value_in t v) (shown_values t es)
+value_inserted t [] k v = refl
+value_inserted t (e ∷ es) k v = go (string_cmp k e.0) (value_inserted t es k v)
+  where
+    go : (o : Ordering) → shown_values t (insert_entry string_cmp es k v) ≡ with_value (string_bytes k) (value_in t v) (shown_values t es)
+        → shown_values t (match_ordering o ((k, v) ∷ e ∷ es) ((e.0, v) ∷ es) (e ∷ insert_entry string_cmp es k v))
+        ≡ match_ordering o ((string_bytes k, value_in t v) ∷ shown_values t (e ∷ es)) ((string_bytes e.0, value_in t v) ∷ shown_values t es)
+        ((string_bytes e.0, value_in t e.1) ∷ with_value (string_bytes k) (value_in t v) (shown_values t es))
+    go Less rest = refl
+    go Equal rest = refl
+    go Greater rest = ap (λ xs. (string_bytes e.0, value_in t e.1) ∷ xs) rest
+
+pub defined_inserted : (t : Table) (es : List (String Global × ShapeValue)) (k : String Global) (v : ShapeValue) → IsDefined t v → AreValuesDefined t es → AreValuesDefined t (insert_entry string_cmp es k v)
+defined_inserted t [] k v is all = (is, tt)
+defined_inserted t (e ∷ es) k v is all = go (string_cmp k e.0) (defined_inserted t es k v is all.1)
+  where
+    go : (o : Ordering) → AreValuesDefined t (insert_entry string_cmp es k v) → AreValuesDefined t (match_ordering o ((k, v) ∷ e ∷ es) ((e.0, v) ∷ es) (e ∷ insert_entry string_cmp es k v))
+    go Less rest = (is, all)
+    go Equal rest = (is, all.1)
+    go Greater rest = (all.0, rest)
+
+-- what is found of a key
+pub key_found : (t : Table) (key : List ℕ) (m : BTreeMap (String Global) ShapeValue) → is_some (get_by_text m key) ≡ has_key key (entries_in t m)
+key_found t key m = go (get_by_text m key) ∙ ap is_some (lookup-pairs_of (value_in t) key m.entries)
+  where
+    go : (p : Option ShapeValue) → is_some p ≡ is_some (option_map (value_in t) p)
+    go None = refl
+    go (Some v) = refl
+
+-- the part of a map by the values that are kept of it
+pub part_kept : (t : Table) (m : Schema) (o : Option Entries) (es : List (String Global × ShapeValue)) → o ≡ Some (shown_values t es) → (length es ≡ 0 → ⊥) → part_of m o ≡ Some (Some (map_value (Some m) (shown_values t es)))
+part_kept t m o [] e some = absurd (some refl)
+part_kept t m o (x ∷ es) e some = ap (part_of m) e
+
+pub none_kept : (t : Table) (es : List (String Global × ShapeValue)) → length es ≡ 0 → shown_values t es ≡ []
+none_kept t [] e = refl
+none_kept t (x ∷ es) e = absurd (omega (arith, e))

@@ -1,0 +1,15 @@
+use Rattle.std.proofs.Common.{◌≡◌}
+use Rattle.smithy_schema.specs.Nodes.{Table}
+use Rattle.smithy_serde.specs.NormalBody.{entry_writes}
+use Rattle.smithy_serde.specs.StoredValues.{label_at, writes_in, HasNode, AreDefined}
+use Rattle.smithy_serde.specs.Told.{appended}
+use Rattle.smithy_recovery.specs.views.KeptQueries.{shown_values, entries_in, AreValuesDefined, AreKeptDefined}
+use Rattle.smithy_recovery.proofs.query_entries.entry_list.Given as goal
+
+abbrev pub invariant-loop-key : goal.invariant-loop-key
+invariant-loop-key l =
+    record {
+      writes : (t : Table) → appended (writes_in t l.writes) (entry_writes (label_at t l.places.0.0) (label_at t l.places.1.0) (shown_values t l.key-iterator))
+          ≡ entry_writes (label_at t l.places.0.0) (label_at t l.places.1.0) (entries_in t l.fn.entries);
+      defined : (t : Table) → HasNode t l.places.0.0 → HasNode t l.places.1.0 → AreKeptDefined t l.fn.entries → AreDefined t l.writes × AreValuesDefined t l.key-iterator;
+    }

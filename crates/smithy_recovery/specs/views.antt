@@ -1,0 +1,11 @@
+pub mod Pieces
+pub mod Kept
+pub mod Keeping
+pub mod KeptBodies
+pub mod KeptEntries
+pub mod KeptLabels
+pub mod KeptMembers
+pub mod KeptQueries
+pub mod NameOrder
+pub mod ShapedParts
+pub mod Testing
