@@ -1,28 +1,11 @@
 -- Where no member is bound, the body's reader hands out what the response does.
-use Rattle.std.proofs.Common.{◌≡◌, inl, inr, ℕ, suc, zero, Bool, true, false, List, [], ◌∷◌, ◌++◌, filter, map, flat_map, filter_map, Option, Some, None, Result, Ok, Err, refl, sym, ap, subst, ◌∙◌, ◌||◌, ◌&&◌}
-use Rattle.std.specs.Prelude.{option_and_then, slice_get, not, is_some, MatchResult}
-use Rattle.std.specs.List.{list_any, cons_option}
-use Rattle.smithy_types.specs.Documents.{Document}
+use Rattle.std.specs.Prelude.{not, is_some}
+use Rattle.smithy_response.proofs.Common.{◌≡◌, inl, inr, ℕ, suc, zero, Bool, true, false, List, [], ◌∷◌, ◌++◌, filter, map, flat_map, filter_map, Option, Some, None, Result, Ok, Err, refl, sym, ap, subst, ◌∙◌, ◌||◌, ◌&&◌, option_and_then, slice_get, MatchResult, list_any, cons_option, Document, Response, NonUtf8HeaderHandling, Schema, Table, name_of, at_place, members_of, member_at, member_named, position_of_name, is_response_bound, SerdeError, Value, Write, structure, writes_of, HandsOut, AllHanded, settled_by, Held, Answer, known, Slot, at_member, at_element, at_key, Listing, as_it_is, contents, with_answer, with_value, values_in, values_of_listing, structure_listed, ArePlaced, PassesMemory, plain_contents, in_body, source_at, source_of, route_at, settled, settled_at, Ended, with_route, routed, has_unbound, has_payload, reads_body, only_unbound, body_part, handed_items, handed}
 use Rattle.smithy_types.specs.Results.{then_give}
-use Rattle.smithy_http.specs.Responses.{Response}
-use Rattle.smithy_http.specs.declared.non_utf8.NonUtf8HeaderHandling.{NonUtf8HeaderHandling}
-use Rattle.smithy_schema.specs.Nodes.{Schema, Table, name_of, at_place, members_of, member_at, member_named, position_of_name, is_response_bound}
-use Rattle.smithy_serde.specs.declared.error.SerdeError.{SerdeError}
 use Rattle.smithy_serde.specs.declared.scalar.Group.TheVariants as group
-use Rattle.smithy_serde.specs.Values.{Value, Write, structure, writes_of}
-use Rattle.smithy_serde.specs.Handing.{HandsOut, AllHanded, settled_by}
-use Rattle.smithy_serde.specs.Held.{Held, Answer}
-use Rattle.smithy_serde.specs.HeldReads.{known}
 use Rattle.smithy_serde.specs.IndexOrder.{in_order}
-use Rattle.smithy_serde.specs.Listings.{Slot, at_member, at_element, at_key, Listing, as_it_is, contents}
 use Rattle.smithy_serde.specs.ValueRead.{value_read}
-use Rattle.smithy_response.specs.Frames.{plain_contents}
-use Rattle.smithy_response.specs.Routes.{in_body, source_at, source_of, route_at}
-use Rattle.smithy_response.specs.Settling.{settled, settled_at}
-use Rattle.smithy_response.specs.Handed.{Ended, with_route, routed, has_unbound, has_payload, reads_body, only_unbound, body_part, handed_items, handed}
-use Rattle.smithy_response.specs.MembersRead.{ArePlaced, PassesMemory, structure_listed}
 use Rattle.smithy_response.specs.ResponseReaders.{is_body_only}
-use Rattle.smithy_response.specs.ResponseValue.{with_answer, with_value, values_in, values_of_listing}
 use Rattle.smithy_response.proofs.HandedItems.{kept, named, fields_by, fields_placed}
 
 abbrev Unbound : Schema → Type 0

@@ -1,30 +1,13 @@
 -- How what is at hand of a response is opened, and its items handed out.
-use Rattle.std.proofs.Common.{◌≡◌, ◌<◌, ◌≤◌, inl, inr, ℕ, ℤ, zero, suc, ◌+◌, ◌-◌, ◌++◌, true, false, List, [], ◌∷◌, map, length, drop, Option, Some, None, option_map, is_some, IfSome, Ok, Err, refl, sym, ap, subst, ◌∙◌, arith, add-one}
-use Rattle.std.specs.Prelude.{slice_get}
-use Rattle.std.specs.Str.{str_to_ascii_lowercase}
+use Rattle.smithy_response.proofs.Common.{◌≡◌, ◌<◌, ◌≤◌, inl, inr, ℕ, ℤ, zero, suc, ◌+◌, ◌-◌, ◌++◌, true, false, List, [], ◌∷◌, map, length, drop, Option, Some, None, option_map, is_some, IfSome, Ok, Err, refl, sym, ap, subst, ◌∙◌, arith, add-one, slice_get, str_to_ascii_lowercase, Response, Schema, SerdeError, OutOfMemory, Group, elements_of_header, Held, Prefixed, IsAnswer, levels_of, is_null_held, elements, entries, fields, opening_refusal, Slot, at_element, at_key, Listing, all_of, none_but, listing_of, contents, contents_at, Frame, AtHand, IsIn, IsRefused, NotOpened, Halted, NextElement, NextEntry, TellsNull, IsRefusal, BoundMember, OpenList, values_named, keys_behind, entry_of, prefixed_in, header_of, items_of, element_at, levels_at, told_frame, told_reader, elements_left, header_reader, entries_left, prefix_at_hand, member_at_hand}
 use Rattle.smithy_ids.specs.declared.shape_type.ShapeType.TheVariants as kind
-use Rattle.smithy_http.specs.Responses.{Response}
-use Rattle.smithy_schema.specs.Nodes.{Schema}
-use Rattle.smithy_serde.specs.declared.error.SerdeError.{SerdeError}
-use Rattle.smithy_serde.specs.declared.error.SerdeError.TheVariants.{OutOfMemory}
-use Rattle.smithy_serde.specs.declared.scalar.Group.{Group}
 use Rattle.smithy_serde.specs.declared.scalar.Group.TheVariants as group
-use Rattle.smithy_serde.specs.HeaderReads.{elements_of_header}
 use Rattle.smithy_serde.specs.Held as held
-use Rattle.smithy_serde.specs.Held.{Held, Prefixed, IsAnswer, levels_of, is_null_held}
-use Rattle.smithy_serde.specs.HeldReads.{elements, entries, fields, opening_refusal}
-use Rattle.smithy_serde.specs.Listings.{Slot, at_element, at_key, Listing, all_of, none_but, listing_of, contents, contents_at}
-use Rattle.smithy_serde.specs.ReadCalls.{Frame, AtHand, IsIn, IsRefused, NotOpened, Halted, NextElement, NextEntry, TellsNull}
-use Rattle.smithy_serde.specs.Refusals.{IsRefusal}
-use Rattle.smithy_response.specs.declared.parts.BoundMember.{BoundMember}
 use Rattle.smithy_response.specs.declared.parts.BoundMember.TheVariants as bound
 use Rattle.smithy_response.specs.declared.parts.OpenMap.{OpenMap}
 use Rattle.smithy_response.specs.declared.parts.ListItems.{ListItems}
 use Rattle.smithy_response.specs.declared.parts.ListItems.TheVariants as items
-use Rattle.smithy_response.specs.declared.parts.OpenList.{OpenList}
 use Rattle.smithy_response.specs.Openings.{opened_kind, OpensList, OpensEntries, IsAtEntries}
-use Rattle.smithy_response.specs.PrefixedHeaders.{values_named, keys_behind, entry_of, prefixed_in}
-use Rattle.smithy_response.specs.Transporting.{header_of, items_of, element_at, levels_at, told_frame, told_reader, elements_left, header_reader, entries_left, prefix_at_hand, member_at_hand}
 
 -- the refusal that opening what is held gives, or want of memory
 pub refused_listing : (x e : SerdeError) → IsRefusal x e → IsRefused (Some (none_but x)) e

@@ -1,13 +1,6 @@
 -- How a loop passes over the body's copies of bound members.
-use Rattle.std.proofs.Common.{◌≡◌, ◌<◌, ◌≤◌, Bool, true, false, List, [], ◌∷◌, map, filter, Option, Some, None, option_map, IfSome, inl, inr, refl, sym, ap, subst, ◌∙◌, arith}
-use Rattle.smithy_schema.specs.Nodes.{Schema, is_response_bound}
-use Rattle.smithy_serde.specs.declared.error.SerdeError.{SerdeError}
+use Rattle.smithy_response.proofs.Common.{◌≡◌, ◌<◌, ◌≤◌, Bool, true, false, List, [], ◌∷◌, map, filter, Option, Some, None, option_map, IfSome, inl, inr, refl, sym, ap, subst, ◌∙◌, arith, Schema, is_response_bound, SerdeError, Held, Answer, Slot, at_member, Listing, Frame, AtHand, IsIn, Hands, SettlesBy, Advanced, MemberAdvanced, Closed, Halted, IsRefused, is_unbound, unbound_items, unbound_frame, without_copies}
 use Rattle.smithy_serde.specs.declared.scalar.Group.TheVariants as group
-use Rattle.smithy_serde.specs.Held.{Held, Answer}
-use Rattle.smithy_serde.specs.Listings.{Slot, at_member, Listing}
-use Rattle.smithy_serde.specs.ReadCalls.{Frame, AtHand, IsIn, Hands, SettlesBy, Advanced, MemberAdvanced, Closed, Halted, IsRefused}
-use Rattle.smithy_response.specs.Handed.{is_unbound}
-use Rattle.smithy_response.specs.Frames.{unbound_items, unbound_frame, without_copies}
 
 abbrev stays : Slot × Held → Bool
 stays i = is_unbound i.0

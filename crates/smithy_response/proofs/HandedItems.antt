@@ -1,23 +1,9 @@
 -- What a response hands out are members of its schema, and want of memory is passed on.
-use Rattle.std.proofs.Common.{◌≡◌, ℕ, Bool, true, false, List, [], ◌∷◌, ◌++◌, filter, map, flat_map, filter_map, Option, Some, None, Err, refl}
-use Rattle.std.specs.Prelude.{option_and_then, slice_get}
-use Rattle.std.specs.List.{cons_option}
+use Rattle.smithy_response.proofs.Common.{◌≡◌, ℕ, Bool, true, false, List, [], ◌∷◌, ◌++◌, filter, map, flat_map, filter_map, Option, Some, None, Err, refl, option_and_then, slice_get, cons_option, Document, list_of_members, Response, NonUtf8HeaderHandling, Schema, Table, name_of, at_place, members_of, member_at, member_named, position_of_name, is_response_bound, OutOfMemory, Held, Answer, fields, known, Slot, at_member, at_element, at_key, contents, ArePlaced, PassesMemory, Source, in_header, in_prefix, in_status, in_payload, in_body, source_of, Route, passed_over, handed_out, handed_body, refused, route, settled, settled_at, Ended, with_route, routed, reads_body, body_part, is_unbound, handed}
 use Rattle.smithy_types.specs.Documents as doc
-use Rattle.smithy_types.specs.Documents.{Document, list_of_members}
-use Rattle.smithy_http.specs.Responses.{Response}
-use Rattle.smithy_http.specs.declared.non_utf8.NonUtf8HeaderHandling.{NonUtf8HeaderHandling}
-use Rattle.smithy_schema.specs.Nodes.{Schema, Table, name_of, at_place, members_of, member_at, member_named, position_of_name, is_response_bound}
-use Rattle.smithy_serde.specs.declared.error.SerdeError.TheVariants.{OutOfMemory}
 use Rattle.smithy_serde.specs.declared.scalar.Group.TheVariants as group
 use Rattle.smithy_serde.specs.Held as held
-use Rattle.smithy_serde.specs.Held.{Held, Answer}
-use Rattle.smithy_serde.specs.HeldReads.{fields, known}
-use Rattle.smithy_serde.specs.Listings.{Slot, at_member, at_element, at_key, contents}
 use Rattle.smithy_serde.specs.ValueRead.{IsPlaced}
-use Rattle.smithy_response.specs.Routes.{Source, in_header, in_prefix, in_status, in_payload, in_body, source_of, Route, passed_over, handed_out, handed_body, refused, route}
-use Rattle.smithy_response.specs.Settling.{settled, settled_at}
-use Rattle.smithy_response.specs.Handed.{Ended, with_route, routed, reads_body, body_part, is_unbound, handed}
-use Rattle.smithy_response.specs.MembersRead.{ArePlaced, PassesMemory}
 
 passes_at : (source : Source) (policy : NonUtf8HeaderHandling) (response : Response) (member : List ℕ) → settled_at source policy response member OutOfMemory ≡ Err OutOfMemory
 passes_at (in_header name) policy response member = refl

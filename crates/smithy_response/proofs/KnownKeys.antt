@@ -1,10 +1,8 @@
 -- One more text is known.
-use Rattle.std.proofs.Common.{◌≡◌, refl, sym, ◌∙◌, ℕ, Bool, true, false, ◌||◌, cond, List, [], ◌∷◌, ◌++◌, Option, Some, is_some}
+use Rattle.smithy_response.proofs.Common.{◌≡◌, refl, sym, ◌∙◌, ℕ, Bool, true, false, ◌||◌, cond, List, [], ◌∷◌, ◌++◌, Option, Some, is_some, bytes_eq, with_key}
 use Rattle.std.proofs.lemmas.List.Folds.{list_any-append}
-use Rattle.std.specs.Str.{bytes_eq}
 use Rattle.smithy_types.specs.Texts.{same_text, is_one_of}
 use Rattle.smithy_binding.proofs.DistinctNames.{later-more}
-use Rattle.smithy_response.specs.PrefixedHeaders.{with_key}
 
 last : (a b : Bool) → (b || a) ≡ (a || (b || false))
 last true true = refl

@@ -1,10 +1,10 @@
+pub mod Common
 pub mod BodyOnlyItems
 pub mod Containers
 pub mod Copies
 pub mod HandedItems
 pub mod KnownKeys
 pub mod Members
-pub mod MembersReading
 pub mod Passing
 pub mod Presenting
 pub mod Readings

@@ -1,14 +1,9 @@
 -- The members of a schema from a position on.
-use Rattle.std.proofs.Common.{◌≡◌, ◌<◌, ◌≤◌, ℕ, suc, ◌+◌, Bool, true, false, List, [], ◌∷◌, length, Option, Some, None, option_map, refl, sym, ap, subst, ◌∙◌}
+use Rattle.smithy_response.proofs.Common.{◌≡◌, ◌<◌, ◌≤◌, ℕ, suc, ◌+◌, Bool, true, false, List, [], ◌∷◌, length, Option, Some, None, option_map, refl, sym, ap, subst, ◌∙◌, list_any, cons_option, SchemaRef, Schema, member_at, schema_of, members_from}
 use Rattle.std.proofs.Math.ListN.{drop_of_length-le}
-use Rattle.std.specs.List.{list_any, cons_option}
 use Rattle.smithy_schema.specs.declared.parts.SchemaIndex.{SchemaIndex}
-use Rattle.smithy_schema.specs.declared.schema_ref.SchemaRef.{SchemaRef}
-use Rattle.smithy_schema.specs.Nodes.{Schema, member_at}
 use Rattle.smithy_schema.specs.Places.{places_of}
-use Rattle.smithy_schema.specs.References.{schema_of}
 use Rattle.smithy_binding.proofs.MemberSteps.{members_from-more}
-use Rattle.smithy_response.specs.Transporting.{members_from}
 
 pub from-end : (schema : Schema) (p : ℕ) → length schema.node.members ≤ p → members_from schema p ≡ []
 from-end schema p h = rw (drop_of_length-le schema.node.members h) refl

@@ -1,17 +1,7 @@
 -- How the members of a response are passed over, until one is handed out.
-use Rattle.std.proofs.Common.{◌≡◌, ◌<◌, ◌≤◌, inl, inr, ◌+◌, Bool, true, false, length, Option, Some, None, Err, refl, sym, ap, ◌∙◌, arith}
-use Rattle.std.specs.List.{cons_option}
-use Rattle.smithy_http.specs.Responses.{Response}
-use Rattle.smithy_schema.specs.Nodes.{Schema, member_at, is_response_bound}
-use Rattle.smithy_serde.specs.declared.error.SerdeError.{SerdeError}
-use Rattle.smithy_serde.specs.Held.{Held}
+use Rattle.smithy_response.proofs.Common.{◌≡◌, ◌<◌, ◌≤◌, inl, inr, ◌+◌, Bool, true, false, length, Option, Some, None, Err, refl, sym, ap, ◌∙◌, arith, cons_option, Response, Schema, member_at, is_response_bound, SerdeError, Held, BoundMember, Transport, Ended, routed, with_route, Route, passed_over, handed_out, handed_body, refused, route, route_at, source_of, member_at_hand, members_from, still_routed, IsLeft, IsSameResponse, IsTaken, IsTakenAt, TakesAt, HandsMember, HandsBody, HandsNoMember, RefusesMember}
 use Rattle.smithy_binding.proofs.MemberSteps.{members_from-more}
-use Rattle.smithy_response.specs.declared.parts.BoundMember.{BoundMember}
 use Rattle.smithy_response.specs.declared.parts.BoundMember.TheVariants as bound
-use Rattle.smithy_response.specs.declared.transport.Transport.{Transport}
-use Rattle.smithy_response.specs.Handed.{Ended, routed, with_route}
-use Rattle.smithy_response.specs.Routes.{Route, passed_over, handed_out, handed_body, refused, route, route_at, source_of}
-use Rattle.smithy_response.specs.Transporting.{member_at_hand, members_from, still_routed, IsLeft, IsSameResponse, IsTaken, IsTakenAt, TakesAt, HandsMember, HandsBody, HandsNoMember, RefusesMember}
 use Rattle.smithy_response.proofs.BodyOnlyItems.{stands_in_body}
 use Rattle.smithy_response.proofs.Members.{from-end}
 

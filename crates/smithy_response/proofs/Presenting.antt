@@ -1,14 +1,6 @@
 -- How what a body's reader does is shown by the reader of a response.
-use Rattle.std.proofs.Common.{◌≡◌, ◌<◌, ◌≤◌, ℕ, ◌+◌, List, [], ◌∷◌, Option, Some, None, option_map, IfSome, Result, Ok, Err, inl, inr, refl, sym, ap, ◌∙◌, arith}
 use Rattle.std.specs.Prelude.{Bool, true, false}
-use Rattle.smithy_schema.specs.Nodes.{Schema}
-use Rattle.smithy_schema.specs.declared.schema_ref.SchemaRef.{SchemaRef}
-use Rattle.smithy_serde.specs.declared.error.SerdeError.{SerdeError}
-use Rattle.smithy_serde.specs.declared.scalar.Group.{Group}
-use Rattle.smithy_serde.specs.Held.{Held, Answer, walked}
-use Rattle.smithy_serde.specs.Listings.{Slot, Listing, asked, as_it_is}
-use Rattle.smithy_serde.specs.ReadCalls.{Frame, AtHand, Hands, SettlesBy, Opened, NotOpened, OpensAt, Advanced, Closed, Halted, NextMember, NextElement, NextEntry, IsRefused}
-use Rattle.smithy_response.specs.Frames.{resettled, plainly, plain, untold}
+use Rattle.smithy_response.proofs.Common.{◌≡◌, ◌<◌, ◌≤◌, ℕ, ◌+◌, List, [], ◌∷◌, Option, Some, None, option_map, IfSome, Result, Ok, Err, inl, inr, refl, sym, ap, ◌∙◌, arith, Schema, SchemaRef, SerdeError, Group, Held, Answer, walked, Slot, Listing, asked, as_it_is, Frame, AtHand, Hands, SettlesBy, Opened, NotOpened, OpensAt, Advanced, Closed, Halted, NextMember, NextElement, NextEntry, IsRefused, resettled, plainly, plain, untold}
 
 -- a way of showing containers, and what is told of them
 pub record Shows (frame_by : Frame → Frame) (told : Option Listing → Option Listing) (seen : Option Held → Option Held) (lift : ℕ → ℕ) : Type 0 where

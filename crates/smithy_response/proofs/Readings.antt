@@ -1,21 +1,10 @@
 -- How an element at hand is read.
-use Rattle.std.proofs.Common.{◌≡◌, ℕ, ℤ, zero, suc, ◌-◌, List, [], ◌∷◌, map, Option, Some, None, option_map, Result, Err, refl, sym, ap, subst, ◌∙◌}
-use Rattle.std.specs.Prelude.{slice_get}
-use Rattle.smithy_http.specs.Responses.{Response}
-use Rattle.smithy_schema.specs.Nodes.{Schema}
-use Rattle.smithy_serde.specs.declared.error.SerdeError.{SerdeError}
+use Rattle.smithy_response.proofs.Common.{◌≡◌, ℕ, ℤ, zero, suc, ◌-◌, List, [], ◌∷◌, map, Option, Some, None, option_map, Result, Err, refl, sym, ap, subst, ◌∙◌, slice_get, Response, Schema, SerdeError, scalar_of_element, scalar_of_date, Held, Prefixed, read_scalar, prefix_refusal, type_of, read_at, scalar_of_read, Reads, IsRefusal, OpenList, items_of, element_at, prefix_at_hand}
 use Rattle.smithy_serde.specs.declared.read_scalar.ScalarKind.{ScalarKind}
 use Rattle.smithy_serde.specs.declared.read_scalar.ReadScalar.{ReadScalar}
-use Rattle.smithy_serde.specs.HeaderReads.{scalar_of_element, scalar_of_date}
 use Rattle.smithy_serde.specs.Held as held
-use Rattle.smithy_serde.specs.Held.{Held, Prefixed}
-use Rattle.smithy_serde.specs.HeldReads.{read_scalar, prefix_refusal}
-use Rattle.smithy_serde.specs.ReadCalls.{type_of, read_at, scalar_of_read, Reads}
-use Rattle.smithy_serde.specs.Refusals.{IsRefusal}
 use Rattle.smithy_response.specs.declared.parts.ListItems.TheVariants as items
-use Rattle.smithy_response.specs.declared.parts.OpenList.{OpenList}
 use Rattle.smithy_response.specs.GivenScalars.{GivesScalar}
-use Rattle.smithy_response.specs.Transporting.{items_of, element_at, prefix_at_hand}
 
 get_map : {A B : Type 0} (f : A → B) (xs : List A) (p : ℕ) → slice_get (map f xs) p ≡ option_map f (slice_get xs p)
 get_map f [] zero = refl

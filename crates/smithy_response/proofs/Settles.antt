@@ -1,19 +1,8 @@
 -- What the reader of a response answers for refusals, and how its structure is opened.
-use Rattle.std.proofs.Common.{◌≡◌, List, [], ◌∷◌, ◌++◌, map, Option, Some, None, option_map, IfSome, Ok, Err, inl, inr, refl, sym, ap, subst, ◌∙◌, arith}
 use Rattle.std.specs.Prelude.{Bool, true, false}
-use Rattle.smithy_http.specs.Responses.{Response}
-use Rattle.smithy_schema.specs.Nodes.{Schema}
-use Rattle.smithy_serde.specs.declared.error.SerdeError.{SerdeError}
+use Rattle.smithy_response.proofs.Common.{◌≡◌, List, [], ◌∷◌, ◌++◌, map, Option, Some, None, option_map, IfSome, Ok, Err, inl, inr, refl, sym, ap, subst, ◌∙◌, arith, Response, Schema, SerdeError, Held, Answer, IsAnswer, Frame, AtHand, Opened, Hidden, Answered, BoundMember, OpenList, Transport, handed, transport_at_hand, transport_settled, member_at_hand, header_reader, header_of, IsSameResponse, IsSameTurn, untold, plain, still_handed, handed_from, structure_frame, body_frames, top_listing, at_top, at_bound, at_payload, at_body}
 use Rattle.smithy_serde.specs.declared.scalar.Group.TheVariants as group
-use Rattle.smithy_serde.specs.Held.{Held, Answer, IsAnswer}
-use Rattle.smithy_serde.specs.ReadCalls.{Frame, AtHand, Opened, Hidden, Answered}
-use Rattle.smithy_response.specs.declared.parts.BoundMember.{BoundMember}
 use Rattle.smithy_response.specs.declared.parts.BoundMember.TheVariants as bound
-use Rattle.smithy_response.specs.declared.parts.OpenList.{OpenList}
-use Rattle.smithy_response.specs.declared.transport.Transport.{Transport}
-use Rattle.smithy_response.specs.Handed.{handed}
-use Rattle.smithy_response.specs.Transporting.{transport_at_hand, transport_settled, member_at_hand, header_reader, header_of, IsSameResponse, IsSameTurn}
-use Rattle.smithy_response.specs.Frames.{untold, plain, still_handed, handed_from, structure_frame, body_frames, top_listing, at_top, at_bound, at_payload, at_body}
 use Rattle.smithy_response.proofs.StageSteps.{same_bound}
 
 -- a refusal is answered as it is

@@ -1,18 +1,8 @@
 -- How the body's reader and the response's own half are shown in each stage.
-use Rattle.std.proofs.Common.{◌≡◌, ◌≤◌, ◌≢◌, ℕ, ◌+◌, List, [], ◌∷◌, ◌++◌, map, length, Option, Some, None, Result, Err, inr, refl, sym, ap, ◌∙◌, arith}
 use Rattle.std.specs.Prelude.{Bool, true}
-use Rattle.smithy_schema.specs.Nodes.{Schema}
-use Rattle.smithy_serde.specs.declared.error.SerdeError.{SerdeError}
+use Rattle.smithy_response.proofs.Common.{◌≡◌, ◌≤◌, ◌≢◌, ℕ, ◌+◌, List, [], ◌∷◌, ◌++◌, map, length, Option, Some, None, Result, Err, inr, refl, sym, ap, ◌∙◌, arith, Schema, SerdeError, Group, Held, Scalar, Slot, as_it_is, Frame, AtHand, IsIn, Reads, Opened, Advanced, Closed, Transport, transport_at_hand, transport_settled, IsSameTurn, plain, untold, levels_under, handed_from, still_handed, body_left, body_size, structure_at, structure_frame, body_frames, at_top, at_bound, at_payload, at_body, top_listing, top_size}
 use Rattle.smithy_serde.specs.declared.read_scalar.ScalarKind.{ScalarKind}
-use Rattle.smithy_serde.specs.declared.scalar.Group.{Group}
 use Rattle.smithy_serde.specs.declared.scalar.Group.TheVariants as group
-use Rattle.smithy_serde.specs.Held.{Held}
-use Rattle.smithy_serde.specs.Values.{Scalar}
-use Rattle.smithy_serde.specs.Listings.{Slot, as_it_is}
-use Rattle.smithy_serde.specs.ReadCalls.{Frame, AtHand, IsIn, Reads, Opened, Advanced, Closed}
-use Rattle.smithy_response.specs.declared.transport.Transport.{Transport}
-use Rattle.smithy_response.specs.Transporting.{transport_at_hand, transport_settled, IsSameTurn}
-use Rattle.smithy_response.specs.Frames.{plain, untold, levels_under, handed_from, still_handed, body_left, body_size, structure_at, structure_frame, body_frames, at_top, at_bound, at_payload, at_body, top_listing, top_size}
 use Rattle.smithy_response.proofs.Presenting.{untold_shows, same_shows, plain_shows, shown_opened, shown_advanced, shown_closed, shown_halted, refused_resettled, Steps, Openings}
 
 -- the innermost of the containers that are open

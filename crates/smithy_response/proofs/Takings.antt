@@ -1,13 +1,7 @@
 -- Which bound member comes to hand.
-use Rattle.std.proofs.Common.{◌≡◌, false, not, ◌&&◌, List, ◌∷◌, ℕ, Some, None, refl, sym, ap, subst, arith, if◌then◌else◌}
-use Rattle.smithy_http.specs.Responses.{Response}
-use Rattle.smithy_schema.specs.Nodes.{Schema, name_of}
+use Rattle.smithy_response.proofs.Common.{◌≡◌, false, not, ◌&&◌, List, ◌∷◌, ℕ, Some, None, refl, sym, ap, subst, arith, if◌then◌else◌, Response, Schema, name_of, values_named, in_header, in_prefix, passed_over, handed_out, source_of, header_route, is_plain_text, are_empty, settled_at, IsTaken, IsTakenAt}
 use Rattle.smithy_serde.specs.Held as held
 use Rattle.smithy_response.specs.declared.parts.BoundMember.TheVariants as bound
-use Rattle.smithy_response.specs.PrefixedHeaders.{values_named}
-use Rattle.smithy_response.specs.Routes.{in_header, in_prefix, passed_over, handed_out, source_of, header_route, is_plain_text, are_empty}
-use Rattle.smithy_response.specs.Settling.{settled_at}
-use Rattle.smithy_response.specs.Transporting.{IsTaken, IsTakenAt}
 
 pub source_prefix : (m : Schema) (prefix : List ℕ) → m.node.traits.http_header ≡ None → m.node.traits.http_prefix_headers ≡ Some prefix → source_of m ≡ in_prefix prefix
 source_prefix m prefix none some = rw (none, some) refl

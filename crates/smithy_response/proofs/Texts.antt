@@ -1,20 +1,13 @@
 -- Texts of headers.
-use Rattle.std.proofs.Common.{◌≡◌, ℕ, Bool, true, false, List, codes, drop, Option, Some, None, MatchOption, Ok, Err, refl, sym, ap, subst, ◌∙◌}
+use Rattle.smithy_response.proofs.Common.{◌≡◌, ℕ, Bool, true, false, List, codes, drop, Option, Some, None, MatchOption, Ok, Err, refl, sym, ap, subst, ◌∙◌, nat_eq, starts_with, option_copied, IsUtf8, is_utf8, IsCharBoundary, InvalidInput, decoded_text, behind_lower}
 use Rattle.std.specs.Borrow.{Bor}
-use Rattle.std.specs.Prelude.{nat_eq}
-use Rattle.std.specs.List.{starts_with}
-use Rattle.std.specs.Option.{option_copied}
 use Rattle.std.specs.Result.{result_ok}
-use Rattle.std.specs.Str.{IsUtf8, is_utf8, IsCharBoundary}
 use Rattle.std.proofs.lemmas.Str.{is_utf8-from_IsUtf8, IsUtf8-from_is_utf8}
 use Rattle.std.proofs.lemmas.Str.Pattern.{starts_text}
 use Rattle.std.specs.Str.Pattern.{FindsTextPrefix, StripsPrefix}
 use Rattle.base64.specs.GeneralPurpose.{decoded_of, decode_of}
 use Rattle.base64.specs.Engines.{standard}
-use Rattle.smithy_serde.specs.declared.error.SerdeError.TheVariants.{InvalidInput}
-use Rattle.smithy_serde.specs.HeaderReads.{decoded_text}
 use Rattle.smithy_serde.specs.Values as value
-use Rattle.smithy_response.specs.PrefixedHeaders.{behind_lower}
 
 -- bytes that are no text
 pub not_utf8 : (value : List ℕ) → (IsUtf8 value → ⊥) → is_utf8 value ≡ false

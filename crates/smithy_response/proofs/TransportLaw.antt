@@ -1,20 +1,8 @@
 -- The transport wins.
-use Rattle.std.proofs.Common.{◌≡◌, ℕ, Bool, true, false, not, List, [], ◌∷◌, map, filter, flat_map, Option, Some, None, refl, sym, ap, subst, ◌∙◌, ◌||◌, ◌&&◌, if◌then◌else◌}
-use Rattle.std.specs.List.{list_any}
-use Rattle.std.specs.Option.{option_map_or}
+use Rattle.smithy_response.proofs.Common.{◌≡◌, ℕ, Bool, true, false, not, List, [], ◌∷◌, map, filter, flat_map, Option, Some, None, refl, sym, ap, subst, ◌∙◌, ◌||◌, ◌&&◌, if◌then◌else◌, list_any, option_map_or, Document, Members, list_of_members, Response, Schema, member_named, members_of, is_response_bound, Held, fields, known, Slot, at_member, contents, Ended, nothing, before_rest, with_route, routed, is_unbound, only_unbound, reads_body, body_part, handed, Route, passed_over, handed_out, handed_body, refused, route, source_at, route_at, header_route, is_plain_text, are_empty, values_named, settled}
 use Rattle.smithy_types.specs.Documents as doc
-use Rattle.smithy_types.specs.Documents.{Document, Members, list_of_members}
-use Rattle.smithy_http.specs.Responses.{Response}
-use Rattle.smithy_schema.specs.Nodes.{Schema, member_named, members_of, is_response_bound}
 use Rattle.smithy_serde.specs.declared.scalar.Group.TheVariants as group
 use Rattle.smithy_serde.specs.Held as held
-use Rattle.smithy_serde.specs.Held.{Held}
-use Rattle.smithy_serde.specs.HeldReads.{fields, known}
-use Rattle.smithy_serde.specs.Listings.{Slot, at_member, contents}
-use Rattle.smithy_response.specs.Handed.{Ended, nothing, before_rest, with_route, routed, is_unbound, only_unbound, reads_body, body_part, handed}
-use Rattle.smithy_response.specs.Routes.{Route, passed_over, handed_out, handed_body, refused, route, source_at, route_at, header_route, is_plain_text, are_empty}
-use Rattle.smithy_response.specs.PrefixedHeaders.{values_named}
-use Rattle.smithy_response.specs.Settling.{settled}
 use Rattle.smithy_response.specs.TransportWins.{is_bound_field, without_bound_fields, without_bound, TransportWins}
 
 -- what the body lists of its fields, but for bound members

@@ -1,26 +1,10 @@
 -- How the members of a response come to hand, one after the other.
-use Rattle.std.proofs.Common.{◌≡◌, ◌<◌, ◌≤◌, ℕ, ◌+◌, ◌-◌, List, [], ◌∷◌, ◌++◌, map, filter, length, Option, Some, None, option_map, IfSome, Result, Ok, Err, inl, inr, refl, sym, ap, subst, ◌∙◌, arith}
 use Rattle.std.specs.Prelude.{Bool, true, false, ◌||◌}
+use Rattle.smithy_response.proofs.Common.{◌≡◌, ◌<◌, ◌≤◌, ℕ, ◌+◌, ◌-◌, List, [], ◌∷◌, ◌++◌, map, filter, length, Option, Some, None, option_map, IfSome, Result, Ok, Err, inl, inr, refl, sym, ap, subst, ◌∙◌, arith, Schema, is_response_bound, SchemaRef, SerdeError, Held, Answer, Slot, at_member, Listing, contents, Frame, AtHand, IsIn, Hands, SettlesBy, Opened, NotOpened, Advanced, MemberAdvanced, Closed, Halted, NextMember, IsRefused, IsRefusedAt, Response, BoundMember, OpenList, prefixed_in, Transport, Ended, nothing, before_rest, is_unbound, reads_body, body_part, only_unbound, source_at, in_body, settled, transport_at_hand, transport_settled, member_at_hand, header_reader, header_of, told_reader, told_frame, entries_left, still_routed, IsSameResponse, IsLeft, HandsMember, HandsBody, HandsNoMember, RefusesMember, resettled, unbound_items, unbound_frame, without_copies, untold, plain, levels_under, still_handed, body_left, structure_frame, body_frame, body_frames, at_top, at_bound, at_structure, at_payload, at_body}
 use Rattle.std.specs.Option.{is_some}
-use Rattle.smithy_schema.specs.Nodes.{Schema, is_response_bound}
-use Rattle.smithy_schema.specs.declared.schema_ref.SchemaRef.{SchemaRef}
-use Rattle.smithy_serde.specs.declared.error.SerdeError.{SerdeError}
 use Rattle.smithy_serde.specs.declared.scalar.Group.TheVariants as group
 use Rattle.smithy_serde.specs.Held as held
-use Rattle.smithy_serde.specs.Held.{Held, Answer}
-use Rattle.smithy_serde.specs.Listings.{Slot, at_member, Listing, contents}
-use Rattle.smithy_serde.specs.ReadCalls.{Frame, AtHand, IsIn, Hands, SettlesBy, Opened, NotOpened, Advanced, MemberAdvanced, Closed, Halted, NextMember, IsRefused, IsRefusedAt}
-use Rattle.smithy_http.specs.Responses.{Response}
-use Rattle.smithy_response.specs.declared.parts.BoundMember.{BoundMember}
 use Rattle.smithy_response.specs.declared.parts.BoundMember.TheVariants as bound
-use Rattle.smithy_response.specs.declared.parts.OpenList.{OpenList}
-use Rattle.smithy_response.specs.PrefixedHeaders.{prefixed_in}
-use Rattle.smithy_response.specs.declared.transport.Transport.{Transport}
-use Rattle.smithy_response.specs.Handed.{Ended, nothing, before_rest, is_unbound, reads_body, body_part, only_unbound}
-use Rattle.smithy_response.specs.Routes.{source_at, in_body}
-use Rattle.smithy_response.specs.Settling.{settled}
-use Rattle.smithy_response.specs.Transporting.{transport_at_hand, transport_settled, member_at_hand, header_reader, header_of, told_reader, told_frame, entries_left, still_routed, IsSameResponse, IsLeft, HandsMember, HandsBody, HandsNoMember, RefusesMember}
-use Rattle.smithy_response.specs.Frames.{resettled, unbound_items, unbound_frame, without_copies, untold, plain, levels_under, still_handed, body_left, structure_frame, body_frame, body_frames, at_top, at_bound, at_structure, at_payload, at_body}
 use Rattle.smithy_response.proofs.Copies.{Keeps, keeps_all, carried}
 use Rattle.smithy_response.proofs.Presenting.{hands_resettled, none_resettled, ends_resettled, refused_resettled}
 

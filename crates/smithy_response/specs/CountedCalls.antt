@@ -1,15 +1,8 @@
 -- The calls of a reader whose open containers are counted: those of the reader.
 use Rattle.std.specs.Prelude.{Option, Result}
-use Rattle.smithy_schema.specs.Nodes.{Schema}
-use Rattle.smithy_schema.specs.declared.schema_ref.SchemaRef.{SchemaRef}
-use Rattle.smithy_serde.specs.declared.error.SerdeError.{SerdeError}
-use Rattle.smithy_serde.specs.declared.read_scalar.ScalarKind.{ScalarKind}
-use Rattle.smithy_serde.specs.declared.read_scalar.ReadScalar.{ReadScalar}
-use Rattle.smithy_serde.specs.declared.scalar.Group.{Group}
-use Rattle.smithy_serde.specs.Held.{Answer}
-use Rattle.smithy_serde.specs.ReadCalls.{AtHand, scalar_of_read, Reads, OpensAt, NextMember}
-use Rattle.smithy_response.specs.Frames.{without_copies}
-use Rattle.smithy_response.specs.Stages.{Counting}
+use Rattle.smithy_response.specs.Words.{Schema, SchemaRef, SerdeError, ScalarKind, ReadScalar, Group, Answer, AtHand, scalar_of_read, Reads, OpensAt, NextMember}
+use Rattle.smithy_response.specs.views.Frames.{without_copies}
+use Rattle.smithy_response.specs.views.Stages.{Counting}
 
 abbrev pub CountedReads : {D : Type 0} → (D → AtHand) → ScalarKind → Schema → Counting D → Counting D → Result ReadScalar SerdeError → Type 0
 CountedReads at k node old new result = Reads scalar_of_read k node (at old.reader) (at new.reader) result

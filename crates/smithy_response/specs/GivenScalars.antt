@@ -1,25 +1,17 @@
 -- How a scalar is read from a part of a response.
 use Rattle.std.specs.Prelude.{codes, ℕ, ℤ, IsTrue, List, ◌++◌, Option, Some, option_map, Result, IfOk}
+use Rattle.smithy_response.specs.Words.{ShapeType, SerdeError, InvalidInput, ScalarKind, ReadScalar, Schema, parse_refusal, one_token, item_of_text, text_of_header, time_of_header, scalar_of_header, elements_of_header, Held, IsAnswer, scalar_of_read, is_of_kind, type_of, read_at, Gives}
 use Rattle.smithy_types.specs.Results.{then_give, then_try}
-use Rattle.smithy_ids.specs.declared.shape_type.ShapeType.{ShapeType}
 use Rattle.smithy_ids.specs.declared.shape_type.ShapeType.TheVariants as kind
 use Rattle.smithy_http.specs.declared.error.ListFault.TheVariants as fault
 use Rattle.smithy_http.specs.declared.error.HttpError.TheVariants as error
-use Rattle.smithy_serde.specs.declared.error.SerdeError.{SerdeError}
-use Rattle.smithy_serde.specs.declared.error.SerdeError.TheVariants.{InvalidInput}
-use Rattle.smithy_serde.specs.declared.read_scalar.ScalarKind.{ScalarKind}
-use Rattle.smithy_serde.specs.declared.read_scalar.ReadScalar.{ReadScalar}
-use Rattle.smithy_schema.specs.Nodes.{Schema}
-use Rattle.smithy_serde.specs.HeaderReads.{parse_refusal, one_token, item_of_text, text_of_header, time_of_header, scalar_of_header, elements_of_header}
 use Rattle.smithy_serde.specs.Held as held
-use Rattle.smithy_serde.specs.Held.{Held, IsAnswer}
-use Rattle.smithy_serde.specs.ReadCalls.{scalar_of_read, is_of_kind, type_of, read_at, Gives}
 use Rattle.smithy_serde.specs.Requests.{requested}
 use Rattle.smithy_serde.specs.Values as value
 use Rattle.smithy_serde.specs.Values.{Scalar}
 use Rattle.smithy_response.specs.declared.parts.ListItems.{ListItems}
 use Rattle.smithy_response.specs.PrefixedHeaders.{values_named}
-use Rattle.smithy_response.specs.Transporting.{items_of}
+use Rattle.smithy_response.specs.views.Transporting.{items_of}
 
 -- a scalar of the kind is given: that one, where it is told
 pub record GivesScalar (k : ScalarKind) (expected : Option (Result Scalar SerdeError)) (result : Result ReadScalar SerdeError) : Type 0 where

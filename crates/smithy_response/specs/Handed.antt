@@ -1,14 +1,7 @@
 -- The members that a response hands out (Smithy, HTTP protocol bindings).
 use Rattle.std.specs.Prelude.{Bool, true, not, ◌&&◌, List, [], ◌∷◌, filter, Option, Some, None, if◌then◌else◌}
-use Rattle.std.specs.List.{list_any}
-use Rattle.std.specs.Option.{option_map_or}
-use Rattle.smithy_http.specs.declared.non_utf8.NonUtf8HeaderHandling.{NonUtf8HeaderHandling}
-use Rattle.smithy_http.specs.Responses.{Response}
-use Rattle.smithy_schema.specs.Nodes.{Schema, members_of, is_response_bound}
-use Rattle.smithy_serde.specs.declared.error.SerdeError.{SerdeError}
+use Rattle.smithy_response.specs.Words.{list_any, option_map_or, NonUtf8HeaderHandling, Response, Schema, members_of, is_response_bound, SerdeError, Held, is_empty_text, Slot, at_member, Listing, contents}
 use Rattle.smithy_serde.specs.declared.scalar.Group.TheVariants as group
-use Rattle.smithy_serde.specs.Held.{Held, is_empty_text}
-use Rattle.smithy_serde.specs.Listings.{Slot, at_member, Listing, contents}
 use Rattle.smithy_response.specs.Routes.{Route, passed_over, handed_out, handed_body, refused, route}
 use Rattle.smithy_response.specs.Settling.{settled}
 

@@ -1,10 +1,8 @@
-pub mod BodyCalls
+pub mod Words
 pub mod CountedCalls
-pub mod Frames
 pub mod GivenScalars
 pub mod Handed
 pub mod KnownKeys
-pub mod MembersRead
 pub mod Openings
 pub mod PrefixedHeaders
 pub mod ProtocolReaders
@@ -13,7 +11,11 @@ pub mod ResponseValue
 pub mod Routes
 pub mod Settling
 pub mod Sought
-pub mod Stages
 pub mod TransportWins
-pub mod Transporting
 pub mod WholeResponses
+pub mod views
+-- what shows the code, under the paths of the other modules too
+pub use Rattle.smithy_response.specs.views.BodyCalls
+pub use Rattle.smithy_response.specs.views.Frames
+pub use Rattle.smithy_response.specs.views.Stages
+pub use Rattle.smithy_response.specs.views.Transporting

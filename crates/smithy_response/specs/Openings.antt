@@ -1,21 +1,13 @@
 -- How a header and the headers behind a prefix are opened.
 use Rattle.std.specs.Prelude.{◌≡◌, ◌+◌, ◌++◌, ◌<◌, ◌≤◌, ℕ, Bool, List, length, Option, Some, None, Result, Ok, Err, MatchBool}
-use Rattle.smithy_ids.specs.declared.shape_type.ShapeType.{ShapeType}
+use Rattle.smithy_response.specs.Words.{ShapeType, Response, Schema, SerdeError, Group, Prefixed, Answer, ScalarKind, ReadScalar, Frame, scalar_of_read, Reads, Opened, NotOpened, OpensAt, NextElement, NextEntry}
 use Rattle.smithy_ids.specs.declared.shape_type.ShapeType.TheVariants as kind
-use Rattle.smithy_http.specs.Responses.{Response}
-use Rattle.smithy_schema.specs.Nodes.{Schema}
-use Rattle.smithy_serde.specs.declared.error.SerdeError.{SerdeError}
-use Rattle.smithy_serde.specs.declared.scalar.Group.{Group}
 use Rattle.smithy_serde.specs.declared.scalar.Group.TheVariants as group
-use Rattle.smithy_serde.specs.Held.{Prefixed, Answer}
-use Rattle.smithy_serde.specs.declared.read_scalar.ScalarKind.{ScalarKind}
-use Rattle.smithy_serde.specs.declared.read_scalar.ReadScalar.{ReadScalar}
-use Rattle.smithy_serde.specs.ReadCalls.{Frame, scalar_of_read, Reads, Opened, NotOpened, OpensAt, NextElement, NextEntry}
 use Rattle.smithy_response.specs.declared.parts.OpenMap.{OpenMap}
 use Rattle.smithy_response.specs.declared.parts.OpenList.{OpenList}
 use Rattle.smithy_response.specs.declared.parts.HeaderAtHand.{HeaderAtHand}
 use Rattle.smithy_response.specs.PrefixedHeaders.{prefixed_in}
-use Rattle.smithy_response.specs.Transporting.{items_of, header_of, header_reader, header_at_hand, prefix_at_hand}
+use Rattle.smithy_response.specs.views.Transporting.{items_of, header_of, header_reader, header_at_hand, prefix_at_hand}
 
 -- a header, or the element of it at hand, is read as a scalar, whatever is open around it
 abbrev pub ReadsHeader : Response → HeaderAtHand → ScalarKind → Schema → Result ReadScalar SerdeError → Type 0

@@ -1,10 +1,8 @@
 -- The headers behind a prefix (Smithy, HTTP protocol bindings: httpPrefixHeaders).
 use Rattle.std.specs.Prelude.{ℕ, nat_eq, List, [], ◌∷◌, ◌++◌, map, filter_map, length, drop, Option, Some, None, if◌then◌else◌}
-use Rattle.std.specs.List.{list_any, starts_with}
-use Rattle.std.specs.Str.{str_to_ascii_lowercase}
+use Rattle.smithy_response.specs.Words.{list_any, starts_with, str_to_ascii_lowercase, Prefixed}
 use Rattle.smithy_types.specs.Texts.{same_text}
 use Rattle.smithy_http.specs.Facts.{values_at}
-use Rattle.smithy_serde.specs.Held.{Prefixed}
 
 -- the values of a name, without ASCII case
 abbrev pub values_named : List ℕ → List (List ℕ × List ℕ) → List (List ℕ)

@@ -1,15 +1,9 @@
 -- Which readers a protocol gives of a response (Smithy, HTTP protocol bindings).
 use Rattle.std.specs.Prelude.{ℕ, Bool, true, false, not, List, [], Option, unwrap_or, ◌⊎◌}
+use Rattle.smithy_response.specs.Words.{Response, NonUtf8HeaderHandling, Schema, Held, AtHand, Begins, Ghosts}
 use Rattle.smithy_ids.specs.declared.shape_type.ShapeType.TheVariants as kind
-use Rattle.smithy_http.specs.Responses.{Response}
-use Rattle.smithy_http.specs.declared.non_utf8.NonUtf8HeaderHandling.{NonUtf8HeaderHandling}
-use Rattle.smithy_schema.specs.Nodes.{Schema}
 use Rattle.smithy_schema.specs.PreludeNodes.{prelude_node}
-use Rattle.smithy_serde.specs.Held.{Held}
-use Rattle.smithy_serde.specs.ReadCalls.{AtHand, Begins}
-use Rattle.smithy_serde.specs.declared.deserializer.ShapeDeserializer.{Ghosts}
-use Rattle.smithy_binding.specs.declared.http_binding_protocol.HttpBindingProtocol.{HttpBindingProtocol}
-use Rattle.smithy_binding.specs.Protocols.{codec_of}
+use Rattle.smithy_binding.specs.Protocols.{Parts}
 use Rattle.smithy_response.specs.declared.response_reader.ResponseReader.{ResponseReader}
 use Rattle.smithy_response.specs.ResponseReaders.{is_body_only, IsReader}
 
@@ -32,13 +26,13 @@ pub record IsReaderOver {D : Type 0} {is_read : Ghosts D} (at : D → AtHand) (h
   pub reads : IsReader at response is_error policy is_whole body reader
 
 -- that of an output, by the codec of a protocol
-abbrev pub IsOfOutput : {C D : Type 0} {is_read : Ghosts D} → (D → AtHand) → (C → List ℕ → Option Held) → HttpBindingProtocol C → Response → Schema → NonUtf8HeaderHandling → ResponseReader D is_read → Type 0
+abbrev pub IsOfOutput : {C D : Type 0} {is_read : Ghosts D} → (D → AtHand) → (C → List ℕ → Option Held) → Parts C → Response → Schema → NonUtf8HeaderHandling → ResponseReader D is_read → Type 0
 IsOfOutput at holds p response schema policy reader =
-    IsReaderOver at (holds (codec_of p)) response false policy (not (is_body_only schema)) reader
+    IsReaderOver at (holds p.codec) response false policy (not (is_body_only schema)) reader
 
 -- that of a modelled error
-abbrev pub IsOfError : {C D : Type 0} {is_read : Ghosts D} → (D → AtHand) → (C → List ℕ → Option Held) → HttpBindingProtocol C → Response → NonUtf8HeaderHandling → ResponseReader D is_read → Type 0
-IsOfError at holds p response policy reader = IsReaderOver at (holds (codec_of p)) response true policy true reader
+abbrev pub IsOfError : {C D : Type 0} {is_read : Ghosts D} → (D → AtHand) → (C → List ℕ → Option Held) → Parts C → Response → NonUtf8HeaderHandling → ResponseReader D is_read → Type 0
+IsOfError at holds p response policy reader = IsReaderOver at (holds p.codec) response true policy true reader
 
 -- a reader by the prelude's document node is one of a modelled error
 abbrev pub ReadsByDefault : {P R : Type 0} → (P → Response → Schema → NonUtf8HeaderHandling → R → Type 0) → (P → Response → NonUtf8HeaderHandling → R → Type 0) → Type 0
@@ -46,6 +40,6 @@ ReadsByDefault {P} {R} reads reads_error =
     (p : P) (response : Response) (policy : NonUtf8HeaderHandling) (r : R) → reads p response any_shape policy r → reads_error p response policy r
 
 -- that of a modelled error, or of an output by the prelude's document node
-abbrev pub IsOfErrorOrDefault : {C D : Type 0} {is_read : Ghosts D} → (D → AtHand) → (C → List ℕ → Option Held) → HttpBindingProtocol C → Response → NonUtf8HeaderHandling → ResponseReader D is_read → Type 0
+abbrev pub IsOfErrorOrDefault : {C D : Type 0} {is_read : Ghosts D} → (D → AtHand) → (C → List ℕ → Option Held) → Parts C → Response → NonUtf8HeaderHandling → ResponseReader D is_read → Type 0
 IsOfErrorOrDefault at holds p response policy reader =
     IsOfError at holds p response policy reader ⊎ IsOfOutput at holds p response any_shape policy reader

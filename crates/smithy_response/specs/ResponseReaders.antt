@@ -1,19 +1,12 @@
 -- What is seen of the reader of a response, and which reader a response has.
 use Rattle.std.specs.Prelude.{◌≡◌, Bool, true, false, not, ◌&&◌, [], None, option_map}
-use Rattle.std.specs.List.{list_any}
-use Rattle.smithy_http.specs.Responses.{Response}
-use Rattle.smithy_http.specs.declared.non_utf8.NonUtf8HeaderHandling.{NonUtf8HeaderHandling}
-use Rattle.smithy_schema.specs.Nodes.{Schema, members_of, is_response_bound}
-use Rattle.smithy_schema.specs.References.{schema_of}
-use Rattle.smithy_schema.specs.declared.schema_ref.SchemaRef.{SchemaRef}
+use Rattle.smithy_response.specs.Words.{list_any, Response, NonUtf8HeaderHandling, Schema, members_of, is_response_bound, schema_of, SchemaRef, AtHand, Ghosts}
 use Rattle.smithy_serde.specs.declared.scalar.Group.TheVariants as group
-use Rattle.smithy_serde.specs.ReadCalls.{AtHand}
-use Rattle.smithy_serde.specs.declared.deserializer.ShapeDeserializer.{Ghosts}
 use Rattle.smithy_response.specs.declared.response_reader.ResponseReader.{ResponseReader}
 use Rattle.smithy_response.specs.declared.response_reader.ResponseReader.TheVariants.{BodyOnly, Composite}
 use Rattle.smithy_response.specs.declared.composite.CompositeReader.{CompositeReader}
 use Rattle.smithy_response.specs.declared.stage.Stage.TheVariants as stage
-use Rattle.smithy_response.specs.BodyCalls.{seen}
+use Rattle.smithy_response.specs.views.BodyCalls.{seen}
 use Rattle.smithy_response.specs.Handed.{has_unbound, handed}
 
 -- the schema has members, and none is bound to another part of the response than the body
@@ -51,3 +44,7 @@ IsReader at response is_error policy true body (BodyOnly b) = ⊥
 IsReader at response is_error policy true body (Composite c) = BeginsWhole at response is_error policy body c
 IsReader at response is_error policy false body (BodyOnly b) = b ≡ body
 IsReader at response is_error policy false body (Composite c) = ⊥
+
+-- the one that an output or a modelled error has by its schema
+abbrev pub IsReaderOf : {D : Type 0} {is_read : Ghosts D} → (D → AtHand) → SchemaRef → Response → Bool → NonUtf8HeaderHandling → D → ResponseReader D is_read → Type 0
+IsReaderOf at node response is_error policy body reader = IsReader at response is_error policy (chosen_whole (schema_of node) is_error) body reader

@@ -1,15 +1,9 @@
 -- What a response has for one bound member (Smithy, HTTP protocol bindings: httpHeader, httpPrefixHeaders, httpResponseCode, httpPayload).
 use Rattle.std.specs.Prelude.{ℕ, Bool, true, false, not, ◌&&◌, ◌||◌, codes, List, [], ◌∷◌, ◌++◌, Option, Some, None, is_none, if◌then◌else◌}
-use Rattle.std.specs.List.{list_all}
-use Rattle.smithy_ids.specs.declared.shape_type.ShapeType.{ShapeType}
+use Rattle.smithy_response.specs.Words.{list_all, ShapeType, Response, Schema, name_of, SerdeError, InvalidInput, Held, is_empty_text}
 use Rattle.smithy_ids.specs.declared.shape_type.ShapeType.TheVariants as kind
 use Rattle.smithy_ids.specs.Kinds.{same_kind}
-use Rattle.smithy_http.specs.Responses.{Response}
-use Rattle.smithy_schema.specs.Nodes.{Schema, name_of}
-use Rattle.smithy_serde.specs.declared.error.SerdeError.{SerdeError}
-use Rattle.smithy_serde.specs.declared.error.SerdeError.TheVariants.{InvalidInput}
 use Rattle.smithy_serde.specs.Held as held
-use Rattle.smithy_serde.specs.Held.{Held, is_empty_text}
 use Rattle.smithy_response.specs.PrefixedHeaders.{values_named, prefixed_in}
 
 -- where a member of a response stands: the first of its bindings

@@ -1,16 +1,8 @@
 -- What becomes of a consumer's refusal at a member of a response.
 use Rattle.std.specs.Prelude.{ℕ, Bool, true, false, not, ◌&&◌, codes, List, ◌++◌, is_some, Ok, Err, if◌then◌else◌}
-use Rattle.std.specs.List.{list_any}
-use Rattle.std.specs.Str.{is_utf8, str_to_ascii_lowercase}
-use Rattle.smithy_http.specs.declared.non_utf8.NonUtf8HeaderHandling.{NonUtf8HeaderHandling}
+use Rattle.smithy_response.specs.Words.{list_any, is_utf8, str_to_ascii_lowercase, NonUtf8HeaderHandling, Response, name_of, SerdeError, InvalidInput, OutOfMemory, Answer, Slot, at_member}
 use Rattle.smithy_http.specs.declared.non_utf8.NonUtf8HeaderHandling.TheVariants.{Reject, Skip}
-use Rattle.smithy_http.specs.Responses.{Response}
-use Rattle.smithy_schema.specs.Nodes.{name_of}
-use Rattle.smithy_serde.specs.declared.error.SerdeError.{SerdeError}
-use Rattle.smithy_serde.specs.declared.error.SerdeError.TheVariants.{InvalidInput, OutOfMemory}
 use Rattle.smithy_serde.specs.Refusals.{refusal_text}
-use Rattle.smithy_serde.specs.Held.{Answer}
-use Rattle.smithy_serde.specs.Listings.{Slot, at_member}
 use Rattle.smithy_response.specs.PrefixedHeaders.{values_named, behind_lower}
 use Rattle.smithy_response.specs.Routes.{Source, in_header, in_prefix, source_of}
 

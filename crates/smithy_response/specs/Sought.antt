@@ -1,6 +1,6 @@
 -- Which member is looked for.
 use Rattle.std.specs.Prelude.{Bool, not}
-use Rattle.smithy_schema.specs.Nodes.{Schema, is_response_bound}
+use Rattle.smithy_response.specs.Words.{Schema, is_response_bound}
 use Rattle.smithy_response.specs.declared.member_search.Sought.{Sought}
 use Rattle.smithy_response.specs.declared.member_search.Sought.TheVariants as sought
 

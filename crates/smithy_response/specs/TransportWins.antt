@@ -1,11 +1,8 @@
 -- The transport wins: what a body says of a bound member is not heard (Smithy, HTTP protocol bindings).
 use Rattle.std.specs.Prelude.{◌≡◌, ℕ, List, Bool, false, if◌then◌else◌}
-use Rattle.std.specs.Option.{option_map_or}
+use Rattle.smithy_response.specs.Words.{option_map_or, NonUtf8HeaderHandling, Response, Schema, member_named, is_response_bound}
 use Rattle.smithy_types.specs.Documents as doc
 use Rattle.smithy_types.specs.Documents.{Document, Members}
-use Rattle.smithy_http.specs.declared.non_utf8.NonUtf8HeaderHandling.{NonUtf8HeaderHandling}
-use Rattle.smithy_http.specs.Responses.{Response}
-use Rattle.smithy_schema.specs.Nodes.{Schema, member_named, is_response_bound}
 use Rattle.smithy_serde.specs.Held as held
 use Rattle.smithy_response.specs.Handed.{has_payload, handed}
 

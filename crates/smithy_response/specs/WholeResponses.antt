@@ -1,16 +1,9 @@
 -- What a whole response is read as.
 use Rattle.std.specs.Prelude.{◌≡◌, ℕ, Bool, Option, Some, option_map, Result}
-use Rattle.smithy_http.specs.declared.non_utf8.NonUtf8HeaderHandling.{NonUtf8HeaderHandling}
-use Rattle.smithy_http.specs.Responses.{Response}
-use Rattle.smithy_schema.specs.Nodes.{Table, Schema, at_place}
-use Rattle.smithy_serde.specs.declared.error.SerdeError.{SerdeError}
+use Rattle.smithy_response.specs.Words.{NonUtf8HeaderHandling, Response, Table, Schema, at_place, schema_of, SchemaRef, SerdeError, Ghosts, Held, Answer, Slot, Listing, AtHand, Gives}
 use Rattle.smithy_serde.specs.declared.struct_value.StructValue.{StructValue}
-use Rattle.smithy_serde.specs.declared.deserializer.ShapeDeserializer.{Ghosts}
 use Rattle.smithy_serde.specs.declared.scalar.Group.TheVariants as group
-use Rattle.smithy_serde.specs.Handing.{AllHanded}
-use Rattle.smithy_serde.specs.Held.{Held, Answer}
-use Rattle.smithy_serde.specs.Listings.{Slot, Listing}
-use Rattle.smithy_serde.specs.ReadCalls.{AtHand, Gives}
+use Rattle.smithy_serde.specs.Handing.{AllHanded, at_members}
 use Rattle.smithy_serde.specs.ValueReading.{structure_of}
 use Rattle.smithy_response.specs.declared.response_reader.ResponseReader.{ResponseReader}
 use Rattle.smithy_response.specs.Handed.{handed}
@@ -26,6 +19,11 @@ GivesResponse table place response is_error policy body result =
 -- what the response hands out, where the body is told
 abbrev pub handed_with : Schema → Response → Bool → NonUtf8HeaderHandling → Option Held → Option Listing
 handed_with schema response is_error policy body = option_map (λ h. handed schema response h is_error policy) body
+
+-- what the response hands out goes to a consumer
+abbrev pub Hands : {S : Type 0} → (S → Schema → Held → S → Answer → Type 0) → SchemaRef → Response → Bool → NonUtf8HeaderHandling → AtHand → S → S → Answer → Type 0
+Hands takes node response is_error policy body old new answer =
+    AllHanded (at_members takes) group.Structure (handed_with (schema_of node) response is_error policy body.held) old new answer
 
 -- What a reader of the response hands a consumer by a schema is what the response hands out, also where it is the body's alone.
 abbrev pub HandsResponse : {D S : Type 0} {is_read : Ghosts D} → (D → AtHand) → (S → Slot → Held → S → Answer → Type 0) → ResponseReader D is_read → Type 0

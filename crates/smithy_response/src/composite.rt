@@ -1,6 +1,6 @@
 // The reader of a whole response.
 ghost use Rattle.std.specs.Prelude.{IsTrue};
-ghost use Rattle.smithy_response.specs.Stages.{fits_depth};
+ghost use Rattle.smithy_response.specs.views.Stages.{fits_depth};
 
 use crate::counted::Counted;
 use crate::stage::Stage;
@@ -43,8 +43,8 @@ impl<D: ShapeDeserializer> CompositeReader<D> {
 impl<D: ShapeDeserializer> ShapeDeserializer for CompositeReader<D> {
     ghost use Rattle.smithy_schema.specs.References.{schema_of as node};
     ghost use Rattle.smithy_serde.specs.declared.scalar.Group.TheVariants as group;
-    ghost use Rattle.smithy_serde.specs.ReadCalls.{IsIn, scalar_of_read, Reads, Skips, OpensAt, NextMember, NextElement, NextEntry, Settles, TellsNull};
-    ghost use Rattle.smithy_response.specs.BodyCalls.{seen, stands, ReadsBody, ReadsNothing, OpensFirst, NextMemberFirst, NextElementFirst, NextEntryFirst, SettlesFirst, TellsBodyNull, SkipsAt, Stays, by_body, size_by_body};
+    ghost use Rattle.smithy_serde.specs.ReadCalls.{IsIn, Skips, NextElement, NextEntry, Settles, TellsNull};
+    ghost use Rattle.smithy_response.specs.views.BodyCalls.{seen, stands, ReadsSeen, OpensSeen, NextMemberSeen, ReadsBody, ReadsNothing, OpensFirst, NextMemberFirst, NextElementFirst, NextEntryFirst, SettlesFirst, TellsBodyNull, SkipsAt, Stays, by_body, size_by_body};
 
     ghost at_hand = { seen D.at_hand };
 
@@ -61,8 +61,7 @@ impl<D: ShapeDeserializer> ShapeDeserializer for CompositeReader<D> {
         schema: SchemaRef<'_>,
         kind: ScalarKind,
     ) -> Result<ReadScalar, SerdeError>
-        ensures told { let old = seen D.at_hand self.old in
-            Reads scalar_of_read kind (node schema.entry) old (seen D.at_hand self.new) result }
+        ensures told { ReadsSeen (seen D.at_hand) kind (node schema.entry) self.old self.new result }
         ensures body { ReadsBody (stands D.at_hand) kind (node schema.entry) self.old self.new result }
         ensures stage { Stays (stands D.at_hand) self.old self.new }
         ensures nothing { ReadsNothing (stands D.at_hand self.old) result }
@@ -76,8 +75,7 @@ impl<D: ShapeDeserializer> ShapeDeserializer for CompositeReader<D> {
     }
 
     fn open(&mut self, alloc: Global, schema: SchemaRef<'_>, group: Group) -> Result<(), SerdeError>
-        ensures told { let old = seen D.at_hand self.old in
-            OpensAt group (node schema.entry) old (seen D.at_hand self.new) result }
+        ensures told { OpensSeen (seen D.at_hand) group (node schema.entry) self.old self.new result }
         ensures first { OpensFirst (stands D.at_hand) group (node schema.entry) self.old self.new result }
     {
         match self.stage {
@@ -113,8 +111,7 @@ impl<D: ShapeDeserializer> ShapeDeserializer for CompositeReader<D> {
         schema: SchemaRef<'s>,
     ) -> Result<Option<SchemaRef<'s>>, SerdeError>
         requires { IsIn group.Structure (seen D.at_hand self.old) }
-        ensures told { let old = seen D.at_hand self.old in
-            NextMember (node schema.entry) old (seen D.at_hand self.new) result }
+        ensures told { NextMemberSeen (seen D.at_hand) (node schema.entry) self.old self.new result }
         ensures first { NextMemberFirst (stands D.at_hand) (node schema.entry) self.old self.new result }
     {
         match self.stage {
@@ -245,9 +242,9 @@ impl<D: ShapeDeserializer> CompositeReader<D> {
     ghost use Rattle.std.specs.Prelude.{◌≡◌, length};
     ghost use Rattle.smithy_schema.specs.References.{schema_of};
     ghost use Rattle.smithy_serde.specs.declared.scalar.Group.TheVariants as group;
-    ghost use Rattle.smithy_serde.specs.ReadCalls.{IsIn, NextMember};
+    ghost use Rattle.smithy_serde.specs.ReadCalls.{IsIn};
     ghost use Rattle.smithy_response.specs.declared.stage.Stage.TheVariants as stage;
-    ghost use Rattle.smithy_response.specs.Frames.{composite_at_hand, at_structure, at_body};
+    ghost use Rattle.smithy_response.specs.views.BodyCalls.{NextBound, NextField};
 
     // The next bound member, or the first field of the body behind the last one.
     fn next_bound<'s>(
@@ -257,9 +254,7 @@ impl<D: ShapeDeserializer> CompositeReader<D> {
         is_given: bool,
     ) -> Result<Option<SchemaRef<'s>>, SerdeError>
         requires { self.old.stage ≡ stage.Bound is_given }
-        ensures { let old = at_structure self.old.transport is_given (D.at_hand self.old.body.reader) in
-            let new = composite_at_hand self.new.stage self.new.transport (D.at_hand self.new.body.reader) in
-            NextMember (schema_of schema.entry) old new result }
+        ensures { NextBound D.at_hand is_given (schema_of schema.entry) self.old self.new result }
     {
         if self.body.depth() != 0 {
             unreachable!()
@@ -300,9 +295,7 @@ impl<D: ShapeDeserializer> CompositeReader<D> {
         requires stage { self.old.stage ≡ stage.Body }
         requires one { length (D.at_hand self.old.body.reader).opened ≡ 1 }
         requires inside { IsIn group.Structure (D.at_hand self.old.body.reader) }
-        ensures { let old = at_body self.old.transport (D.at_hand self.old.body.reader) in
-            let new = composite_at_hand self.new.stage self.new.transport (D.at_hand self.new.body.reader) in
-            NextMember (schema_of schema.entry) old new result }
+        ensures { NextField D.at_hand (schema_of schema.entry) self.old self.new result }
     {
         match self.body.next_unbound(alloc, schema) {
             Ok(Some(member)) => Ok(Some(member)),

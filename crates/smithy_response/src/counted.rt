@@ -1,9 +1,7 @@
 // A reader whose open containers are counted.
 ghost use Rattle.std.specs.Prelude.{◌≡◌, [], false, length, IfOk, IfSome, OnErr};
-ghost use Rattle.smithy_schema.specs.Nodes.{is_response_bound};
-ghost use Rattle.smithy_schema.specs.References.{schema_of};
+ghost use Rattle.smithy_response.specs.Words.{is_response_bound, schema_of, IsIn, Skips, NextElement, NextEntry, TellsNull};
 ghost use Rattle.smithy_serde.specs.declared.scalar.Group.TheVariants as group;
-ghost use Rattle.smithy_serde.specs.ReadCalls.{IsIn, Skips, NextElement, NextEntry, TellsNull};
 ghost use Rattle.smithy_response.specs.CountedCalls.{CountedReads, CountedOpens, CountedNext, NextUnbound};
 
 use smithy_schema::SchemaRef;
@@ -21,7 +19,7 @@ pub struct Counted<D: ShapeDeserializer> {
 
 impl<D: ShapeDeserializer> Model for Counted<D> {
     ghost use Rattle.std.specs.Prelude.{◌≡◌, length};
-    ghost use Rattle.smithy_response.specs.Stages.{Counting};
+    ghost use Rattle.smithy_response.specs.views.Stages.{Counting};
 
     ghost Value = { Counting D };
 

@@ -1,13 +1,10 @@
 // What is read from a header.
 ghost use Rattle.std.specs.Prelude.{◌≡◌, Some};
+ghost use Rattle.smithy_response.specs.Words.{schema_of, or_parse_refusal, one_of, one_token, item_of_text, decoded_text, header_format, scalar_of_element, scalar_of_date, has_dates, IsAnswer, type_of};
 ghost use Rattle.smithy_ids.specs.declared.shape_type.ShapeType.TheVariants as shape;
 ghost use Rattle.smithy_http.specs.DateLists.{dates_of};
 ghost use Rattle.smithy_http.specs.HeaderValues.{tokens_of, one_text_of};
-ghost use Rattle.smithy_schema.specs.References.{schema_of};
 ghost use Rattle.smithy_serde.specs.declared.read_scalar.ScalarKind.TheVariants as k;
-ghost use Rattle.smithy_serde.specs.HeaderReads.{or_parse_refusal, one_of, one_token, item_of_text, decoded_text, header_format, scalar_of_element, scalar_of_date, has_dates};
-ghost use Rattle.smithy_serde.specs.Held.{IsAnswer};
-ghost use Rattle.smithy_serde.specs.ReadCalls.{type_of};
 ghost use Rattle.smithy_response.specs.GivenScalars.{GivesScalar, header_text, header_time, header_elements, header_scalar, token_scalar, AnswersText, AnswersTime, AnswersItems};
 ghost use Rattle.smithy_response.specs.PrefixedHeaders.{values_named};
 
@@ -46,10 +43,7 @@ pub(crate) fn shape_type(kind: ScalarKind) -> ShapeType
 fn header_tokens(alloc: Global, headers: &Headers, name: &str) -> Result<Words, SerdeError>
     ensures { IsAnswer (or_parse_refusal (tokens_of (values_named name.now headers.now))) result }
 {
-    match tokens(alloc, headers, name) {
-        Ok(words) => Ok(words),
-        Err(error) => Err(not_parsed(alloc, error)),
-    }
+    tokens(alloc, headers, name).map_err(|error| not_parsed(alloc, error))
 }
 
 // The dates of a header.
@@ -61,20 +55,14 @@ fn header_dates(
 ) -> Result<Longs, SerdeError>
     ensures { IsAnswer (or_parse_refusal (dates_of format (values_named name.now headers.now))) result }
 {
-    match dates(alloc, headers, name, format) {
-        Ok(seconds) => Ok(seconds),
-        Err(error) => Err(not_parsed(alloc, error)),
-    }
+    dates(alloc, headers, name, format).map_err(|error| not_parsed(alloc, error))
 }
 
 // The one text of a header.
 fn header_text(alloc: Global, headers: &Headers, name: &str) -> Result<Option<Text>, SerdeError>
     ensures { IsAnswer (or_parse_refusal (one_text_of (values_named name.now headers.now))) result }
 {
-    match one_text(alloc, headers, name) {
-        Ok(text) => Ok(text),
-        Err(error) => Err(not_parsed(alloc, error)),
-    }
+    one_text(alloc, headers, name).map_err(|error| not_parsed(alloc, error))
 }
 
 // The only one of texts.

@@ -1,8 +1,6 @@
 // Whether a schema has a member that is looked for.
 ghost use Rattle.std.specs.Prelude.{◌≡◌, false};
-ghost use Rattle.std.specs.List.{list_any};
-ghost use Rattle.smithy_schema.specs.Nodes.{members_of};
-ghost use Rattle.smithy_schema.specs.References.{schema_of};
+ghost use Rattle.smithy_response.specs.Words.{list_any, members_of, schema_of};
 ghost use Rattle.smithy_response.specs.Sought.{is_sought};
 
 use smithy_schema::SchemaRef;

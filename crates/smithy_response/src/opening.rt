@@ -1,7 +1,6 @@
 // How a header and the headers behind a prefix are opened, and their items.
 ghost use Rattle.std.specs.Prelude.{◌≡◌, None, IfOk};
-ghost use Rattle.std.specs.Str.{str_to_ascii_lowercase};
-ghost use Rattle.smithy_schema.specs.References.{schema_of};
+ghost use Rattle.smithy_response.specs.Words.{str_to_ascii_lowercase, schema_of};
 ghost use Rattle.smithy_response.specs.Openings.{OpensList, OpensPrefix, ReadsEntries, NextOfEntries, IsAtEntries, opened_kind};
 ghost use Rattle.smithy_response.specs.PrefixedHeaders.{keys_behind};
 
@@ -208,7 +207,7 @@ impl OpenList {
     ghost use Rattle.smithy_serde.specs.ReadCalls.{read_at};
     ghost use Rattle.smithy_response.specs.GivenScalars.{GivesScalar};
     ghost use Rattle.smithy_response.specs.Openings.{IsAdvanced};
-    ghost use Rattle.smithy_response.specs.Transporting.{element_at};
+    ghost use Rattle.smithy_response.specs.views.Transporting.{element_at};
 
     // The next element comes to hand, if one is left.
     fn advance(&mut self) -> bool
@@ -247,7 +246,7 @@ impl OpenList {
 
 impl ListItems {
     ghost use Rattle.std.specs.Prelude.{◌≡◌, length};
-    ghost use Rattle.smithy_response.specs.Transporting.{items_of};
+    ghost use Rattle.smithy_response.specs.views.Transporting.{items_of};
 
     // How many there are.
     fn len(&self) -> usize

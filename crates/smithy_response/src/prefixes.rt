@@ -1,8 +1,6 @@
 // The headers behind a prefix.
 ghost use Rattle.std.specs.Prelude.{◌≡◌, ◌&&◌, not, nat_eq, is_some, IfOk, OnOk, MatchOption};
-ghost use Rattle.std.specs.List.{list_any, starts_with};
-ghost use Rattle.std.specs.Option.{option_copied};
-ghost use Rattle.std.specs.Str.{is_utf8};
+ghost use Rattle.smithy_response.specs.Words.{list_any, starts_with, option_copied, is_utf8};
 ghost use Rattle.smithy_response.specs.PrefixedHeaders.{behind_lower, with_key, keys_behind_lower};
 ghost use Rattle.smithy_response.specs.KnownKeys.{AreKnown};
 ghost use Rattle.smithy_response.specs.Settling.{has_unreadable, unreadable_behind_lower};

@@ -1,7 +1,7 @@
 // The protocols, as what gives readers of responses.
 ghost use Rattle.std.specs.Prelude.{◌≡◌, IfOk, IfErr};
 ghost use Rattle.std.proofs.Common.{inr};
-ghost use Rattle.smithy_serde.specs.declared.error.SerdeError.TheVariants.{OutOfMemory};
+ghost use Rattle.smithy_response.specs.Words.{OutOfMemory};
 ghost use Rattle.smithy_response.specs.ProtocolReaders.{bytes_of, BeginsOver, IsOfOutput, IsOfError, IsOfErrorOrDefault};
 
 use crate::response_protocol::ResponseProtocol;

@@ -1,14 +1,14 @@
 // The refusals of reading a response.
 ghost use Rattle.std.specs.Prelude.{◌≡◌, ◌++◌, codes, IfOk};
+ghost use Rattle.smithy_response.specs.Words.{parse_refusal, no_value};
 ghost use Rattle.smithy_http.specs.declared.error.HttpError.TheVariants as http_error;
 ghost use Rattle.smithy_serde.specs.declared.error.SerdeError.TheVariants as refusal;
-ghost use Rattle.smithy_serde.specs.HeaderReads.{parse_refusal, no_value};
 ghost use Rattle.smithy_serde.specs.HeldReads.{status_refusal, prefix_refusal, raw_refusal, element_refusal, header_refusal};
 ghost use Rattle.smithy_serde.specs.Refusals.{IsRefusal};
 ghost use Rattle.smithy_serde.specs.Requests.{requested, plain_word};
 ghost use Rattle.smithy_response.specs.GivenScalars.{item_refusal, date_text};
 ghost use Rattle.smithy_response.specs.Routes.{not_buffered};
-ghost use Rattle.smithy_response.specs.Transporting.{nothing_at_hand};
+ghost use Rattle.smithy_response.specs.views.Transporting.{nothing_at_hand};
 ghost use Rattle.smithy_response.specs.Settling.{header_context, prefix_context, in_header_for, behind_prefix_for};
 
 use smithy_http::{HttpError, ListFault};

@@ -1,10 +1,6 @@
 // What reads the responses of a client.
 ghost use Rattle.std.specs.Prelude.{◌≡◌, IfOk, IfErr};
-ghost use Rattle.smithy_http.specs.Responses.{Response};
-ghost use Rattle.smithy_http.specs.declared.non_utf8.NonUtf8HeaderHandling.{NonUtf8HeaderHandling};
-ghost use Rattle.smithy_schema.specs.Nodes.{Schema};
-ghost use Rattle.smithy_schema.specs.References.{schema_of};
-ghost use Rattle.smithy_serde.specs.declared.error.SerdeError.TheVariants.{OutOfMemory};
+ghost use Rattle.smithy_response.specs.Words.{Response, NonUtf8HeaderHandling, Schema, schema_of, OutOfMemory};
 ghost use Rattle.smithy_response.specs.ProtocolReaders.{ReadsByDefault};
 
 use smithy_http::{NonUtf8HeaderHandling, Response};

@@ -1,6 +1,6 @@
 // The reader of a response, by what its schema binds.
 ghost use Rattle.std.specs.Prelude.{◌≡◌, [], true, false, IfOk};
-ghost use Rattle.smithy_schema.specs.References.{schema_of};
+ghost use Rattle.smithy_response.specs.Words.{schema_of};
 ghost use Rattle.smithy_response.specs.ResponseReaders.{is_body_only, reads_whole, IsReader};
 
 use crate::composite::CompositeReader;
@@ -25,8 +25,8 @@ pub enum ResponseReader<D: ShapeDeserializer> {
 impl<D: ShapeDeserializer> ShapeDeserializer for ResponseReader<D> {
     ghost use Rattle.smithy_schema.specs.References.{schema_of as node};
     ghost use Rattle.smithy_serde.specs.declared.scalar.Group.TheVariants as group;
-    ghost use Rattle.smithy_serde.specs.ReadCalls.{IsIn, scalar_of_read, Reads, Skips, OpensAt, NextMember, NextElement, NextEntry, Settles, TellsNull};
-    ghost use Rattle.smithy_response.specs.BodyCalls.{reader_stands as stands, ReadsBody, ReadsNothing, OpensFirst, NextMemberFirst, NextElementFirst, NextEntryFirst, SettlesFirst, TellsBodyNull, SkipsAt, Stays, reader_by_body as by_body, reader_size_by_body as size_by_body};
+    ghost use Rattle.smithy_serde.specs.ReadCalls.{IsIn, Skips, NextElement, NextEntry, Settles, TellsNull};
+    ghost use Rattle.smithy_response.specs.views.BodyCalls.{reader_stands as stands, ReadsSeen, OpensSeen, NextMemberSeen, ReadsBody, ReadsNothing, OpensFirst, NextMemberFirst, NextElementFirst, NextEntryFirst, SettlesFirst, TellsBodyNull, SkipsAt, Stays, reader_by_body as by_body, reader_size_by_body as size_by_body};
     ghost use Rattle.smithy_response.specs.ResponseReaders.{reader_at_hand as seen};
 
     ghost at_hand = { seen D.at_hand };
@@ -43,8 +43,7 @@ impl<D: ShapeDeserializer> ShapeDeserializer for ResponseReader<D> {
         schema: SchemaRef<'_>,
         kind: ScalarKind,
     ) -> Result<ReadScalar, SerdeError>
-        ensures told { let old = seen D.at_hand self.old in
-            Reads scalar_of_read kind (node schema.entry) old (seen D.at_hand self.new) result }
+        ensures told { ReadsSeen (seen D.at_hand) kind (node schema.entry) self.old self.new result }
         ensures body { ReadsBody (stands D.at_hand) kind (node schema.entry) self.old self.new result }
         ensures stage { Stays (stands D.at_hand) self.old self.new }
         ensures nothing { ReadsNothing (stands D.at_hand self.old) result }
@@ -56,8 +55,7 @@ impl<D: ShapeDeserializer> ShapeDeserializer for ResponseReader<D> {
     }
 
     fn open(&mut self, alloc: Global, schema: SchemaRef<'_>, group: Group) -> Result<(), SerdeError>
-        ensures told { let old = seen D.at_hand self.old in
-            OpensAt group (node schema.entry) old (seen D.at_hand self.new) result }
+        ensures told { OpensSeen (seen D.at_hand) group (node schema.entry) self.old self.new result }
         ensures first { OpensFirst (stands D.at_hand) group (node schema.entry) self.old self.new result }
     {
         match self {
@@ -72,8 +70,7 @@ impl<D: ShapeDeserializer> ShapeDeserializer for ResponseReader<D> {
         schema: SchemaRef<'s>,
     ) -> Result<Option<SchemaRef<'s>>, SerdeError>
         requires { IsIn group.Structure (seen D.at_hand self.old) }
-        ensures told { let old = seen D.at_hand self.old in
-            NextMember (node schema.entry) old (seen D.at_hand self.new) result }
+        ensures told { NextMemberSeen (seen D.at_hand) (node schema.entry) self.old self.new result }
         ensures first { NextMemberFirst (stands D.at_hand) (node schema.entry) self.old self.new result }
     {
         match self {

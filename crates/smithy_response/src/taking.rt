@@ -1,9 +1,8 @@
 // Which bound member comes to hand.
 ghost use Rattle.std.specs.Prelude.{◌≡◌, ◌∷◌, IfOk};
-ghost use Rattle.smithy_schema.specs.Nodes.{name_of};
-ghost use Rattle.smithy_schema.specs.References.{schema_of};
+ghost use Rattle.smithy_response.specs.Words.{name_of, schema_of};
 ghost use Rattle.smithy_response.specs.Routes.{in_header, in_payload, source_of, is_plain_text, is_raw, are_empty, has_nothing};
-ghost use Rattle.smithy_response.specs.Transporting.{IsTakenAt, TakesAt, TakesPrefix};
+ghost use Rattle.smithy_response.specs.views.Transporting.{IsTakenAt, TakesAt, TakesPrefix};
 
 use crate::parts::{BoundMember, HeaderAtHand};
 use crate::refusals::not_buffered;

@@ -1,9 +1,7 @@
 // The part of a response that needs no reader of its body: what its status, headers and bytes hand out.
 ghost use Rattle.std.specs.Prelude.{◌≡◌, Some};
-ghost use Rattle.std.specs.Option.{option_copied};
-ghost use Rattle.smithy_schema.specs.References.{schema_of};
+ghost use Rattle.smithy_response.specs.Words.{option_copied, schema_of, read_at};
 ghost use Rattle.smithy_serde.specs.Held as held;
-ghost use Rattle.smithy_serde.specs.ReadCalls.{read_at};
 ghost use Rattle.smithy_response.specs.GivenScalars.{GivesScalar, GivesRaw};
 ghost use Rattle.smithy_response.specs.Handed.{has_no_bytes};
 ghost use Rattle.smithy_response.specs.Settling.{skips};
@@ -51,7 +49,7 @@ impl Transport {
     ghost use Rattle.smithy_serde.specs.ReadCalls.{IsIn, NextElement, NextEntry, TellsNull};
     ghost use Rattle.smithy_response.specs.Handed.{reads_body};
     ghost use Rattle.smithy_response.specs.Routes.{in_header, in_prefix};
-    ghost use Rattle.smithy_response.specs.Transporting.{transport_at_hand, transport_settled, settled_from, is_nothing, RefusesNothing, ReadsBound, OpensBound, IsSameResponse, IsSameTurn, NextBound};
+    ghost use Rattle.smithy_response.specs.views.Transporting.{transport_at_hand, transport_settled, settled_from, is_nothing, RefusesNothing, ReadsBound, OpensBound, IsSameResponse, IsSameTurn, NextBound};
 
     /// The response from its first member on.
     pub(crate) fn start(&mut self)
@@ -186,7 +184,8 @@ impl Transport {
         }
     }
 
-    /// Whether the value at hand is the null, which no bound member is.
+    /// Whether the value at hand is the null, which no bound member is: a header, a status and raw bytes have no text for it,
+    /// and what isn't there isn't handed out.
     pub(crate) fn is_null(&self) -> bool
         ensures told { TellsNull (transport_at_hand self.now) result }
         ensures no { result ≡ false }

@@ -1,18 +1,18 @@
 // A response as the value of its output.
 ghost use Rattle.std.specs.Prelude.{◌≡◌, [], IfOk};
-ghost use Rattle.smithy_schema.specs.References.{schema_of};
-ghost use Rattle.smithy_serde.specs.StoredValues.{HasNode};
-ghost use Rattle.smithy_serde.specs.declared.scalar.Group.TheVariants as group;
-ghost use Rattle.smithy_serde.specs.Handing.{at_members, AllHanded};
-ghost use Rattle.smithy_response.specs.MembersRead.{ReadsListed};
-ghost use Rattle.smithy_response.specs.ResponseReaders.{chosen_whole, reader_at_hand, IsReader};
-ghost use Rattle.smithy_response.specs.WholeResponses.{GivesResponse, handed_with};
+ghost use Rattle.smithy_response.specs.Words.{schema_of};
+ghost use Rattle.smithy_serde.specs.MembersRead.{ReadsListed};
+ghost use Rattle.smithy_serde.specs.StoredValues.{HasNode, AreDefined};
+ghost use Rattle.smithy_response.specs.ResponseReaders.{reader_at_hand, IsReaderOf};
+ghost use Rattle.smithy_response.specs.WholeResponses.{GivesResponse, Hands};
 
-use crate::reading::read_response;
 use crate::response_reader::{ResponseReader, http_error_deserializer, http_output_deserializer};
 use smithy_http::{NonUtf8HeaderHandling, Response};
 use smithy_schema::{SchemaIndex, SchemaRef, Schemas};
-use smithy_serde::{MemberConsumer, SerdeError, ShapeDeserializer, StructValue, read_struct};
+use smithy_serde::{
+    MemberConsumer, SerdeError, ShapeDeserializer, StructValue, WriteList, read_struct,
+    read_struct_value,
+};
 use smithy_types::OutOfMemory;
 use std::alloc::Global;
 
@@ -36,22 +36,24 @@ pub fn response_value<'t, D: ShapeDeserializer + Drop>(
         unreachable!()
     };
     let mut reader = reader_of(alloc, body, response, schema, is_error, policy)?;
-    read_whole(alloc, &mut reader, table, output)
+    let writes = read_whole(alloc, &mut reader, table, schema)?;
+    Ok(StructValue::with_writes(table, output, writes))
 }
 
 // Reads what the reader hands out. Each kind of reader is read as such, so that no call asks for the kind.
-fn read_whole<'t, D: ShapeDeserializer>(
+fn read_whole<D: ShapeDeserializer>(
     alloc: Global,
     reader: &mut ResponseReader<D>,
-    table: &'t Schemas,
-    output: SchemaIndex,
-) -> Result<StructValue<'t>, SerdeError>
-    requires { HasNode table.now output.0 }
-    ensures { ReadsListed table.now output.0 (reader_at_hand D.at_hand reader.old) result }
+    table: &Schemas,
+    schema: SchemaRef<'_>,
+) -> Result<WriteList, SerdeError>
+    requires { (schema_of schema).table ≡ table.now }
+    ensures listed { ReadsListed table.now (schema_of schema.entry) (reader_at_hand D.at_hand reader.old) result }
+    ensures defined { IfOk result (λ ws. AreDefined table.now ws) }
 {
     match reader {
-        ResponseReader::BodyOnly(body) => read_response(alloc, body, table, output),
-        ResponseReader::Composite(whole) => read_response(alloc, whole, table, output),
+        ResponseReader::BodyOnly(body) => read_struct_value(alloc, body, table, schema),
+        ResponseReader::Composite(whole) => read_struct_value(alloc, whole, table, schema),
     }
 }
 
@@ -61,19 +63,17 @@ pub fn read_members<D: ShapeDeserializer + Drop, M: MemberConsumer>(
     alloc: Global,
     body: D,
     response: &Response,
-    schema: SchemaRef<'_>,
+    node: SchemaRef<'_>,
     is_error: bool,
     policy: NonUtf8HeaderHandling,
-    consumer: &mut M,
+    to: &mut M,
 ) -> Result<(), SerdeError>
     requires { (D.at_hand body).opened ≡ [] }
-    ensures handed { let node = schema_of schema.entry in
-        let listed = handed_with node response.now is_error policy (D.at_hand body).held in
-        AllHanded (at_members M.takes) group.Structure listed consumer.old consumer.new result }
-    ensures kept { M.keeps consumer.old consumer.new }
+    ensures handed { Hands M.takes node.entry response.now is_error policy (D.at_hand body) to.old to.new result }
+    ensures kept { M.keeps to.old to.new }
 {
-    let mut reader = reader_of(alloc, body, response, schema, is_error, policy)?;
-    read_struct(alloc, &mut reader, schema, consumer)
+    let mut reader = reader_of(alloc, body, response, node, is_error, policy)?;
+    read_struct(alloc, &mut reader, node, to)
 }
 
 // The reader of an output or of a modelled error.
@@ -86,8 +86,7 @@ fn reader_of<D: ShapeDeserializer + Drop>(
     policy: NonUtf8HeaderHandling,
 ) -> Result<ResponseReader<D>, OutOfMemory>
     requires { (D.at_hand body).opened ≡ [] }
-    ensures { let is_whole = chosen_whole (schema_of schema.entry) is_error in
-        IfOk result (IsReader D.at_hand response.now is_error policy is_whole body) }
+    ensures { IfOk result (IsReaderOf D.at_hand schema.entry response.now is_error policy body) }
 {
     if is_error {
         http_error_deserializer(alloc, body, response, policy)

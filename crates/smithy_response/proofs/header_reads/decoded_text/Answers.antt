@@ -1,7 +1,6 @@
-use Rattle.std.proofs.Common.{◌≡◌, false, Ok, None, inl, sym, ap, subst, ◌∙◌, true}
+use Rattle.smithy_response.proofs.Common.{◌≡◌, false, Ok, None, inl, sym, ap, subst, ◌∙◌, true, is_utf8}
 use Rattle.std.proofs.lemmas.Str.{IsUtf8-had}
 use Rattle.std.specs.Result.{result_ok}
-use Rattle.std.specs.Str.{is_utf8}
 use Rattle.base64.specs.GeneralPurpose.{decode_of}
 use Rattle.base64.specs.Engines.{standard}
 use Rattle.smithy_serde.specs.Values as value

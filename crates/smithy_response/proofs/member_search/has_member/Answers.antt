@@ -1,5 +1,4 @@
-use Rattle.std.proofs.Common.{sym, ◌∙◌}
-use Rattle.smithy_schema.specs.References.{schema_of}
+use Rattle.smithy_response.proofs.Common.{sym, ◌∙◌, schema_of}
 use Rattle.smithy_response.specs.Sought.{is_sought}
 use Rattle.smithy_response.proofs.Members.{any-found, any-passed, any-hole}
 use Rattle.smithy_response.proofs.member_search.has_member.Goals as goal

@@ -1,9 +1,5 @@
-use Rattle.std.proofs.Common.{◌≡◌, ◌-◌, length}
-use Rattle.std.specs.List.{list_any}
-use Rattle.smithy_schema.specs.References.{schema_of}
-use Rattle.smithy_schema.specs.Nodes.{members_of}
+use Rattle.smithy_response.proofs.Common.{◌≡◌, ◌-◌, length, list_any, schema_of, members_of, members_from}
 use Rattle.smithy_response.specs.Sought.{is_sought}
-use Rattle.smithy_response.specs.Transporting.{members_from}
 use Rattle.smithy_response.proofs.member_search.has_member.Given as goal
 
 abbrev pub invariant-loop-position : goal.invariant-loop-position

@@ -1,7 +1,5 @@
-use Rattle.std.proofs.Common.{Some, sym, ap, subst, ◌∙◌}
-use Rattle.std.proofs.lemmas.Result.{err_from_is_err_and}
+use Rattle.smithy_response.proofs.Common.{Some, sym, ap, subst, ◌∙◌, err_from_is_err_and, prefix_at_hand}
 use Rattle.smithy_response.specs.Openings.{IsAtEntries}
-use Rattle.smithy_response.specs.Transporting.{prefix_at_hand}
 use Rattle.smithy_response.proofs.Containers.{halted, entry_advanced, map_closed}
 use Rattle.smithy_response.proofs.opening.next_entry.Goals as goal
 

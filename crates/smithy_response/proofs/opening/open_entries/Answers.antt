@@ -1,6 +1,4 @@
-use Rattle.std.proofs.Common.{ap, ◌∙◌}
-use Rattle.smithy_schema.specs.References.{schema_of}
-use Rattle.smithy_response.specs.PrefixedHeaders.{keys_behind}
+use Rattle.smithy_response.proofs.Common.{ap, ◌∙◌, schema_of, keys_behind}
 use Rattle.smithy_response.proofs.Containers.{map_opened, prefix_no_list, prefix_no_structure}
 use Rattle.smithy_response.proofs.opening.open_entries.Goals as goal
 

@@ -1,5 +1,4 @@
-use Rattle.std.proofs.lemmas.Result.{err_from_is_err_and}
-use Rattle.smithy_schema.specs.References.{schema_of}
+use Rattle.smithy_response.proofs.Common.{err_from_is_err_and, schema_of}
 use Rattle.smithy_response.proofs.Containers.{list_opened, list_refused, header_no_map, header_no_structure}
 use Rattle.smithy_response.proofs.opening.open_list.Goals as goal
 

@@ -1,11 +1,6 @@
-use Rattle.std.proofs.Common.{sym, subst, [], ◌∷◌}
-use Rattle.smithy_schema.specs.References.{schema_of}
+use Rattle.smithy_response.proofs.Common.{sym, subst, [], ◌∷◌, schema_of, prefix_refusal, scalar_of_read, Reads, IsRefusal, prefix_at_hand, told_frame, entries_left}
 use Rattle.smithy_serde.specs.declared.scalar.Group.TheVariants as group
 use Rattle.smithy_serde.specs.Held as held
-use Rattle.smithy_serde.specs.HeldReads.{prefix_refusal}
-use Rattle.smithy_serde.specs.ReadCalls.{scalar_of_read, Reads}
-use Rattle.smithy_serde.specs.Refusals.{IsRefusal}
-use Rattle.smithy_response.specs.Transporting.{prefix_at_hand, told_frame, entries_left}
 use Rattle.smithy_response.proofs.Readings.{prefix_not_read}
 use Rattle.smithy_response.proofs.opening.read_entries.Goals as goal
 

@@ -1,4 +1,4 @@
-use Rattle.std.proofs.Common.{◌≡◌, ap, sym, ◌∙◌, ℕ, true, false, List, Option, Some, is_some}
+use Rattle.smithy_response.proofs.Common.{◌≡◌, ap, sym, ◌∙◌, ℕ, true, false, List, Option, Some, is_some}
 use Rattle.std.specs.BTreeMap.{BTreeMap, get_by}
 use Rattle.std.specs.Borrow.{Bor}
 use Rattle.std.specs.Cmp.Lexicographic.{slice_cmp}

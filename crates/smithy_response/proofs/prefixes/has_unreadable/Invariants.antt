@@ -1,5 +1,4 @@
-use Rattle.std.proofs.Common.{◌≡◌}
-use Rattle.smithy_response.specs.Settling.{has_unreadable}
+use Rattle.smithy_response.proofs.Common.{◌≡◌, has_unreadable}
 use Rattle.smithy_response.proofs.prefixes.has_unreadable.Given as goal
 
 abbrev pub invariant-loop-value : goal.invariant-loop-value

@@ -1,5 +1,4 @@
-use Rattle.std.proofs.Common.{◌≡◌}
-use Rattle.smithy_response.specs.Settling.{unreadable_behind_lower}
+use Rattle.smithy_response.proofs.Common.{◌≡◌, unreadable_behind_lower}
 use Rattle.smithy_response.proofs.prefixes.has_unreadable_behind.Given as goal
 
 abbrev pub invariant-loop-name : goal.invariant-loop-name

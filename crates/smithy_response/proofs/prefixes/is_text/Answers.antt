@@ -1,4 +1,4 @@
-use Rattle.std.proofs.Common.{sym}
+use Rattle.smithy_response.proofs.Common.{sym}
 use Rattle.smithy_response.proofs.Texts.{utf8, not_utf8}
 use Rattle.smithy_response.proofs.prefixes.is_text.Goals as goal
 

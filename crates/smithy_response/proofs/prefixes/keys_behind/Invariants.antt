@@ -1,5 +1,4 @@
-use Rattle.std.proofs.Common.{◌≡◌, filter_map}
-use Rattle.smithy_response.specs.PrefixedHeaders.{behind_lower, with_new, keys_behind_lower}
+use Rattle.smithy_response.proofs.Common.{◌≡◌, filter_map, behind_lower, with_new, keys_behind_lower}
 use Rattle.smithy_response.specs.KnownKeys.{AreKnown}
 use Rattle.smithy_response.proofs.prefixes.keys_behind.Given as goal
 

@@ -1,5 +1,4 @@
-use Rattle.std.proofs.Common.{◌≡◌}
-use Rattle.smithy_response.specs.Routes.{are_empty}
+use Rattle.smithy_response.proofs.Common.{◌≡◌, are_empty}
 use Rattle.smithy_response.proofs.taking.are_empty.Given as goal
 
 abbrev pub invariant-loop-value : goal.invariant-loop-value

@@ -1,6 +1,4 @@
-use Rattle.std.proofs.Common.{◌≡◌, ◌∷◌, sym, ◌∙◌, rules}
-use Rattle.smithy_schema.specs.References.{schema_of}
-use Rattle.smithy_response.specs.PrefixedHeaders.{values_named}
+use Rattle.smithy_response.proofs.Common.{◌≡◌, ◌∷◌, sym, ◌∙◌, rules, schema_of, values_named}
 use Rattle.smithy_response.proofs.Takings.{header_taken}
 use Rattle.smithy_response.proofs.taking.header_taken.Goals as goal
 

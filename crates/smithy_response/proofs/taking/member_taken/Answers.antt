@@ -1,5 +1,4 @@
-use Rattle.std.proofs.Common.{Some, sym, ap, ◌∙◌}
-use Rattle.smithy_schema.specs.References.{schema_of}
+use Rattle.smithy_response.proofs.Common.{Some, sym, ap, ◌∙◌, schema_of}
 use Rattle.smithy_response.proofs.Takings.{source_prefix}
 use Rattle.smithy_response.proofs.taking.member_taken.Goals as goal
 

@@ -1,6 +1,4 @@
-use Rattle.std.proofs.Common.{sym, ◌∙◌}
-use Rattle.std.proofs.lemmas.Result.{err_from_is_err_and}
-use Rattle.smithy_schema.specs.References.{schema_of}
+use Rattle.smithy_response.proofs.Common.{sym, ◌∙◌, err_from_is_err_and, schema_of}
 use Rattle.smithy_response.proofs.Turns.{turns_member, turns_payload, turns_out, turns_refused, turns_body, turns_unopened, empty_given, empty_unread, none_left_open, one_opened}
 use Rattle.smithy_response.proofs.composite.CompositeReader.next_bound.Goals as goal
 

@@ -1,4 +1,4 @@
-use Rattle.smithy_schema.specs.References.{schema_of}
+use Rattle.smithy_response.proofs.Common.{schema_of}
 use Rattle.smithy_response.proofs.Turns.{field_found, field_closed, field_halted}
 use Rattle.smithy_response.proofs.composite.CompositeReader.next_field.Goals as goal
 

@@ -1,4 +1,4 @@
-use Rattle.std.proofs.Common.{◌∙◌}
+use Rattle.smithy_response.proofs.Common.{◌∙◌}
 use Rattle.smithy_serde.specs.declared.scalar.Group.TheVariants as group
 use Rattle.smithy_response.proofs.Presenting.{shown_element}
 use Rattle.smithy_response.proofs.StageSteps.{top_steps, bound_steps, payload_steps, body_steps}

@@ -1,5 +1,4 @@
-use Rattle.std.proofs.Common.{◌∙◌}
-use Rattle.smithy_schema.specs.References.{schema_of}
+use Rattle.smithy_response.proofs.Common.{◌∙◌, schema_of}
 use Rattle.smithy_serde.specs.declared.scalar.Group.TheVariants as group
 use Rattle.smithy_response.proofs.Presenting.{shown_member}
 use Rattle.smithy_response.proofs.StageSteps.{top_steps, payload_steps, body_steps}

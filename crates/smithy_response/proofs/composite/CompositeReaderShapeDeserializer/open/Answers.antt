@@ -1,5 +1,4 @@
-use Rattle.std.proofs.Common.{◌∙◌, sym}
-use Rattle.smithy_schema.specs.References.{schema_of}
+use Rattle.smithy_response.proofs.Common.{◌∙◌, sym, schema_of}
 use Rattle.smithy_serde.specs.declared.scalar.Group.TheVariants as group
 use Rattle.smithy_response.proofs.Presenting.{shown_opening}
 use Rattle.smithy_response.proofs.StageSteps.{top_openings, none_listed, not_structure, bound_openings, payload_openings, body_openings}

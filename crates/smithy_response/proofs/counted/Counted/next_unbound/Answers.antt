@@ -1,4 +1,4 @@
-use Rattle.std.proofs.lemmas.Result.{err_from_is_err_and}
+use Rattle.smithy_response.proofs.Common.{err_from_is_err_and}
 use Rattle.smithy_response.proofs.Copies.{stops}
 use Rattle.smithy_response.proofs.counted.Counted.next_unbound.Goals as goal
 

@@ -1,4 +1,4 @@
-use Rattle.smithy_schema.specs.References.{schema_of}
+use Rattle.smithy_response.proofs.Common.{schema_of}
 use Rattle.smithy_serde.specs.declared.scalar.Group.TheVariants as group
 use Rattle.smithy_serde.proofs.ReadWalk.{still_left}
 use Rattle.smithy_response.proofs.Copies.{Skimmed}

@@ -1,9 +1,4 @@
-use Rattle.std.proofs.Common.{sym, subst, ◌∙◌}
-use Rattle.std.proofs.lemmas.Result.{err_from_is_err_and}
-use Rattle.smithy_schema.specs.References.{schema_of}
-use Rattle.smithy_serde.specs.HeldReads.{element_refusal}
-use Rattle.smithy_serde.specs.Refusals.{IsRefusal}
-use Rattle.smithy_response.specs.Transporting.{header_of}
+use Rattle.smithy_response.proofs.Common.{sym, subst, ◌∙◌, err_from_is_err_and, schema_of, element_refusal, IsRefusal, header_of}
 use Rattle.smithy_response.proofs.Containers.{element_refused, none_list}
 use Rattle.smithy_response.proofs.parts.HeaderAtHand.open.Goals as goal
 

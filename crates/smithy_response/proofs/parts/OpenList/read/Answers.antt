@@ -1,6 +1,4 @@
-use Rattle.std.proofs.Common.{sym, ap, ◌∙◌, rules}
-use Rattle.std.specs.Option.{option_copied}
-use Rattle.smithy_schema.specs.References.{schema_of}
+use Rattle.smithy_response.proofs.Common.{sym, ap, ◌∙◌, rules, option_copied, schema_of}
 use Rattle.smithy_response.proofs.Readings.{reads_text, reads_date, no_text, no_date}
 use Rattle.smithy_response.proofs.parts.OpenList.read.Goals as goal
 

@@ -1,4 +1,4 @@
-use Rattle.std.proofs.Common.{subst, IfOk, Result, Ok, Err}
+use Rattle.smithy_response.proofs.Common.{subst, IfOk, Result, Ok, Err}
 use Rattle.smithy_response.proofs.response_protocol.ResponseProtocol.deserialize_error_response.Goals as goal
 
 -- what holds of an answer holds of it in other words

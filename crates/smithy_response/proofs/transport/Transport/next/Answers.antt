@@ -1,9 +1,4 @@
-use Rattle.std.proofs.Common.{sym, ◌∙◌, subst}
-use Rattle.std.proofs.lemmas.Result.{err_from_is_err_and}
-use Rattle.smithy_schema.specs.Nodes.{member_at}
-use Rattle.smithy_schema.specs.References.{schema_of}
-use Rattle.smithy_response.specs.Routes.{source_of}
-use Rattle.smithy_response.specs.Transporting.{IsTakenAt}
+use Rattle.smithy_response.proofs.Common.{sym, ◌∙◌, subst, err_from_is_err_and, member_at, schema_of, source_of, IsTakenAt}
 use Rattle.smithy_response.proofs.Members.{within, here, nowhere}
 use Rattle.smithy_response.proofs.Passing.{passes_hole, passes_member, passes_unbound, passes_body, hands_body, hands_member, refuses_member}
 use Rattle.smithy_response.proofs.transport.Transport.next.Goals as goal

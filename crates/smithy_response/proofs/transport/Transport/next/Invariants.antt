@@ -1,5 +1,4 @@
-use Rattle.smithy_schema.specs.References.{schema_of}
-use Rattle.smithy_response.specs.Transporting.{places_left}
+use Rattle.smithy_response.proofs.Common.{schema_of, places_left}
 use Rattle.smithy_response.proofs.Passing.{Passing}
 use Rattle.smithy_response.proofs.transport.Transport.next.Given as goal
 

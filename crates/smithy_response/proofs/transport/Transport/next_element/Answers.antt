@@ -1,8 +1,4 @@
-use Rattle.std.proofs.Common.{refl, sym, ap, subst, Ok, []}
-use Rattle.smithy_serde.specs.ReadCalls.{NextElement}
-use Rattle.smithy_response.specs.Routes.{in_header}
-use Rattle.smithy_response.specs.Settling.{settled_at}
-use Rattle.smithy_response.specs.Transporting.{header_at_hand, member_at_hand}
+use Rattle.smithy_response.proofs.Common.{refl, sym, ap, subst, Ok, [], NextElement, in_header, settled_at, header_at_hand, member_at_hand}
 use Rattle.smithy_response.proofs.Containers.{bound_prefix, prefix_below}
 use Rattle.smithy_response.proofs.transport.Transport.next_element.Goals as goal
 

@@ -1,8 +1,5 @@
-use Rattle.std.proofs.Common.{sym, subst}
+use Rattle.smithy_response.proofs.Common.{sym, subst, IsIn, NextEntry, prefixed_in, prefix_at_hand, member_at_hand}
 use Rattle.smithy_serde.specs.declared.scalar.Group.TheVariants as group
-use Rattle.smithy_serde.specs.ReadCalls.{IsIn, NextEntry}
-use Rattle.smithy_response.specs.PrefixedHeaders.{prefixed_in}
-use Rattle.smithy_response.specs.Transporting.{prefix_at_hand, member_at_hand}
 use Rattle.smithy_response.proofs.Containers.{at_entries}
 use Rattle.smithy_response.proofs.transport.Transport.next_entry.Goals as goal
 

@@ -1,11 +1,4 @@
-use Rattle.std.proofs.Common.{refl, sym, ap, subst, []}
-use Rattle.smithy_schema.specs.References.{schema_of}
-use Rattle.smithy_serde.specs.HeldReads.{status_refusal, raw_refusal}
-use Rattle.smithy_serde.specs.ReadCalls.{OpensAt, NotOpened}
-use Rattle.smithy_serde.specs.Refusals.{IsRefusal}
-use Rattle.smithy_response.specs.Routes.{in_header}
-use Rattle.smithy_response.specs.Settling.{settled_at}
-use Rattle.smithy_response.specs.Transporting.{header_at_hand, member_at_hand}
+use Rattle.smithy_response.proofs.Common.{refl, sym, ap, subst, [], schema_of, status_refusal, raw_refusal, OpensAt, NotOpened, IsRefusal, in_header, settled_at, header_at_hand, member_at_hand}
 use Rattle.smithy_response.proofs.Containers.{bound_prefix, prefix_below, status_not_opened, raw_not_opened}
 use Rattle.smithy_response.proofs.transport.Transport.open.Goals as goal
 

@@ -1,8 +1,4 @@
-use Rattle.std.proofs.Common.{sym, subst, []}
-use Rattle.smithy_schema.specs.References.{schema_of}
-use Rattle.smithy_serde.specs.ReadCalls.{scalar_of_read, Reads}
-use Rattle.smithy_response.specs.PrefixedHeaders.{prefixed_in}
-use Rattle.smithy_response.specs.Transporting.{member_at_hand}
+use Rattle.smithy_response.proofs.Common.{sym, subst, [], schema_of, scalar_of_read, Reads, prefixed_in, member_at_hand}
 use Rattle.smithy_response.proofs.transport.Transport.read.Goals as goal
 
 pub returns-in-Header-clause-reads : goal.returns-in-Header-clause-reads

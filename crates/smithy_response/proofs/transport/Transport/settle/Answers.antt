@@ -1,8 +1,4 @@
-use Rattle.std.proofs.Common.{sym, subst}
-use Rattle.smithy_serde.specs.Held.{IsAnswer}
-use Rattle.smithy_response.specs.Routes.{in_header, in_prefix}
-use Rattle.smithy_response.specs.Settling.{settled_at}
-use Rattle.smithy_response.specs.Transporting.{member_settled}
+use Rattle.smithy_response.proofs.Common.{sym, subst, IsAnswer, in_header, in_prefix, settled_at, member_settled}
 use Rattle.smithy_response.proofs.transport.Transport.settle.Goals as goal
 
 pub returns-in-Header : goal.returns-in-Header

@@ -1,19 +1,8 @@
 -- What the part of a response that needs no reader of its body has at hand, and what it hands out next.
 use Rattle.std.specs.Prelude.{◌≡◌, ◌<◌, ◌≤◌, ◌⊎◌, ℕ, codes, ◌-◌, Bool, true, false, List, [], ◌∷◌, ◌++◌, map, filter_map, drop, length, slice_get, Option, Some, None, option_map, Result, Ok, Err, IfOk}
-use Rattle.std.specs.Option.{option_map_or}
-use Rattle.smithy_http.specs.Responses.{Response}
-use Rattle.smithy_schema.specs.Nodes.{Schema, at_place, name_of}
-use Rattle.smithy_schema.specs.References.{schema_of}
-use Rattle.smithy_serde.specs.declared.error.SerdeError.{SerdeError}
-use Rattle.smithy_serde.specs.declared.error.SerdeError.TheVariants.{InvalidInput, OutOfMemory}
-use Rattle.smithy_serde.specs.declared.scalar.Group.{Group}
+use Rattle.smithy_response.specs.Words.{option_map_or, Response, Schema, at_place, name_of, schema_of, SerdeError, InvalidInput, OutOfMemory, Group, Held, Prefixed, Answer, levels_of, Slot, at_member, at_element, at_key, all_of, contents, contents_at, told_at, ScalarKind, ReadScalar, Frame, AtHand, Gives, scalar_of_read, Reads, OpensAt, IsMember, NonUtf8HeaderHandling}
 use Rattle.smithy_serde.specs.declared.scalar.Group.TheVariants as group
 use Rattle.smithy_serde.specs.Held as held
-use Rattle.smithy_serde.specs.Held.{Held, Prefixed, Answer, levels_of}
-use Rattle.smithy_serde.specs.Listings.{Slot, at_member, at_element, at_key, all_of, contents, contents_at, told_at}
-use Rattle.smithy_serde.specs.declared.read_scalar.ScalarKind.{ScalarKind}
-use Rattle.smithy_serde.specs.declared.read_scalar.ReadScalar.{ReadScalar}
-use Rattle.smithy_serde.specs.ReadCalls.{Frame, AtHand, Gives, scalar_of_read, Reads, OpensAt, IsMember}
 use Rattle.smithy_response.specs.declared.parts.BoundMember.{BoundMember}
 use Rattle.smithy_response.specs.declared.parts.BoundMember.TheVariants as bound
 use Rattle.smithy_response.specs.declared.parts.HeaderAtHand.{HeaderAtHand}
@@ -25,7 +14,6 @@ use Rattle.smithy_response.specs.declared.transport.Transport.{Transport}
 use Rattle.smithy_response.specs.declared.transport.Turn.{Turn}
 use Rattle.smithy_response.specs.declared.transport.Turn.TheVariants as turn
 use Rattle.smithy_response.specs.PrefixedHeaders.{values_named, prefixed_in}
-use Rattle.smithy_http.specs.declared.non_utf8.NonUtf8HeaderHandling.{NonUtf8HeaderHandling}
 use Rattle.smithy_response.specs.Routes.{Source, in_header, in_prefix, Route, passed_over, handed_out, handed_body, refused, route_at}
 use Rattle.smithy_response.specs.Settling.{settled, settled_at}
 use Rattle.smithy_response.specs.Handed.{Ended, routed, before_rest}

@@ -1,28 +1,37 @@
 -- Which calls of a response's reader are its body's reader's, and what the others answer.
 use Rattle.std.specs.Prelude.{◌≡◌, ℕ, Bool, true, false, List, [], ◌∷◌, Option, Some, None, Result, Ok, Err}
-use Rattle.smithy_schema.specs.Nodes.{Schema}
-use Rattle.smithy_schema.specs.declared.schema_ref.SchemaRef.{SchemaRef}
-use Rattle.smithy_serde.specs.declared.deserializer.ShapeDeserializer.{Ghosts}
-use Rattle.smithy_serde.specs.declared.error.SerdeError.{SerdeError}
-use Rattle.smithy_serde.specs.declared.read_scalar.ScalarKind.{ScalarKind}
-use Rattle.smithy_serde.specs.declared.read_scalar.ReadScalar.{ReadScalar}
-use Rattle.smithy_serde.specs.declared.scalar.Group.{Group}
+use Rattle.smithy_response.specs.Words.{Schema, SchemaRef, Ghosts, SerdeError, ScalarKind, ReadScalar, Group, Answer, Frame, AtHand, scalar_of_read, Reads, Skips, OpensAt, NextMember, NextElement, NextEntry, TellsNull}
 use Rattle.smithy_serde.specs.declared.scalar.Group.TheVariants as group
-use Rattle.smithy_serde.specs.Held.{Answer}
 use Rattle.smithy_serde.specs.Unchanged.{DoesNothing}
-use Rattle.smithy_serde.specs.ReadCalls.{Frame, AtHand, scalar_of_read, Reads, Skips, OpensAt, NextMember, NextElement, NextEntry, TellsNull}
 use Rattle.smithy_response.specs.declared.parts.BoundMember.{BoundMember}
-use Rattle.smithy_response.specs.Transporting.{is_nothing, RefusesNothing}
+use Rattle.smithy_response.specs.views.Transporting.{is_nothing, RefusesNothing}
 use Rattle.smithy_response.specs.declared.composite.CompositeReader.{CompositeReader}
 use Rattle.smithy_response.specs.declared.response_reader.ResponseReader.{ResponseReader}
 use Rattle.smithy_response.specs.declared.response_reader.ResponseReader.TheVariants.{BodyOnly, Composite}
 use Rattle.smithy_response.specs.declared.stage.Stage.{Stage}
 use Rattle.smithy_response.specs.declared.stage.Stage.TheVariants as stage
-use Rattle.smithy_response.specs.Frames.{composite_at_hand}
+use Rattle.smithy_response.specs.views.Frames.{composite_at_hand, at_structure, at_body}
 
 -- what is seen of a reader of bound members and of the body
 abbrev pub seen : {D : Type 0} {is_read : Ghosts D} → (D → AtHand) → CompositeReader D is_read → AtHand
 seen at c = composite_at_hand c.stage c.transport (at c.body.reader)
+
+-- the calls that each reader answers, by what is seen of it
+abbrev pub ReadsSeen : {R : Type 0} → (R → AtHand) → ScalarKind → Schema → R → R → Result ReadScalar SerdeError → Type 0
+ReadsSeen at k node old new result = Reads scalar_of_read k node (at old) (at new) result
+
+abbrev pub OpensSeen : {R : Type 0} → (R → AtHand) → Group → Schema → R → R → Answer → Type 0
+OpensSeen at g node old new result = OpensAt g node (at old) (at new) result
+
+abbrev pub NextMemberSeen : {R : Type 0} → (R → AtHand) → Schema → R → R → Result (Option SchemaRef) SerdeError → Type 0
+NextMemberSeen at node old new result = NextMember node (at old) (at new) result
+
+-- the next member behind a bound one, or behind one that the payload is for, and behind a field of the body
+abbrev pub NextBound : {D : Type 0} {is_read : Ghosts D} → (D → AtHand) → (is_given : Bool) → Schema → CompositeReader D is_read → CompositeReader D is_read → Result (Option SchemaRef) SerdeError → Type 0
+NextBound at is_given node old new result = NextMember node (at_structure old.transport is_given (at old.body.reader)) (seen at new) result
+
+abbrev pub NextField : {D : Type 0} {is_read : Ghosts D} → (D → AtHand) → Schema → CompositeReader D is_read → CompositeReader D is_read → Result (Option SchemaRef) SerdeError → Type 0
+NextField at node old new result = NextMember node (at_body old.transport (at old.body.reader)) (seen at new) result
 
 -- How far a response's reader has come, if it reads more than the body, and what is seen of its body's reader.
 pub record Standing : Type 0 where

@@ -1,22 +1,15 @@
 -- What is seen of a response's reader, told by what is seen of its body's reader.
 use Rattle.std.specs.Prelude.{◌≡◌, ℕ, suc, ◌+◌, ◌-◌, Bool, true, false, List, [], ◌∷◌, ◌++◌, map, filter, length, Option, Some, None, option_map, MatchOption, Result, Ok, Err}
 use Rattle.std.proofs.Common.{ap, refl, subst, ◌∙◌}
-use Rattle.smithy_schema.specs.Nodes.{Schema}
-use Rattle.smithy_serde.specs.declared.error.SerdeError.{SerdeError}
-use Rattle.smithy_serde.specs.declared.scalar.Group.{Group}
+use Rattle.smithy_response.specs.Words.{Schema, SerdeError, Group, Held, Answer, Slot, at_member, at_element, at_key, Listing, listing_of, as_it_is, contents, Frame, AtHand, Response, NonUtf8HeaderHandling}
 use Rattle.smithy_serde.specs.declared.scalar.Group.TheVariants as group
-use Rattle.smithy_serde.specs.Held.{Held, Answer}
 use Rattle.smithy_serde.specs.HeldReads.{elements, entries, fields}
-use Rattle.smithy_serde.specs.Listings.{Slot, at_member, at_element, at_key, Listing, listing_of, as_it_is, contents}
-use Rattle.smithy_serde.specs.ReadCalls.{Frame, AtHand}
 use Rattle.smithy_response.specs.declared.stage.Stage.{Stage}
 use Rattle.smithy_response.specs.declared.stage.Stage.TheVariants as stage
 use Rattle.smithy_response.specs.declared.transport.Transport.{Transport}
 use Rattle.smithy_response.specs.Handed.{is_unbound, routed, body_part, handed}
-use Rattle.smithy_http.specs.Responses.{Response}
-use Rattle.smithy_http.specs.declared.non_utf8.NonUtf8HeaderHandling.{NonUtf8HeaderHandling}
 use Rattle.smithy_response.specs.Settling.{settled}
-use Rattle.smithy_response.specs.Transporting.{transport_at_hand, transport_settled, members_from}
+use Rattle.smithy_response.specs.views.Transporting.{transport_at_hand, transport_settled, members_from}
 
 -- the listing with other answers of `settle`
 abbrev pub resettled : (Slot → SerdeError → Answer) → Listing → Listing

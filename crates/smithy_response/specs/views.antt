@@ -1,0 +1,4 @@
+pub mod BodyCalls
+pub mod Frames
+pub mod Stages
+pub mod Transporting
