@@ -4,13 +4,13 @@ use Rattle.std.specs.List.{AllByRecursion}
 use Rattle.smithy_router.specs.Routes.{Route, IsRoute}
 use Rattle.smithy_router.specs.Ranking.{Conflicts}
 use Rattle.smithy_router.specs.Deciding.{conflicts}
-use Rattle.smithy_router.specs.Tables.{Entry, IsApartFrom, AreApart, IsBestOf, best_after}
+use Rattle.smithy_router.specs.Tables.{Entry, IsApartFrom, AreApart}
 use Rattle.smithy_router.specs.Adding.{ConflictsFirst, IsConflict, TellsConflict, AddsRoute, AddsTemplate, with_last}
 use Rattle.smithy_router.specs.Gives.{Gives}
 use Rattle.smithy_router.specs.declared.error.RouteError.{RouteError}
 use Rattle.smithy_router.specs.declared.error.RouteError.TheVariants as fault
 use Rattle.smithy_router.proofs.Ranks.{conflicts_holds, conflicts_found}
-use Rattle.smithy_router.proofs.Best.{all_append, scan_finds}
+use Rattle.smithy_router.proofs.Best.{all_append}
 
 -- each entry has a route
 pub routes_of : (es : List Entry) → AreApart es → AllByRecursion (λ e. IsRoute e.route) es
@@ -52,11 +52,7 @@ pub apart_more : (es : List Entry) (e : Entry) → AreApart es → IsRoute e.rou
 apart_more [] e h r a = (r, (tt, tt))
 apart_more (x ∷ es) e h r a = (h.0, (all_append (λ (o : Entry). ¬ (Conflicts x.route o.route)) es (e ∷ []) h.1.0 (a.0, tt), apart_more es e h.1.1 r a.1))
 
--- what the scan found, by its operation
-pub best_found : (method target : List ℕ) (es : List Entry) (best : Option Entry) → AreApart es → best ≡ best_after method target None es → IsBestOf method target es best
-best_found method target es best apart e = subst (IsBestOf method target es) (sym e) (scan_finds method target es apart)
-
--- and its refusal
+-- the refusal of a route that conflicts
 pub tells_first : (r : Route) (es : List Entry) (f : Entry) (e : RouteError) → IsRoute r → AreApart es → IsConflict e f.operation → Some f ≡ find (λ x. conflicts x.route r) es → TellsConflict es r e
 tells_first r es f fault.Template h all c is = absurd c
 tells_first r es f (fault.Conflict other) h all c is = subst (ConflictsFirst es r) (sym c) (first_found r es f h (routes_of es all) (sym is))

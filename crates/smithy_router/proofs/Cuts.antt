@@ -7,6 +7,7 @@ use Rattle.std.proofs.lemmas.List.Splits.{slice_split_first}
 use Rattle.std.proofs.lemmas.Str.Pattern.{IsSplitOnceResult, split_once_first}
 use Rattle.smithy_types.specs.Texts.{has_byte}
 use Rattle.smithy_router.specs.Routes.{Route, fits_target}
+use Rattle.smithy_router.specs.Seen.{CutsAt, CutsTarget}
 
 split_none : (c : ℕ) (xs : List ℕ) → position_or_len (λ b. b == c) xs ≡ length xs → slice_split (λ b. b == c) xs ≡ xs ∷ []
 split_none c [] e = refl
@@ -16,9 +17,6 @@ split_none c (x ∷ xs) e = go (x == c) e (λ e. split_none c xs e)
         → cond b ([] ∷ slice_split (λ b. b == c) xs) (onto_first x (slice_split (λ b. b == c) xs)) ≡ (x ∷ xs) ∷ []
     go true e rest = absurd (omega (arith, e))
     go false e rest = rw (rest (omega (arith, e))) refl
-
-abbrev pub CutsAt : ℕ → List ℕ → Option (Bor (List ℕ) × Bor (List ℕ)) → Type 0
-CutsAt c bs r = MatchOption r (slice_split (λ b. b == c) bs ≡ bs ∷ []) (λ x. slice_split (λ b. b == c) bs ≡ x.0.now ∷ slice_split (λ b. b == c) x.1.now)
 
 -- where the parts stand, in the words of positions
 cuts : (c : ℕ) (bs : List ℕ) (r : Option (Bor (List ℕ) × Bor (List ℕ)))
@@ -53,16 +51,11 @@ has_some c (x ∷ xs) e = go (x == c) e (λ e. has_some c xs e)
     go true e rest = refl
     go false e rest = rest (omega (arith, e))
 
-abbrev pub CutsPath : List ℕ → Option (Bor (List ℕ) × Bor (List ℕ)) → Type 0
-CutsPath bs r =
-    MatchOption r ((has_byte 63 bs ≡ false) × (before_first (λ b. b == 63) bs ≡ bs))
-    (λ x. (has_byte 63 bs ≡ true) × (x.0.now ≡ before_first (λ b. b == 63) bs) × (x.1.now ≡ after_first (λ b. b == 63) bs))
-
-pub cuts_at_question : (bs : List ℕ) (r : Option (Bor (List ℕ) × Bor (List ℕ))) → IsSplitOnceResult 63 bs r → CutsPath bs r
+pub cuts_at_question : (bs : List ℕ) (r : Option (Bor (List ℕ) × Bor (List ℕ))) → IsSplitOnceResult 63 bs r → CutsTarget bs r
 cuts_at_question bs r h = go r (split_once_first 63 bs r h (lit< tt))
   where
     go : (r : Option (Bor (List ℕ) × Bor (List ℕ)))
-        → MatchOption r (position_or_len (λ b. b == 63) bs ≡ length bs) (λ x. (position_or_len (λ b. b == 63) bs < length bs) × (x.0.now ≡ before_first (λ b. b == 63) bs) × (x.1.now ≡ after_first (λ b. b == 63) bs)) → CutsPath bs r
+        → MatchOption r (position_or_len (λ b. b == 63) bs ≡ length bs) (λ x. (position_or_len (λ b. b == 63) bs < length bs) × (x.0.now ≡ before_first (λ b. b == 63) bs) × (x.1.now ≡ after_first (λ b. b == 63) bs)) → CutsTarget bs r
     go None e = has_none 63 bs e
     go (Some x) (l, before, after) = (has_some 63 bs l, before, after)
 

@@ -5,7 +5,9 @@ pub mod Laws
 pub mod QueryPieces
 pub mod Ranking
 pub mod Routes
+pub mod Search
 pub mod Seen
 pub mod Segments
 pub mod Tables
 pub mod Templates
+pub mod Tree

@@ -1,9 +1,9 @@
 -- Lists of routes, each with its operation.
-use Rattle.std.specs.Prelude.{◌≡◌, ℕ, List, [], ◌∷◌, ◌++◌, Option, Some, None, IsTrue, if◌then◌else◌}
+use Rattle.std.specs.Prelude.{◌≡◌, ℕ, List, [], ◌∷◌, ◌++◌, Option, Some, None, find, IsTrue, if◌then◌else◌}
 use Rattle.std.specs.List.{AllByRecursion}
 use Rattle.smithy_router.specs.Routes.{Route, IsRoute, matches}
 use Rattle.smithy_router.specs.Ranking.{Beats, Conflicts}
-use Rattle.smithy_router.specs.Deciding.{beats}
+use Rattle.smithy_router.specs.Deciding.{beats, conflicts}
 
 -- a route and the name of its operation
 pub record Entry : Type 0 where
@@ -31,6 +31,10 @@ pub record IsBest (method : List ℕ) (target : List ℕ) (entries : List Entry)
   pub matched : IsTrue (matches entry.route method target)
   pub beats_others : AllByRecursion (λ o. IsTrue (matches o.route method target) → Beats entry.route o.route) (before ++ after)
 
+-- the first entry that the route conflicts with
+abbrev pub first_conflict : Route → List Entry → Option Entry
+first_conflict route entries = find (λ e. conflicts e.route route) entries
+
 -- the new entry, where its route matches and there was none before or one that it beats
 abbrev pub preferred : Option Entry → Entry → Option Entry
 preferred None e = Some e
@@ -38,11 +42,6 @@ preferred (Some b) e = if beats e.route b.route then Some e else Some b
 
 abbrev pub better : List ℕ → List ℕ → Option Entry → Entry → Option Entry
 better method target best e = if matches e.route method target then preferred best e else best
-
--- the best of what was the best before and the entries, in order
-abbrev pub best_after : List ℕ → List ℕ → Option Entry → List Entry → Option Entry
-best_after method target best [] = best
-best_after method target best (e ∷ es) = best_after method target (better method target best e) es
 
 -- there is no best one exactly where none matches, and the best one is one that beats each other
 abbrev pub IsBestOf : List ℕ → List ℕ → List Entry → Option Entry → Type 0

@@ -87,6 +87,10 @@ sound_parts query ps = if is_sound ps query then Some ps else None
 abbrev pub parts_of : List ℕ → Option (List Part)
 parts_of path = each part_of (slice_split (λ b. b == 47) path)
 
+-- those of them that are sound before this query
+abbrev pub sound_parts_of : List ℕ → List ℕ → Option (List Part)
+sound_parts_of query path = option_and_then (sound_parts query) (parts_of path)
+
 -- the parts of the path, where each segment is one
 abbrev pub path_parts : List ℕ → Option (List Part)
 path_parts template = each part_of (segments_of (before_first is_question_mark template))

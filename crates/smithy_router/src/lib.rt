@@ -3,15 +3,18 @@
 
 mod error;
 pub mod laws;
+mod node;
 mod path;
 mod query;
 mod routable;
 mod route;
 mod routes;
+mod search;
 mod segment;
 mod table;
 mod template;
 mod template_route;
+mod tree;
 
 pub use error::RouteError;
 pub use routes::Routes;

@@ -1,16 +1,15 @@
 // Paths of routes against the paths of targets and of other routes.
-ghost use Rattle.std.specs.Prelude.{◌≡◌, ◌==◌, ◌∷◌, [], MatchOption, map};
+ghost use Rattle.std.specs.Prelude.{◌≡◌, ◌==◌, ◌∷◌, map};
 ghost use Rattle.std.specs.List.{slice_split};
 ghost use Rattle.smithy_router.specs.Segments.{fits_path, fits_end, fits_greedy};
-ghost use Rattle.smithy_router.specs.Deciding.{paths_stand, rest_stands, end_meets, meets_greedy};
-ghost use Rattle.smithy_router.specs.Seen.{segment_seen, parts_left};
+ghost use Rattle.smithy_router.specs.Deciding.{rest_stands, end_meets, meets_greedy};
+ghost use Rattle.smithy_router.specs.Seen.{segment_seen, stored_paths_stand, parts_left, CutsAt, TakesPart};
 
 use crate::segment::{PathSegment, Relation};
 
 // The text before the first `/` and the text behind it.
 fn split_at_slash<'t>(text: &'t str) -> Option<(&'t str, &'t str)>
-    ensures { MatchOption result (slice_split (λ b. b == 47) text.now ≡ text.now ∷ [])
-        (λ x. slice_split (λ b. b == 47) text.now ≡ x.0.now ∷ slice_split (λ b. b == 47) x.1.now) }
+    ensures { CutsAt 47 text.now result }
 {
     text.split_once('/')
 }
@@ -27,8 +26,7 @@ fn cut_segment<'t>(text: &'t str) -> (&'t str, Option<&'t str>)
 
 /// The first segment of what is left of a path, and what is left behind it. Takes no memory.
 pub fn next_segment<'t>(rest: Option<&'t str>) -> Option<(&'t str, Option<&'t str>)>
-    ensures { MatchOption result (parts_left 47 rest.entry ≡ [])
-        (λ x. parts_left 47 rest.entry ≡ x.0.now ∷ parts_left 47 x.1) }
+    ensures { TakesPart 47 rest.entry result }
 {
     match rest {
         Some(text) => Some(cut_segment(text)),
@@ -127,8 +125,7 @@ pub fn stand(
     other_is_greedy: bool,
     others: &[PathSegment],
 ) -> bool
-    ensures { let qs = map segment_seen others.now in
-        result ≡ paths_stand relation is_greedy (map segment_seen segments.now) other_is_greedy qs }
+    ensures { result ≡ stored_paths_stand relation is_greedy segments.now other_is_greedy others.now }
 {
     let mut rest = others;
     for (i, p) in segments.iter().enumerate() {

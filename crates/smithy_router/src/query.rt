@@ -1,8 +1,8 @@
 // Pieces of queries against the pieces of routes.
-ghost use Rattle.std.specs.Prelude.{◌≡◌, ◌==◌, ◌∷◌, ◌++◌, ◌<◌, [], Some, None, MatchOption, map, string_bytes};
+ghost use Rattle.std.specs.Prelude.{◌≡◌, ◌==◌, ◌∷◌, map, string_bytes};
 ghost use Rattle.std.specs.List.{slice_split};
 ghost use Rattle.smithy_router.specs.QueryPieces.{name_of, first_named, is_same_piece, keeps_first, fits_query};
-ghost use Rattle.smithy_router.specs.Seen.{parts_left, text_seen, in_a_row};
+ghost use Rattle.smithy_router.specs.Seen.{parts_left, text_seen, in_a_row, CutsAt, TakesPart};
 
 // The name of a piece, which stands before the first `=`.
 fn name_of<'p>(piece: &'p str) -> &'p str
@@ -16,8 +16,7 @@ fn name_of<'p>(piece: &'p str) -> &'p str
 
 // The text before the first `&` and the text behind it.
 fn split_at_ampersand<'t>(text: &'t str) -> Option<(&'t str, &'t str)>
-    ensures { MatchOption result (slice_split (λ b. b == 38) text.now ≡ text.now ∷ [])
-        (λ x. slice_split (λ b. b == 38) text.now ≡ x.0.now ∷ slice_split (λ b. b == 38) x.1.now) }
+    ensures { CutsAt 38 text.now result }
 {
     text.split_once('&')
 }
@@ -34,8 +33,7 @@ fn cut_piece<'t>(text: &'t str) -> (&'t str, Option<&'t str>)
 
 /// The first piece of what is left of a query, and what is left behind it. Takes no memory.
 pub fn next_piece<'t>(rest: Option<&'t str>) -> Option<(&'t str, Option<&'t str>)>
-    ensures { MatchOption result (parts_left 38 rest.entry ≡ [])
-        (λ x. parts_left 38 rest.entry ≡ x.0.now ∷ parts_left 38 x.1) }
+    ensures { TakesPart 38 rest.entry result }
 {
     match rest {
         Some(text) => Some(cut_piece(text)),
@@ -145,11 +143,8 @@ pub fn covers(wanted: &[String], others: &[String]) -> bool
 }
 
 /// Whether some query fits both: the pieces and then the others do. Takes no memory.
-#[tactic(auto, unfolding(crate::specs::Seen::in_a_row))]
 pub fn meet(pieces: &[String], others: &[String]) -> bool
-    ensures { result
-        ≡ fits_query (map string_bytes others.now)
-        (map string_bytes pieces.now ++ map string_bytes others.now) }
+    ensures { result ≡ fits_query (map string_bytes others.now) (in_a_row pieces.now others.now) }
 {
     fits_pieces(others, pieces, others)
 }

@@ -1,11 +1,10 @@
 // Which templates have a route.
-ghost use Rattle.std.specs.Prelude.{◌≡◌, ◌==◌, ◌++◌, IfOk, OnOk, map, string_bytes, option_and_then};
-ghost use Rattle.std.specs.List.{slice_split, list_any};
-ghost use Rattle.smithy_types.specs.Results.{each};
+ghost use Rattle.std.specs.Prelude.{◌≡◌, ◌==◌, ◌++◌, IfOk, OnOk, map, string_bytes};
+ghost use Rattle.std.specs.List.{list_any};
 ghost use Rattle.smithy_types.specs.Texts.{has_byte};
 ghost use Rattle.smithy_router.specs.Gives.{Gives};
-ghost use Rattle.smithy_router.specs.Seen.{part_seen, query_seen};
-ghost use Rattle.smithy_router.specs.Templates.{part_of, is_named, is_sound_part, are_sound, filled_part, filled_path, is_sound, sound_parts};
+ghost use Rattle.smithy_router.specs.Seen.{part_seen, parts_seen, query_seen};
+ghost use Rattle.smithy_router.specs.Templates.{is_named, is_sound_part, are_sound, filled_part, filled_path, is_sound, sound_parts_of};
 
 use crate::error::RouteError;
 use crate::template::{TemplatePart, has_open, parts_of};
@@ -99,7 +98,7 @@ fn push_query(target: &mut String, query: Option<&str>) -> Result<(), OutOfMemor
 // The target with `a` in each hole.
 fn filled(alloc: Global, parts: &[TemplatePart], query: Option<&str>) -> Result<String, OutOfMemory>
     ensures { IfOk result
-        (λ t. string_bytes t ≡ filled_path (map part_seen parts.now) ++ query_seen query.entry) }
+        (λ t. string_bytes t ≡ filled_path (parts_seen parts.now) ++ query_seen query.entry) }
 {
     let mut target = filled_path(alloc, parts)?;
     push_query(&mut target, query)?;
@@ -137,8 +136,7 @@ pub fn sound_parts<'t>(
     path: &'t str,
     query: Option<&str>,
 ) -> Result<Vec<TemplatePart<'t>>, RouteError>
-    ensures { Gives (λ v. map part_seen v.items) (option_and_then (sound_parts (query_seen query.entry))
-        (each part_of (slice_split (λ b. b == 47) path.now))) result }
+    ensures { Gives (λ v. parts_seen v.items) (sound_parts_of (query_seen query.entry) path.now) result }
 {
     let parts = parts_of(alloc, path)?;
     if !is_sound(alloc, &parts, query)? {

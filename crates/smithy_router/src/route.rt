@@ -1,11 +1,10 @@
 // Stored routes and how they stand to each other.
-ghost use Rattle.std.specs.Prelude.{◌≡◌, ◌==◌, true, false, MatchOption};
-ghost use Rattle.std.specs.List.{before_first, after_first};
-ghost use Rattle.smithy_types.specs.Texts.{has_byte};
+ghost use Rattle.std.specs.Prelude.{◌≡◌, ◌==◌};
+ghost use Rattle.std.specs.List.{before_first};
 ghost use Rattle.smithy_http.specs.Facts.{query_pieces};
 ghost use Rattle.smithy_router.specs.Routes.{matches, fits_target};
 ghost use Rattle.smithy_router.specs.Deciding.{covers, overlaps, beats, conflicts};
-ghost use Rattle.smithy_router.specs.Seen.{route_seen, parts_left, query_seen};
+ghost use Rattle.smithy_router.specs.Seen.{route_seen, parts_left, query_seen, CutsTarget};
 ghost use Rattle.smithy_router.specs.Templates.{query_of};
 
 use crate::segment::{PathSegment, Relation};
@@ -44,6 +43,7 @@ impl StoredRoute {
     }
 
     /// Whether some request is matched by both routes. Takes no memory.
+    #[tactic(auto, unfolding(crate::specs::Seen::in_a_row))]
     pub fn overlaps(&self, other: &StoredRoute) -> bool
         ensures { result ≡ overlaps (route_seen self.now) (route_seen other.now) }
     {
@@ -95,10 +95,7 @@ impl StoredRoute {
 
 // The text before the first `?` and the text behind it.
 fn split_at_question_mark<'t>(text: &'t str) -> Option<(&'t str, &'t str)>
-    ensures { MatchOption result
-        ((has_byte 63 text.now ≡ false) × (before_first (λ b. b == 63) text.now ≡ text.now))
-        (λ x. (has_byte 63 text.now ≡ true) × (x.0.now ≡ before_first (λ b. b == 63) text.now)
-        × (x.1.now ≡ after_first (λ b. b == 63) text.now)) }
+    ensures { CutsTarget text.now result }
 {
     text.split_once('?')
 }

@@ -1,15 +1,17 @@
 // Lists of routes.
-ghost use Rattle.std.specs.Prelude.{◌≡◌, OnOk, OnErr, IfErr, map};
-ghost use Rattle.smithy_router.specs.Adding.{AddsRoute, AddsTemplate, FindsBest, IsConflict, TellsConflict, with_last};
+ghost use Rattle.std.specs.Prelude.{◌≡◌, length, OnOk, OnErr, IfErr, map};
+ghost use Rattle.smithy_router.specs.Adding.{AddsTemplate, FindsBest, IsConflict, TellsConflict};
 ghost use Rattle.smithy_router.specs.Routes.{IsRoute};
 ghost use Rattle.smithy_router.specs.Tables.{AreApart, IsApartFrom};
 ghost use Rattle.smithy_router.specs.Templates.{route_of};
-ghost use Rattle.smithy_router.specs.Seen.{entry_seen, route_seen, text_seen};
+ghost use Rattle.smithy_router.specs.Tree.{entries_of, HasEntry, IsSound, RouteAdded, TemplateAdded};
+ghost use Rattle.smithy_router.specs.Seen.{entry_seen, route_seen, text_seen, EntryAdded};
 
 use crate::error::RouteError;
 use crate::route::{StoredEntry, StoredRoute};
-use crate::table;
 use crate::template_route::route_of;
+use crate::tree::{RouteTree, put_end};
+use crate::{search, table};
 use smithy_types::{OutOfMemory, Text};
 use std::alloc::Global;
 use std::marker::Model;
@@ -19,19 +21,19 @@ use std::marker::Model;
 #[derive(Drop)]
 pub struct Routes {
     alloc: Global,
-    entries: Vec<StoredEntry>,
+    tree: RouteTree,
 }
 
 impl Model for Routes {
-    ghost use Rattle.std.specs.Prelude.{List, map};
-    ghost use Rattle.smithy_router.specs.Tables.{Entry, AreApart};
-    ghost use Rattle.smithy_router.specs.Seen.{entry_seen};
+    ghost use Rattle.std.specs.Prelude.{List};
+    ghost use Rattle.smithy_router.specs.Tables.{Entry};
+    ghost use Rattle.smithy_router.specs.Tree.{entries_of, IsSound};
 
     ghost Value = { List Entry };
 
-    ghost view = { λ a. map entry_seen a.entries.items };
+    ghost view = { λ a. entries_of a.tree };
 
-    ghost invariant = { λ a. AreApart (map entry_seen a.entries.items) };
+    ghost invariant = { λ a. IsSound a.tree };
 }
 
 impl Routes {
@@ -46,7 +48,7 @@ impl Routes {
     {
         Routes {
             alloc,
-            entries: Vec::new(alloc),
+            tree: RouteTree::new(alloc),
         }
     }
 
@@ -54,7 +56,7 @@ impl Routes {
     pub fn len(&self) -> usize
         ensures { result ≡ length self.now }
     {
-        self.entries.len()
+        self.tree.entries.len()
     }
 
     /// Adds the route of a template, with the name of its operation. Refused with `Template` where the template isn't
@@ -67,7 +69,7 @@ impl Routes {
             operation.now self.new result }
         ensures apart { AreApart self.new }
     {
-        add_template(self.alloc, &mut self.entries, method, template, operation)
+        add_template(self.alloc, &mut self.tree, method, template, operation)
     }
 
     /// The operation of the route that matches the request and beats each other one that does, None exactly where none
@@ -76,16 +78,16 @@ impl Routes {
         ensures best { FindsBest method.now target.now self.now (text_seen result) }
         ensures apart { AreApart self.now }
     {
-        best_operation(method, target, &self.entries)
+        best_operation(&self.tree, method, target)
     }
 }
 
 // The operation of the best route that matches.
-fn best_operation<'e>(method: &str, target: &str, entries: &'e [StoredEntry]) -> Option<&'e str>
-    requires { AreApart (map entry_seen entries.now) }
-    ensures { FindsBest method.now target.now (map entry_seen entries.now) (text_seen result) }
+fn best_operation<'e>(tree: &'e RouteTree, method: &str, target: &str) -> Option<&'e str>
+    requires { IsSound tree.now }
+    ensures { FindsBest method.now target.now (entries_of tree.now) (text_seen result) }
 {
-    match table::best(method, target, entries) {
+    match search::best(tree, method, target) {
         Some(entry) => Some(entry.operation.as_str()),
         None => None,
     }
@@ -111,8 +113,7 @@ fn push_entry(
     route: StoredRoute,
     operation: &str,
 ) -> Result<(), OutOfMemory>
-    ensures ok { OnOk result (map entry_seen entries.new.items
-        ≡ with_last (map entry_seen entries.old.items) (route_seen route) operation.now) }
+    ensures ok { OnOk result (EntryAdded entries.old.items (route_seen route) operation.now entries.new.items) }
     ensures err { OnErr result (entries.new.items ≡ entries.old.items) }
 {
     let operation = String::from_str(alloc, operation)?;
@@ -120,40 +121,55 @@ fn push_entry(
     Ok(())
 }
 
+// Adds the entry of a route that conflicts with none.
+fn add_entry(
+    alloc: Global,
+    tree: &mut RouteTree,
+    route: StoredRoute,
+    operation: &str,
+) -> Result<(), OutOfMemory>
+    requires sound { IsSound tree.old }
+    requires route { IsRoute (route_seen route) }
+    requires apart { IsApartFrom (route_seen route) (entries_of tree.old) }
+    ensures ok { OnOk result (HasEntry tree.old (route_seen route) operation.now tree.new) }
+    ensures err { OnErr result (tree.new.entries.items ≡ tree.old.entries.items) }
+    ensures sound { IsSound tree.new }
+{
+    put_end(alloc, &mut tree.nodes, &route, tree.entries.len())?;
+    push_entry(alloc, &mut tree.entries, route, operation)
+}
+
 // Adds a route, unless it conflicts with one that is there.
-#[tactic(auto, using(crate::proofs::Adding::adding))]
 fn add_route(
     alloc: Global,
-    entries: &mut Vec<StoredEntry>,
+    tree: &mut RouteTree,
     route: StoredRoute,
     operation: &str,
 ) -> Result<(), RouteError>
-    requires apart { AreApart (map entry_seen entries.old.items) }
+    requires sound { IsSound tree.old }
     requires route { IsRoute (route_seen route) }
-    ensures outcome { AddsRoute (map entry_seen entries.old.items) (route_seen route) operation.now
-        (map entry_seen entries.new.items) result }
-    ensures apart { AreApart (map entry_seen entries.new.items) }
+    ensures outcome { RouteAdded tree.old (route_seen route) operation.now tree.new result }
+    ensures sound { IsSound tree.new }
 {
-    test_apart(alloc, &route, entries.as_slice())?;
-    push_entry(alloc, entries, route, operation)?;
+    test_apart(alloc, &route, tree.entries.as_slice())?;
+    add_entry(alloc, tree, route, operation)?;
     Ok(())
 }
 
 // Adds the route of a template, unless it has none or conflicts with one that is there.
 fn add_template(
     alloc: Global,
-    entries: &mut Vec<StoredEntry>,
+    tree: &mut RouteTree,
     method: &str,
     template: &str,
     operation: &str,
 ) -> Result<(), RouteError>
-    requires { AreApart (map entry_seen entries.old.items) }
-    ensures outcome { AddsTemplate (map entry_seen entries.old.items) (route_of method.now template.now)
-        operation.now (map entry_seen entries.new.items) result }
-    ensures apart { AreApart (map entry_seen entries.new.items) }
+    requires { IsSound tree.old }
+    ensures outcome { TemplateAdded tree.old (route_of method.now template.now) operation.now tree.new result }
+    ensures sound { IsSound tree.new }
 {
     let route = route_of(alloc, method, template)?;
-    add_route(alloc, entries, route, operation)
+    add_route(alloc, tree, route, operation)
 }
 
 // The refusal of a route that conflicts with that of this operation.

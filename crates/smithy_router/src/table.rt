@@ -1,7 +1,6 @@
-// Entries: the first one that a route conflicts with, and the best one that matches.
-ghost use Rattle.std.specs.Prelude.{◌≡◌, None, Some, find, map};
-ghost use Rattle.smithy_router.specs.Deciding.{conflicts};
-ghost use Rattle.smithy_router.specs.Tables.{better, preferred, best_after};
+// Entries: the first one that a route conflicts with, and the better one of two.
+ghost use Rattle.std.specs.Prelude.{◌≡◌, Some, map};
+ghost use Rattle.smithy_router.specs.Tables.{better, first_conflict, preferred};
 ghost use Rattle.smithy_router.specs.Seen.{entry_seen, route_seen, best_seen};
 
 use crate::route::{StoredEntry, StoredRoute};
@@ -11,8 +10,7 @@ pub fn first_conflict<'e>(
     route: &StoredRoute,
     entries: &'e [StoredEntry],
 ) -> Option<&'e StoredEntry>
-    ensures { best_seen result
-        ≡ find (λ e. conflicts e.route (route_seen route.now)) (map entry_seen entries.now) }
+    ensures { best_seen result ≡ first_conflict (route_seen route.now) (map entry_seen entries.now) }
 {
     for entry in entries {
         if entry.route.conflicts(route) {
@@ -38,30 +36,19 @@ fn preferred<'e>(best: Option<&'e StoredEntry>, entry: &'e StoredEntry) -> &'e S
     }
 }
 
-// The better one of the best so far and an entry, if that matches.
-fn better<'e>(
+/// The better one of the best so far and an entry, if that matches. Takes no memory.
+pub fn better<'e>(
     method: &str,
     target: &str,
     best: Option<&'e StoredEntry>,
     entry: &'e StoredEntry,
 ) -> Option<&'e StoredEntry>
-    ensures { let before = best_seen best.entry in
-        best_seen result ≡ better method.now target.now before (entry_seen entry.now) }
+    ensures { best_seen result
+        ≡ better method.now target.now (best_seen best.entry) (entry_seen entry.now) }
 {
     if entry.route.matches(method, target) {
         Some(preferred(best, entry))
     } else {
         best
     }
-}
-
-/// The entry whose route matches and beats each other one that matches. Takes no memory.
-pub fn best<'e>(method: &str, target: &str, entries: &'e [StoredEntry]) -> Option<&'e StoredEntry>
-    ensures { best_seen result ≡ best_after method.now target.now None (map entry_seen entries.now) }
-{
-    let mut best = None;
-    for entry in entries {
-        best = better(method, target, best, entry);
-    }
-    best
 }

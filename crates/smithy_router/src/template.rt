@@ -1,9 +1,9 @@
 // Templates cut into the parts of their path (Smithy, HTTP protocol bindings, http trait, uri).
-ghost use Rattle.std.specs.Prelude.{◌≡◌, ◌==◌, true, false, None, MatchOption, map, option_map};
+ghost use Rattle.std.specs.Prelude.{◌≡◌, ◌==◌, map, option_map, option_and_then};
 ghost use Rattle.smithy_types.specs.Texts.{has_byte};
 ghost use Rattle.smithy_schema.specs.Templates.{hole_of};
 ghost use Rattle.smithy_router.specs.Gives.{Gives};
-ghost use Rattle.smithy_router.specs.Seen.{part_seen, text_seen};
+ghost use Rattle.smithy_router.specs.Seen.{part_seen, text_seen, IsGreedyName};
 ghost use Rattle.smithy_router.specs.Templates.{Bound, before_close, inside_braces, part_of, parts_of};
 
 use crate::error::RouteError;
@@ -19,8 +19,7 @@ pub enum TemplatePart<'t> {
 
 // The name of a hole that is greedy.
 fn greedy_name<'t>(hole: &'t str) -> Option<&'t str>
-    ensures { MatchOption result (hole_of hole.now ≡ record { name = hole.now; greedy = false })
-        (λ x. hole_of hole.now ≡ record { name = x.now; greedy = true }) }
+    ensures { IsGreedyName hole.now result }
 {
     hole.strip_suffix('+')
 }
@@ -50,8 +49,7 @@ fn before_close<'t>(text: &'t str) -> Option<&'t str>
 
 // What stands behind a `{` at the start.
 fn behind_open<'t>(text: &'t str) -> Option<&'t str>
-    ensures { MatchOption result (inside_braces text.now ≡ None)
-        (λ x. inside_braces text.now ≡ before_close x.now) }
+    ensures { inside_braces text.now ≡ option_and_then before_close (text_seen result) }
 {
     text.strip_prefix("{")
 }

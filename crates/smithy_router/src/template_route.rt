@@ -1,8 +1,8 @@
 // The route of a template.
-ghost use Rattle.std.specs.Prelude.{◌≡◌, ◌∷◌, ◌++◌, [], IfOk, OnOk, map, string_bytes};
+ghost use Rattle.std.specs.Prelude.{◌≡◌, IfOk, OnOk, map, string_bytes};
 ghost use Rattle.smithy_router.specs.Gives.{Gives};
-ghost use Rattle.smithy_router.specs.Seen.{part_seen, parts_left, route_seen, segment_seen};
-ghost use Rattle.smithy_router.specs.Templates.{segments_in, is_greedy_hole, has_greedy, routable_parts, route_with, route_of};
+ghost use Rattle.smithy_router.specs.Seen.{part_seen, parts_left, route_seen, segment_seen, segments_seen, with_part, IsRouteWith};
+ghost use Rattle.smithy_router.specs.Templates.{segments_in, is_greedy_hole, has_greedy, routable_parts, route_of};
 
 use crate::error::RouteError;
 use crate::query::next_piece;
@@ -31,8 +31,8 @@ fn push_segment(
     segments: &mut Vec<PathSegment>,
     part: &TemplatePart,
 ) -> Result<(), OutOfMemory>
-    ensures { OnOk result (map segment_seen segments.new.items
-        ≡ map segment_seen segments.old.items ++ segments_in (part_seen part.now ∷ [])) }
+    ensures { OnOk result
+        (segments_seen segments.new.items ≡ with_part segments.old.items (part_seen part.now)) }
 {
     match part {
         TemplatePart::Fixed(text) => {
@@ -93,8 +93,7 @@ fn route_with(
     query: Option<&str>,
     parts: &[TemplatePart],
 ) -> Result<StoredRoute, OutOfMemory>
-    ensures { IfOk result
-        (λ r. route_seen r ≡ route_with method.now (parts_left 38 query.entry) (map part_seen parts.now)) }
+    ensures { IfOk result (IsRouteWith method.now query.entry parts.now) }
 {
     Ok(StoredRoute {
         method: String::from_str(alloc, method)?,

@@ -1,0 +1,4 @@
+pub mod Filled
+pub mod Matched
+pub mod Parts
+pub mod Segments

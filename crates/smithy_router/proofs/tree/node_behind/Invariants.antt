@@ -1,0 +1,11 @@
+use Rattle.std.proofs.Common.{◌<◌, drop, map, length}
+use Rattle.smithy_router.specs.Seen.{segment_seen}
+use Rattle.smithy_router.specs.Tree.{Grows, Leads}
+use Rattle.smithy_router.proofs.tree.node_behind.Given as goal
+
+abbrev pub invariant-loop-segment : goal.invariant-loop-segment
+invariant-loop-segment l = record {
+  grown : Grows l.fn.nodes.items l.nodes.items;
+  leads : Leads l.nodes.items l.start (map segment_seen l.segments) l.place (map segment_seen (drop l.segment-index l.segments));
+  within : l.place < length l.nodes.items;
+}
