@@ -21,6 +21,10 @@ static command *command_named(const char *word)
         return smithy_bind_response;
     if (strcmp(word, "rpc") == 0)
         return smithy_bind_rpc;
+    if (strcmp(word, "recover") == 0)
+        return smithy_bind_recover;
+    if (strcmp(word, "route") == 0)
+        return smithy_bind_route;
     return NULL;
 }
 

@@ -39,6 +39,12 @@ uint8_t smithy_bind_response(const uint8_t *job, size_t job_len, uint8_t *text, 
 /* The POST of a job's input as one JSON body, of content type application/json, without X-Amz-Target. */
 uint8_t smithy_bind_rpc(const uint8_t *job, size_t job_len, uint8_t *text, size_t text_room, size_t *text_len);
 
+/* The input that a job's request is of, as JSON. */
+uint8_t smithy_bind_recover(const uint8_t *job, size_t job_len, uint8_t *text, size_t text_room, size_t *text_len);
+
+/* The operation that a job's request is of, by its full name and a line feed, and its input, as JSON. */
+uint8_t smithy_bind_route(const uint8_t *job, size_t job_len, uint8_t *text, size_t text_room, size_t *text_len);
+
 #ifdef __cplusplus
 }
 #endif

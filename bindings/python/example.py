@@ -5,7 +5,7 @@ import sys
 
 import smithy_bind
 
-COMMANDS = ("request", "response", "rpc")
+COMMANDS = ("request", "response", "rpc", "recover", "route")
 
 
 def main(words):

@@ -26,7 +26,8 @@ class NoJob(Refusal):
 
 
 class Fault(Refusal):
-    """The input can't be sent, or the response can't be read: `line`, bytes with the end of the line, says why."""
+    """The input can't be sent, the response can't be read, no input has the request, or no operation is found: `line`,
+    bytes with the end of the line, says why."""
 
     status = 3
 
@@ -52,6 +53,8 @@ class Library:
         self._request = _declared(library.smithy_bind_request)
         self._response = _declared(library.smithy_bind_response)
         self._rpc = _declared(library.smithy_bind_rpc)
+        self._recover = _declared(library.smithy_bind_recover)
+        self._route = _declared(library.smithy_bind_route)
 
     def request(self, job):
         """The HTTP request of a job's input, by AWS restJson1."""
@@ -64,6 +67,14 @@ class Library:
     def rpc(self, job):
         """The POST of a job's input as one JSON body, of content type application/json, without X-Amz-Target."""
         return _answer(self._rpc, job)
+
+    def recover(self, job):
+        """The input that a job's request is of, as JSON."""
+        return _answer(self._recover, job)
+
+    def route(self, job):
+        """The operation that a job's request is of, by its full name and a line feed, and its input, as JSON."""
+        return _answer(self._route, job)
 
 
 def _declared(call):

@@ -1,5 +1,5 @@
 //! Answers the job on standard input by a command, and ends as the program does: answer request < JOB
-use smithy_bind::{request, response, rpc, Refusal};
+use smithy_bind::{recover, request, response, route, rpc, Refusal};
 use std::io::{self, Read, Write};
 use std::process::ExitCode;
 
@@ -12,6 +12,8 @@ fn run() -> u8 {
         Some("request") => request,
         Some("response") => response,
         Some("rpc") => rpc,
+        Some("recover") => recover,
+        Some("route") => route,
         _ => return 1,
     };
     let mut job = Vec::new();

@@ -40,6 +40,20 @@ extern "C" {
         text_room: usize,
         text_len: *mut usize,
     ) -> u8;
+    fn smithy_bind_recover(
+        job: *const u8,
+        job_len: usize,
+        text: *mut u8,
+        text_room: usize,
+        text_len: *mut usize,
+    ) -> u8;
+    fn smithy_bind_route(
+        job: *const u8,
+        job_len: usize,
+        text: *mut u8,
+        text_room: usize,
+        text_len: *mut usize,
+    ) -> u8;
 }
 
 /// Why there is no output.
@@ -47,7 +61,8 @@ extern "C" {
 pub enum Refusal {
     /// The bytes are no job, or its schema can't be worked by.
     NoJob,
-    /// The input can't be sent, or the response can't be read: the line that says why, with its end.
+    /// The input can't be sent, the response can't be read, no input has the request, or no operation is found: the
+    /// line that says why, with its end.
     Fault(Vec<u8>),
     /// There was not enough memory.
     OutOfMemory,
@@ -95,6 +110,16 @@ pub fn response(job: &[u8]) -> Result<Vec<u8>, Refusal> {
 /// The `POST` of a job's input as one JSON body, of content type `application/json`, without `X-Amz-Target`.
 pub fn rpc(job: &[u8]) -> Result<Vec<u8>, Refusal> {
     answer(smithy_bind_rpc, job)
+}
+
+/// The input that a job's request is of, as JSON.
+pub fn recover(job: &[u8]) -> Result<Vec<u8>, Refusal> {
+    answer(smithy_bind_recover, job)
+}
+
+/// The operation that a job's request is of, by its full name and a line feed, and its input, as JSON.
+pub fn route(job: &[u8]) -> Result<Vec<u8>, Refusal> {
+    answer(smithy_bind_route, job)
 }
 
 // What most texts fit into.

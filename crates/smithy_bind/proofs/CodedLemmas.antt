@@ -14,7 +14,7 @@ use Rattle.smithy_registry.specs.Shapes.{with_shape}
 use Rattle.smithy_serde.specs.StoredValues.{HasNode}
 use Rattle.smithy_model.specs.Nodes.{Errors}
 use Rattle.smithy_model.specs.PlacedView.{StandAt}
-use Rattle.smithy_bind.specs.CodedView.{each_value, Registers, AddsError, IsFound}
+use Rattle.smithy_bind.specs.views.CodedView.{each_value, Registers, AddsError, IsFound}
 use Rattle.smithy_bind.specs.Responding.{with_errors, error_of}
 
 -- all are registered but those at the places that are left

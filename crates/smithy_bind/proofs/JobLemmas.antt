@@ -8,13 +8,13 @@ use Rattle.smithy_job.specs.Jobs as jobs
 use Rattle.smithy_job.specs.JobView.{IsJob, nodes_of}
 use Rattle.smithy_job.specs.Tables.{Has}
 use Rattle.smithy_job.specs.declared.reading.Job.{Job}
-use Rattle.smithy_bind.specs.declared.answer.Answer.{Answer}
-use Rattle.smithy_bind.specs.AnswerView.{Gives, job_of}
+use Rattle.smithy_bind.specs.declared.told.Answer.{Answer}
+use Rattle.smithy_bind.specs.views.AnswerView.{Gives, job_of}
 use Rattle.smithy_bind.specs.Told.{Outcome, outcome_of}
 
 -- the job that is sent is the one that was read
 pub job_sent : (sends : jobs.Job → Outcome) (o : Option jobs.Job) (stored : Job) (schema : Schema) (ws : Writes) (result : Result Answer JobError)
-    → Has o (IsJob stored) → Some schema ≡ at_place stored.table stored.place.0 → ws ≡ writes_in (nodes_of stored) stored.writes
+    → Has o (IsJob stored) → Some schema ≡ at_place stored.table stored.index.0 → ws ≡ writes_in (nodes_of stored) stored.writes
     → Gives (sends (job_of schema ws stored.endpoint.now stored.omit)) result → Gives (outcome_of sends o) result
 job_sent sends (Some is) stored schema ws result has node listed told =
     let same : schema ≡ is.schema = let e : Some schema ≡ Some is.schema = node ∙ has.schema in cc in

@@ -5,15 +5,27 @@ use Rattle.std.specs.Str.Parse.{digits_value}
 use Rattle.smithy_types.specs.BigNumbers.{are_digits}
 use Rattle.smithy_model.specs.Names.{is}
 use Rattle.smithy_bind.specs.declared.command.Command.{Command}
-use Rattle.smithy_bind.specs.declared.command.Command.TheVariants.{Request, Response, Rpc, Generate, Help, Version}
+use Rattle.smithy_bind.specs.declared.command.Command.TheVariants.{Request, Response, Rpc, Recover, Route, Generate, Help, Version}
+
+-- the commands that are one word
+abbrev pub named : List (List ℕ × Command)
+named =
+    (codes "request", Request)
+    ∷ (codes "response", Response)
+    ∷ (codes "rpc", Rpc)
+    ∷ (codes "recover", Recover)
+    ∷ (codes "route", Route)
+    ∷ (codes "--help", Help)
+    ∷ (codes "--version", Version)
+    ∷ []
+
+-- the first of these that the word names
+abbrev pub named_in : List (List ℕ × Command) → List ℕ → Option Command
+named_in [] word = None
+named_in (c ∷ cs) word = if is word c.0 then Some c.1 else named_in cs word
 
 abbrev pub command_named : List ℕ → Option Command
-command_named word =
-    if is word (codes "request") then Some Request
-    else (if is word (codes "response") then Some Response
-    else (if is word (codes "rpc") then Some Rpc
-    else (if is word (codes "--help") then Some Help
-    else (if is word (codes "--version") then Some Version else None))))
+command_named word = named_in named word
 
 -- one to six digits that write at most 100,000
 unfoldable pub count_of : List ℕ → Option ℕ
@@ -32,11 +44,11 @@ command_of _ = None
 
 -- the command reads its input
 abbrev pub reads_input : Command → Bool
-reads_input Request = true
-reads_input Response = true
-reads_input Rpc = true
-reads_input _ = false
+reads_input (Generate n) = false
+reads_input Help = false
+reads_input Version = false
+reads_input _ = true
 
--- the words are a command that reads its input
-abbrev pub reads : List (List ℕ) → Bool
-reads words = option_map_or reads_input (command_of words) false
+-- what is asked for is a command that reads its input
+abbrev pub is_reading : Option Command → Bool
+is_reading c = option_map_or reads_input c false

@@ -6,7 +6,7 @@ use Rattle.smithy_ids.specs.declared.shape_type.ShapeType.TheVariants as kind
 use Rattle.smithy_http.specs.Requests.{Request}
 use Rattle.smithy_schema.specs.Nodes.{Node, Table, Schema, no_traits, bare_node}
 use Rattle.smithy_serde.specs.Values.{Value, scalar, whole, integer, long, text, list, Write, writes_of, label_of}
-use Rattle.smithy_binding.specs.Placing.{Protocol, Omit}
+use Rattle.smithy_binding.specs.Placing.{Protocol, OmitFlags}
 use Rattle.smithy_binding.specs.Answer.{answer}
 use Rattle.smithy_binding.specs.Faults.{Fault}
 
@@ -52,23 +52,34 @@ at node v = record { label = label_of (schema_at node); value = v }
 abbrev pub number : ℕ → ℕ → ℕ
 number n k = (k * k + n) % 1000
 
+abbrev pub number_value : ℕ → ℕ → Value
+number_value n k = scalar (whole integer (pos (number n k)))
+
 abbrev pub number_write : ℕ → ℕ → Write
-number_write n k = at number_node (scalar (whole integer (pos (number n k))))
+number_write n k = at number_node (number_value n k)
+
+-- n numbers
+abbrev pub numbers : ℕ → List Write
+numbers n = map (number_write n) (range_with_len 0 n)
 
 -- the k-th text, counted from 0
 abbrev pub tag_write : ℕ → Write
 tag_write k = at text_node (scalar (text (codes "t" ++ decimal k)))
 
+-- so many texts
+abbrev pub tags : ℕ → List Write
+tags count = map tag_write (range_with_len 0 count)
+
 -- the writes of the input: n, a list of n numbers, and a list of n modulo 9 texts
 abbrev pub input : ℕ → List Write
 input n =
     at id_node (scalar (whole long (pos n)))
-    ∷ at items_node (list (writes_of (map (number_write n) (range_with_len 0 n))))
-    ∷ at tags_node (list (writes_of (map tag_write (range_with_len 0 (n % 9)))))
+    ∷ at items_node (list (writes_of (numbers n)))
+    ∷ at tags_node (list (writes_of (tags (n % 9))))
     ∷ []
 
 -- both default headers are kept
-abbrev pub kept : Omit
+abbrev pub kept : OmitFlags
 kept = record { content_type = false; content_length = false }
 
 -- the request of the input, or its first fault

@@ -1,27 +1,34 @@
--- What a run answers.
-use Rattle.std.specs.Prelude.{ℕ, codes, List, Result, Ok, Err, Option, Some, None, if◌then◌else◌}
+-- What a command answers.
+use Rattle.std.specs.Prelude.{ℕ, codes, List, [], Result, Ok, Err, Option, Some, None, if◌then◌else◌}
 use Rattle.smithy_http.specs.Requests.{Request}
 use Rattle.smithy_schema.specs.Nodes.{Schema}
 use Rattle.smithy_serde.specs.Values.{Write, Writes, writes_of}
 use Rattle.smithy_serde.specs.declared.header_omit_settings.OmitFlags.{OmitFlags}
 use Rattle.smithy_binding.specs.Placing.{Protocol}
-use Rattle.smithy_binding.specs.DefaultHeaders.{omit_of}
 use Rattle.smithy_binding.specs.Answer.{answer}
 use Rattle.smithy_binding.specs.Rpc.{rpc_answer}
 use Rattle.smithy_binding.specs.Faults.{Fault}
 use Rattle.smithy_binding.specs.Checked.{checked_input}
 use Rattle.smithy_types.specs.Documents.{Document}
+use Rattle.smithy_document.specs.JsonHeld.{json_held}
 use Rattle.smithy_document.specs.JsonText.{json_text}
-use Rattle.serde_json.specs.Data.{Data}
+use Rattle.serde_json.specs.Data.{Data, null}
 use Rattle.smithy_job.specs.Jobs.{Job, job}
+use Rattle.smithy_job.specs.Recovering.{Recovering, recovering}
+use Rattle.smithy_job.specs.Routing.{routing}
+use Rattle.smithy_recovery.specs.Recovered.{Reading}
 use Rattle.smithy_bind.specs.Shown.{shown, line_of}
-use Rattle.smithy_bind.specs.Commands.{command_of}
+use Rattle.smithy_bind.specs.Commands.{command_of, reads_input}
 use Rattle.smithy_bind.specs.Told.{Outcome, usage, no_job, fault_line, output, outcome_of, by_json}
-use Rattle.smithy_bind.specs.Responding.{responded}
+use Rattle.smithy_bind.specs.Recovering.{recovered_by}
+use Rattle.smithy_bind.specs.Responding.{responded_to}
+use Rattle.smithy_bind.specs.Routing.{routed_by}
 use Rattle.smithy_bind.specs.Generating.{generated, summary}
 use Rattle.smithy_bind.specs.Texts.{help_text, version_text}
-use Rattle.smithy_bind.specs.declared.command.Command as commands
+use Rattle.smithy_bind.specs.declared.command.Command.{Command}
 use Rattle.smithy_bind.specs.declared.command.Command.TheVariants as command
+use Rattle.smithy_bind.specs.declared.sending.Sending.{Sending}
+use Rattle.smithy_bind.specs.declared.sending.Sending.TheVariants.{Rest, Rpc}
 
 -- a protocol with bodies of JSON, whose documents have this text (AWS restJson1)
 abbrev pub json_bodies : (Document → List ℕ) → Protocol
@@ -38,30 +45,49 @@ told answer = told_by shown answer
 
 -- the answer to writes, by a protocol and a schema
 abbrev pub sent : Protocol → Schema → List Write → List ℕ → OmitFlags → Outcome
-sent protocol schema ws endpoint omit = told (answer protocol schema ws endpoint (omit_of omit))
+sent protocol schema ws endpoint omit = told (answer protocol schema ws endpoint omit)
 
 -- the answer to a job, by a protocol; a schema that a request can't be placed by makes none
 unfoldable pub answered : Protocol → Job → Outcome
 answered protocol j = if checked_input j.schema then sent protocol j.schema j.writes j.endpoint j.omit else no_job
 
--- the answer to the job that a JSON value is
-unfoldable pub sent_job : (Job → Outcome) → Data → Outcome
-sent_job answer d = outcome_of answer (job d)
-
--- the answer to the bytes of a job, by a protocol
-abbrev pub requested : Protocol → List ℕ → Outcome
-requested protocol = by_json (sent_job (answered protocol))
-
 -- the answer to writes that are posted whole, by a protocol
 abbrev pub sent_whole : Protocol → Writes → List ℕ → OmitFlags → Outcome
-sent_whole protocol ws endpoint omit = told (rpc_answer protocol ws endpoint (omit_of omit))
+sent_whole protocol ws endpoint omit = told (rpc_answer protocol ws endpoint omit)
 
 -- the answer to a job, whatever its schema
 unfoldable pub called : Protocol → Job → Outcome
 called protocol j = sent_whole protocol (writes_of j.writes) j.endpoint j.omit
 
-abbrev pub rpc_requested : Protocol → List ℕ → Outcome
-rpc_requested protocol = by_json (sent_job (called protocol))
+-- the answer to a job, as its input is sent
+abbrev pub sent_by : Sending → Protocol → Job → Outcome
+sent_by Rest protocol j = answered protocol j
+sent_by Rpc protocol j = called protocol j
+
+-- the answer to the job that a JSON value is
+unfoldable pub sent_job : (Job → Outcome) → Data → Outcome
+sent_job answer d = outcome_of answer (job d)
+
+-- by bodies of JSON, a schema and an endpoint
+abbrev pub json_reading : Schema → List ℕ → Reading
+json_reading schema endpoint =
+    record { protocol = json_bodies json_text; holds = json_held; schema = schema; endpoint = endpoint }
+
+-- the answer to a request whose input is recovered
+abbrev pub recovered_job : Recovering → Outcome
+recovered_job j = recovered_by (json_reading j.schema j.endpoint) j.omit j.request
+
+-- the answer to the request that a JSON value has
+unfoldable pub recovered_to : Data → Outcome
+recovered_to d = outcome_of recovered_job (recovering d)
+
+-- by bodies of JSON and a schema with `@http`, which has no endpoint
+abbrev pub json_requests : Schema → Reading
+json_requests schema = json_reading schema []
+
+-- the answer to the request and the operations that a JSON value has
+unfoldable pub routed_to : Data → Outcome
+routed_to d = outcome_of (routed_by json_requests) (routing d)
 
 -- four lines on the request, or the first fault
 abbrev pub summed : Result Request Fault → Outcome
@@ -71,14 +97,25 @@ summed answer = told_by summary answer
 abbrev pub generated_by : Protocol → ℕ → Outcome
 generated_by protocol n = summed (generated protocol n)
 
-abbrev pub outcome_by : Option commands.Command → List ℕ → Outcome
+-- What each command answers to the JSON value of its input, where a protocol has the bodies of requests. The last three read no
+-- input, and look at no value.
+abbrev pub answer_to : Protocol → Command → Data → Outcome
+answer_to bodies command.Request d = sent_job (sent_by Rest bodies) d
+answer_to bodies command.Rpc d = sent_job (sent_by Rpc bodies) d
+answer_to bodies command.Response d = responded_to d
+answer_to bodies command.Recover d = recovered_to d
+answer_to bodies command.Route d = routed_to d
+answer_to bodies (command.Generate n) d = generated_by bodies n
+answer_to bodies command.Help d = output help_text
+answer_to bodies command.Version d = output version_text
+
+-- what a command answers to the bytes of its input
+abbrev pub answer_over : Protocol → Command → List ℕ → Outcome
+answer_over bodies c bytes = if reads_input c then by_json (answer_to bodies c) bytes else answer_to bodies c null
+
+abbrev pub outcome_by : Option Command → List ℕ → Outcome
 outcome_by None bytes = usage
-outcome_by (Some command.Request) bytes = requested (json_bodies json_text) bytes
-outcome_by (Some command.Response) bytes = responded bytes
-outcome_by (Some command.Rpc) bytes = rpc_requested (json_bodies json_text) bytes
-outcome_by (Some (command.Generate n)) bytes = generated_by (json_bodies json_text) n
-outcome_by (Some command.Help) bytes = output help_text
-outcome_by (Some command.Version) bytes = output version_text
+outcome_by (Some c) bytes = answer_over (json_bodies json_text) c bytes
 
 abbrev pub outcome : List (List ℕ) → List ℕ → Outcome
 outcome words bytes = outcome_by (command_of words) bytes

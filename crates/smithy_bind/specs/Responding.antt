@@ -23,7 +23,7 @@ use Rattle.smithy_model.specs.Nodes.{Errors}
 use Rattle.smithy_job.specs.Jobs as jobs
 use Rattle.smithy_job.specs.Jobs.{Expected, Received, received}
 use Rattle.smithy_bind.specs.Shown.{refusal_line}
-use Rattle.smithy_bind.specs.Told.{Outcome, no_job, fault_line, output, outcome_of, by_json}
+use Rattle.smithy_bind.specs.Told.{Outcome, no_job, fault_line, output, outcome_of}
 
 -- the compact JSON text of a document and the end of the line, or the line of the first rule that is broken
 abbrev pub shown_document : Result Document DocumentFault → Outcome
@@ -80,6 +80,3 @@ read_received r = read_as r.expected r.response r.policy
 -- the answer to a JSON value
 unfoldable pub responded_to : Data → Outcome
 responded_to d = outcome_of read_received (received d)
-
-abbrev pub responded : List ℕ → Outcome
-responded bytes = by_json responded_to bytes

@@ -1,10 +1,7 @@
 // The error that a response names by its code.
-ghost use Rattle.std.specs.Prelude.{◌≡◌, IfOk, OnOk};
+ghost use Rattle.std.specs.Prelude.{IfOk, OnOk};
 ghost use Rattle.smithy_serde.specs.StoredValues.{HasNode};
-ghost use Rattle.smithy_model.specs.Nodes.{Errors};
-ghost use Rattle.smithy_job.specs.ReceivedView.{IsCoded};
-ghost use Rattle.smithy_bind.specs.CodedView.{AddsError, Stand, RegistersAll, IsFound};
-ghost use Rattle.smithy_bind.specs.Responding.{error_of};
+ghost use Rattle.smithy_bind.specs.views.CodedView.{AddsError, Stand, RegistersAll, FindsCoded};
 
 use smithy_job::CodedError;
 use smithy_registry::{TypeRegistry, TypeRegistryBuilder};
@@ -53,8 +50,7 @@ pub fn error_of_code(
 ) -> Result<Option<SchemaIndex>, OutOfMemory>
     requires operation { Stand table.now error.now.operation.items }
     requires service { Stand table.now error.now.service.items }
-    ensures { IfOk result (λ place. (errors : Errors) → IsCoded table.now error.now errors →
-        IsFound table.now (error_of error.now.code.now errors) place) }
+    ensures { IfOk result (FindsCoded table.now error.now) }
 {
     let operation = registry_of(alloc, table, error.operation.as_slice())?;
     let service = registry_of(alloc, table, error.service.as_slice())?;

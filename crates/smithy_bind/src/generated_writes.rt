@@ -1,8 +1,7 @@
 // The writes of the command `generate`.
-ghost use Rattle.std.specs.Prelude.{◌≡◌, ◌+◌, ◌<◌, ◌*◌, ◌%◌, ◌++◌, codes, decimal, map, pos, IfOk};
-ghost use Rattle.std.specs.List.{range_with_len};
+ghost use Rattle.std.specs.Prelude.{◌≡◌, ◌+◌, ◌<◌, ◌*◌, ◌%◌, ◌++◌, codes, decimal, pos, IfOk};
 ghost use Rattle.smithy_schema.specs.Nodes.{Table};
-ghost use Rattle.smithy_serde.specs.Values.{scalar, whole, integer, list_of, writes_of};
+ghost use Rattle.smithy_serde.specs.Values.{list_of, writes_of};
 ghost use Rattle.smithy_serde.specs.StoredValues.{value_in, writes_in, IsDefined, AreDefined};
 ghost use Rattle.smithy_bind.specs.Generating as generating;
 
@@ -21,8 +20,7 @@ fn number_at(count: u32, place: u32) -> i32
 
 #[tactic(auto, unfolding(smithy_serde::specs::StoredValues::value_in, smithy_serde::specs::StoredValues::IsDefined))]
 fn number_value(count: u32, place: u32) -> ShapeValue
-    ensures value { (t : Table) →
-        value_in t result ≡ scalar (whole integer (pos (generating.number count place))) }
+    ensures value { (t : Table) → value_in t result ≡ generating.number_value count place }
     ensures defined { (t : Table) → IsDefined t result }
 {
     ShapeValue::Integer(number_at(count, place))
@@ -30,9 +28,7 @@ fn number_value(count: u32, place: u32) -> ShapeValue
 
 // So many numbers.
 fn numbers(alloc: Global, count: u32) -> Result<WriteList, OutOfMemory>
-    ensures writes { IfOk result (λ w.
-        writes_in generating.table w
-        ≡ writes_of (map (generating.number_write count) (range_with_len 0 count))) }
+    ensures writes { IfOk result (λ w. writes_in generating.table w ≡ writes_of (generating.numbers count)) }
     ensures defined { IfOk result (λ w. AreDefined generating.table w) }
 {
     let mut writes = WriteList::new(alloc);
@@ -51,8 +47,7 @@ fn tag(alloc: Global, place: u32) -> Result<Text, OutOfMemory>
 // So many texts.
 #[tactic(auto, unfolding(smithy_serde::specs::StoredValues::value_in, smithy_serde::specs::StoredValues::IsDefined))]
 fn tags(alloc: Global, count: u32) -> Result<WriteList, OutOfMemory>
-    ensures writes { IfOk result (λ w.
-        writes_in generating.table w ≡ writes_of (map generating.tag_write (range_with_len 0 count))) }
+    ensures writes { IfOk result (λ w. writes_in generating.table w ≡ writes_of (generating.tags count)) }
     ensures defined { IfOk result (λ w. AreDefined generating.table w) }
 {
     let mut writes = WriteList::new(alloc);

@@ -6,20 +6,20 @@ ghost use Rattle.smithy_serde.specs.ReadCalls.{Begins};
 ghost use Rattle.smithy_serde.specs.Refusing.{IsFaultRefusal};
 ghost use Rattle.smithy_serde.specs.ValueReading.{structure_of};
 ghost use Rattle.smithy_serde.specs.Values.{structure};
-ghost use Rattle.smithy_serde.specs.Writing.{TellsOne, label};
+ghost use Rattle.smithy_serde.specs.Writing.{TellsStruct};
+ghost use Rattle.smithy_document.specs.views.JsonHand.{hand};
 ghost use Rattle.smithy_document.specs.JsonHeld.{json_held};
+ghost use Rattle.smithy_document.specs.JsonSeen.{json_seen};
 ghost use Rattle.smithy_document.specs.JsonText.{json_text};
-ghost use Rattle.smithy_bind.specs.AnswerView.{Gives};
 ghost use Rattle.smithy_bind.specs.Responding.{shown_document};
+ghost use Rattle.smithy_bind.specs.views.AnswerView.{Gives};
 
-use crate::answer::Answer;
-use crate::told::refused;
+use crate::told::{Answer, refused};
 use smithy_document::{JsonCodec, JsonDeserializer, JsonSerializer, json_is_lawful};
 use smithy_model::JobError;
 use smithy_schema::SchemaRef;
 use smithy_serde::{
-    Codec, FinishSerializer, SerdeError, SerializableStruct, ShapeDeserializer, ShapeSerializer,
-    StructValue, write_struct,
+    Codec, FinishSerializer, SerdeError, SerializableStruct, StructValue, write_struct,
 };
 use smithy_types::Blob;
 use std::alloc::{AllocError, Global};
@@ -35,31 +35,28 @@ pub fn json_codec() -> JsonCodec
 
 // A serializer of JSON that was told nothing.
 fn json_serializer(alloc: Global) -> Result<JsonSerializer, SerdeError>
-    ensures ready { IfOk result (λ s. IsReady (⟦<JsonSerializer as ShapeSerializer>⟧.seen s)) }
-    ensures text { IfOk result (λ s. (⟦<JsonSerializer as ShapeSerializer>⟧.seen s).text ≡ json_text) }
+    ensures ready { IfOk result (λ s. IsReady (json_seen s)) }
+    ensures text { IfOk result (λ s. (json_seen s).text ≡ json_text) }
 {
     json_codec().create_serializer(alloc)
 }
 
 /// A reader of JSON over the bytes. It is refused only for memory.
 pub fn json_reader(alloc: Global, bytes: &[u8]) -> Result<JsonDeserializer, SerdeError>
-    ensures { IfOk result (λ d.
-        Begins (json_held bytes.now) (⟦<JsonDeserializer as ShapeDeserializer>⟧.at_hand d)) }
+    ensures { IfOk result (λ d. Begins (json_held bytes.now) (hand d)) }
 {
     json_codec().create_deserializer(alloc, bytes)
 }
 
 // Writes a structure, as `write_struct` does.
 fn write_value(
-    serializer: &mut JsonSerializer,
-    schema: SchemaRef<'_>,
+    to: &mut JsonSerializer,
+    node: SchemaRef<'_>,
     value: &dyn SerializableStruct,
 ) -> Result<(), SerdeError>
-    ensures { let seen = ⟦<JsonSerializer as ShapeSerializer>⟧.seen in
-        let told = structure (writes value.now) in
-        TellsOne (label schema.entry) told (seen serializer.old) (seen serializer.new) result }
+    ensures { TellsStruct node.entry (writes value.now) (json_seen to.old) (json_seen to.new) result }
 {
-    write_struct(serializer, schema, value)
+    write_struct(to, node, value)
 }
 
 // The text of the document of a structure that has been read.
@@ -68,9 +65,8 @@ fn struct_text(
     schema: SchemaRef<'_>,
     value: &StructValue<'_>,
 ) -> Result<Blob, SerdeError>
-    requires { IsReady (⟦<JsonSerializer as ShapeSerializer>⟧.seen serializer) }
-    ensures ok { let seen = ⟦<JsonSerializer as ShapeSerializer>⟧.seen serializer in
-        IfOk result (IsTextOf seen.text (structure_of value.now)) }
+    requires { IsReady (json_seen serializer) }
+    ensures ok { IfOk result (IsTextOf (json_seen serializer).text (structure_of value.now)) }
     ensures err { IfErr result (IsFaultRefusal (document_fault (structure_of value.now))) }
 {
     finished_text(serializer, schema, value)
@@ -78,16 +74,14 @@ fn struct_text(
 
 // The text of a structure's document.
 fn finished_text(
-    serializer: JsonSerializer,
+    mut serializer: JsonSerializer,
     schema: SchemaRef<'_>,
     value: &dyn SerializableStruct,
 ) -> Result<Blob, SerdeError>
-    requires { IsReady (⟦<JsonSerializer as ShapeSerializer>⟧.seen serializer) }
-    ensures ok { let seen = ⟦<JsonSerializer as ShapeSerializer>⟧.seen serializer in
-        IfOk result (IsTextOf seen.text (structure (writes value.now))) }
+    requires { IsReady (json_seen serializer) }
+    ensures ok { IfOk result (IsTextOf (json_seen serializer).text (structure (writes value.now))) }
     ensures err { IfErr result (IsFaultRefusal (document_fault (structure (writes value.now)))) }
 {
-    let mut serializer = serializer;
     write_value(&mut serializer, schema, value)?;
     serializer.finish()
 }

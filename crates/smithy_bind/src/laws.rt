@@ -1,11 +1,11 @@
 //! What follows from the contracts of this crate.
 
-ghost use Rattle.std.specs.Prelude.{◌≡◌, ◌<◌, ◌⊎◌, length, [], IfSome, Some};
-ghost use Rattle.smithy_bind.specs.Outcome.{outcome};
-ghost use Rattle.smithy_bind.specs.Ends.{due, text_of, input_of, HasWritten};
+ghost use Rattle.std.specs.Prelude.{◌≡◌, [], Some};
+ghost use Rattle.smithy_bind.specs.Runs.{RanInMemory};
 
-use crate::top_call::{Status, run};
-use smithy_io::{Sink, Source, SureSink, SureSource};
+use crate::ended::Status;
+use crate::top_call::run;
+use smithy_io::{Sink, SureSink, SureSource};
 use smithy_types::Words;
 use std::alloc::Global;
 
@@ -18,13 +18,7 @@ pub fn run_in_memory(
     sink: &mut SureSink,
 ) -> Status
     requires { ⟦<SureSink as Sink>⟧.written sink.old ≡ Some [] }
-    ensures due { IfSome (input_of words.now (⟦<SureSource as Source>⟧.left source.old)) (λ bytes.
-        length (text_of (outcome words.now bytes)) < ⟦<SureSink as Sink>⟧.room sink.old →
-        (result ≡ due words.now bytes) ⊎ (result ≡ Status.Memory)) }
-    ensures has_written { let written = ⟦<SureSink as Sink>⟧.written in
-        IfSome (input_of words.now (⟦<SureSource as Source>⟧.left source.old)) (λ bytes.
-        let text = text_of (outcome words.now bytes) in
-        HasWritten result (written sink.old) text (written sink.new)) }
+    ensures { RanInMemory words.now source.old sink.old sink.new result }
 {
     run(alloc, words, source, sink)
 }

@@ -1,44 +1,24 @@
 // Answers to commands over bytes that are at hand.
-ghost use Rattle.std.specs.Prelude.{◌≡◌, [], Some};
-ghost use Rattle.smithy_bind.specs.AnswerView.{Gives};
-ghost use Rattle.smithy_bind.specs.Ends.{due_at, due_of, status_of, text_of, IsInMemory, IsSettled, HasText};
+ghost use Rattle.std.specs.Prelude.{◌≡◌, ℕ, List, Some, false};
+ghost use Rattle.smithy_bind.specs.Commands.{reads_input};
+ghost use Rattle.smithy_bind.specs.Ends.{asks, due_of, EndsAs, EndsAt};
 ghost use Rattle.smithy_bind.specs.Outcome.{outcome_by};
-ghost use Rattle.smithy_bind.specs.Told.{Outcome, by_json};
 
-use crate::answer::Answer;
+use crate::answering::{answer, answer_text};
 use crate::command::Command;
-use crate::generate::generated;
+use crate::ended::{Ended, Status};
 use crate::json_value::json_codec;
-use crate::response::JsonResponses;
-use crate::sending::Sending;
-use crate::texts::{help, version};
-use crate::top_call::Status;
-use crate::work::{Work, answer_to};
-use smithy_binding::{HttpBindingProtocol, HttpRpcProtocol};
 use smithy_io::MAX_JOB_LEN;
-use smithy_json::Scratch;
-use smithy_model::JobError;
+use smithy_json::{JsonValue, Scratch};
+use smithy_serde::Codec;
 use std::alloc::Global;
-
-/// How a command ends, and what it writes.
-#[derive(Drop)]
-pub struct Ended {
-    /// One of the ends of `run` but `Usage`, `Read` and `Write`.
-    pub status: Status,
-    /// The bytes of the output or of the line of a fault, and none at every other end.
-    pub text: Vec<u8>,
-}
 
 /// How a run of the command ends and what it writes, where these bytes are its input and neither its source nor its sink
 /// fails. Takes memory for the text.
-#[inline(never)]
 pub fn answer_bytes(alloc: Global, command: Command, bytes: &[u8]) -> Ended
-    ensures memory { IsInMemory result.status }
-    ensures due { IsSettled result.status → result.status ≡ due_of command bytes.now }
-    ensures text { HasText result.status (text_of (outcome_by (Some command) bytes.now)) result.text.items }
+    ensures { EndsAs (due_of command bytes.now) (outcome_by (Some command) bytes.now) result }
 {
-    let mut scratch = Scratch::new(alloc);
-    answer_bytes_over(alloc, &mut scratch, command, bytes)
+    ended_by(alloc, command, json_codec(), bytes)
 }
 
 /// The same, over a scratch of the caller's, some 16 KiB and room for the longest of the inputs: whoever keeps one from call to
@@ -49,86 +29,47 @@ pub fn answer_bytes_over(
     command: Command,
     bytes: &[u8],
 ) -> Ended
-    ensures memory { IsInMemory result.status }
-    ensures due { IsSettled result.status → result.status ≡ due_of command bytes.now }
-    ensures text { HasText result.status (text_of (outcome_by (Some command) bytes.now)) result.text.items }
+    ensures { EndsAs (due_of command bytes.now) (outcome_by (Some command) bytes.now) result }
 {
-    match command {
-        Command::Request => {
-            let protocol = HttpBindingProtocol::rest_json(json_codec());
-            worked(alloc, scratch, &Sending { protocol }, bytes)
-        }
-        Command::Response => worked(alloc, scratch, &JsonResponses, bytes),
-        Command::Rpc => {
-            let protocol = HttpRpcProtocol::aws_json(json_codec());
-            worked(alloc, scratch, &Sending { protocol }, bytes)
-        }
-        Command::Generate(count) => {
-            let protocol = HttpBindingProtocol::rest_json(json_codec());
-            end_of(alloc, generated(alloc, &protocol, count))
-        }
-        Command::Help => said(alloc, help()),
-        Command::Version => said(alloc, version()),
-    }
+    ended_over(alloc, scratch, command, json_codec(), bytes)
 }
 
-// How the work of a command over the bytes ends.
-fn worked<W: Work>(alloc: Global, scratch: &mut Scratch, work: &W, bytes: &[u8]) -> Ended
-    requires { W.may work.now }
-    ensures memory { IsInMemory result.status }
-    ensures due { IsSettled result.status → result.status ≡ due_at (by_json (W.does work.now)) bytes.now }
-    ensures text { HasText result.status (text_of (by_json (W.does work.now) bytes.now)) result.text.items }
+/// How a command ends over these bytes, with a codec for the bodies of requests. It is no part of its caller, so that no sink is
+/// written to with the room of the scratch, some 16 KiB, on the stack. Takes memory. Condition: the codec is lawful.
+#[inline(never)]
+pub fn ended_by<C: Codec + Drop>(alloc: Global, command: Command, codec: C, bytes: &[u8]) -> Ended
+    requires { C.lawful codec }
+    ensures { EndsAt (asks command (C.text codec)) bytes.now result }
 {
+    let mut scratch = Scratch::new(alloc);
+    ended_over(alloc, &mut scratch, command, codec, bytes)
+}
+
+// The same over a scratch of the caller's.
+fn ended_over<C: Codec + Drop>(
+    alloc: Global,
+    scratch: &mut Scratch,
+    command: Command,
+    codec: C,
+    bytes: &[u8],
+) -> Ended
+    requires { C.lawful codec }
+    ensures { EndsAt (asks command (C.text codec)) bytes.now result }
+{
+    if !command.reads_input() {
+        return ended_without(alloc, command, codec);
+    }
     if bytes.len() > MAX_JOB_LEN {
-        return silent(alloc, Status::TooLong);
+        return Ended::silent(alloc, Status::TooLong);
     }
-    end_of(alloc, answer_to(alloc, scratch, work, bytes))
+    Ended::of(alloc, answer_text(alloc, scratch, command, codec, bytes))
 }
 
-// The end of what was answered.
-fn end_of(alloc: Global, answer: Result<Answer, JobError>) -> Ended
-    ensures memory { IsInMemory result.status }
-    ensures due { (told : Outcome) → Gives told answer →
-        IsSettled result.status → result.status ≡ status_of told }
-    ensures text { (told : Outcome) → Gives told answer →
-        HasText result.status (text_of told) result.text.items }
+/// How a command ends that reads no input. Takes memory. Conditions: it reads none, and the codec is lawful.
+pub fn ended_without<C: Codec + Drop>(alloc: Global, command: Command, codec: C) -> Ended
+    requires reads { reads_input command ≡ false }
+    requires lawful { C.lawful codec }
+    ensures { (bytes : List ℕ) → EndsAt (asks command (C.text codec)) bytes result }
 {
-    match answer {
-        Ok(Answer::Fault(text)) => Ended {
-            status: Status::Fault,
-            text,
-        },
-        Ok(Answer::Output(text)) => Ended {
-            status: Status::Done,
-            text,
-        },
-        Err(JobError::NoJob) => silent(alloc, Status::Job),
-        Err(JobError::OutOfMemory) => silent(alloc, Status::Memory),
-    }
-}
-
-// A text of the program about itself.
-fn said(alloc: Global, text: &[u8]) -> Ended
-    ensures memory { IsInMemory result.status }
-    ensures due { IsSettled result.status → result.status ≡ Status.Done }
-    ensures text { HasText result.status text.now result.text.items }
-{
-    match Vec::from_slice(alloc, text) {
-        Ok(text) => Ended {
-            status: Status::Done,
-            text,
-        },
-        Err(_) => silent(alloc, Status::Memory),
-    }
-}
-
-// An end at which nothing is written.
-fn silent(alloc: Global, status: Status) -> Ended
-    ensures status { result.status ≡ status }
-    ensures text { result.text.items ≡ [] }
-{
-    Ended {
-        status,
-        text: Vec::new(alloc),
-    }
+    Ended::of(alloc, answer(alloc, command, codec, &JsonValue::Null))
 }

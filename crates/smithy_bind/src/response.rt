@@ -1,18 +1,16 @@
 // The command `response`: the value of a response.
-ghost use Rattle.std.specs.Prelude.{◌≡◌, ◌++◌, codes, [], Some, unwrap_or, IfOk, string_bytes};
+ghost use Rattle.std.specs.Prelude.{◌≡◌, ◌++◌, codes, Some, IfOk};
+ghost use Rattle.smithy_json.specs.JsonView.{view};
 ghost use Rattle.smithy_schema.specs.Nodes.{at_place};
 ghost use Rattle.smithy_schema.specs.References.{schema_of};
 ghost use Rattle.smithy_serde.specs.StoredValues.{HasNode};
-ghost use Rattle.smithy_model.specs.Nodes.{Errors};
-ghost use Rattle.smithy_job.specs.ReceivedView.{IsCoded};
-ghost use Rattle.smithy_bind.specs.AnswerView.{AnswersBy, AnswersNamed, AnswersFound};
-ghost use Rattle.smithy_bind.specs.CodedView.{Stand};
+ghost use Rattle.smithy_bind.specs.Responding.{responded_to};
+ghost use Rattle.smithy_bind.specs.views.AnswerView.{AnswersBy, AnswersNamed, AnswersCoded, Gives};
+ghost use Rattle.smithy_bind.specs.views.CodedView.{Stand};
 
-use crate::answer::Answer;
 use crate::coded::error_of_code;
 use crate::json_value::{document_told, json_reader};
-use crate::told::refused;
-use crate::work::Work;
+use crate::told::{Answer, refused};
 use smithy_binding::checked_output;
 use smithy_http::{NonUtf8HeaderHandling, Response};
 use smithy_job::{CodedError, Expected, Received, read_received};
@@ -24,35 +22,27 @@ use smithy_schema::{SchemaIndex, SchemaRef, Schemas};
 use smithy_serde::SerdeError;
 use std::alloc::{AllocError, Global};
 
-/// What reads the response of a job: bodies of JSON (AWS restJson1).
-#[derive(Clone, Copy)]
-pub struct JsonResponses;
-
-impl Work for JsonResponses {
-    ghost use Rattle.smithy_bind.specs.Responding.{responded_to};
-
-    ghost may = { λ _. Unit {0} };
-
-    ghost does = { λ _ d. responded_to d };
-
-    #[tactic(auto, unfolding(crate::specs::Responding::responded_to))]
-    fn answer(&self, alloc: Global, value: &JsonValue<'_>) -> Result<Answer, JobError> {
-        let Received {
-            response,
-            policy,
-            table,
-            expected,
-        } = read_received(alloc, value)?;
-        let reading = Reading {
-            response: &response,
-            policy,
-            table: &table,
-        };
-        match expected {
-            Expected::Output(place) => reading.answer_by(alloc, place, false),
-            Expected::Error(place) => reading.answer_by(alloc, place, true),
-            Expected::Coded(error) => reading.answer_coded(alloc, &error),
-        }
+/// What is to be told of the response that a JSON value has, with bodies of JSON (AWS restJson1). Takes memory. No job where it is
+/// none, or where no response can be read by its schema.
+#[tactic(auto, unfolding(crate::specs::Responding::responded_to))]
+pub fn responded(alloc: Global, value: &JsonValue<'_>) -> Result<Answer, JobError>
+    ensures { Gives (responded_to (view value.now)) result }
+{
+    let Received {
+        response,
+        policy,
+        table,
+        expected,
+    } = read_received(alloc, value)?;
+    let reading = Reading {
+        response: &response,
+        policy,
+        table: &table,
+    };
+    match expected {
+        Expected::Output(place) => reading.answer_by(alloc, place, false),
+        Expected::Error(place) => reading.answer_by(alloc, place, true),
+        Expected::Coded(error) => reading.answer_coded(alloc, &error),
     }
 }
 
@@ -91,7 +81,7 @@ impl<'r> Reading<'r> {
         if !checked_output(alloc, schema)? {
             return Err(JobError::NoJob);
         }
-        let Ok(body) = json_reader(alloc, body_bytes(self.response)) else {
+        let Ok(body) = json_reader(alloc, self.response.body_bytes()) else {
             return Err(JobError::OutOfMemory);
         };
         match response_value(
@@ -112,8 +102,7 @@ impl<'r> Reading<'r> {
     fn answer_coded(&self, alloc: Global, error: &CodedError<'_>) -> Result<Answer, JobError>
         requires operation { Stand self.now.table.now error.now.operation.items }
         requires service { Stand self.now.table.now error.now.service.items }
-        ensures { (errors : Errors) → IsCoded self.now.table.now error.now errors →
-            AnswersFound error.now.code.now errors self.now.response.now self.now.policy result }
+        ensures { AnswersCoded self.now.table.now error.now self.now.response.now self.now.policy result }
     {
         match error_of_code(alloc, self.table, error)? {
             Some(place) => self.answer_named(alloc, place),
@@ -140,18 +129,8 @@ impl<'r> Reading<'r> {
     }
 }
 
-// The bytes of a body, none where it isn't buffered.
-fn body_bytes(response: &Response) -> &[u8]
-    ensures { result.now ≡ unwrap_or response.now.body [] }
-{
-    match response.body() {
-        Some(bytes) => bytes.as_slice(),
-        None => &[],
-    }
-}
-
-// A text behind a name on a line of its own.
-fn behind_name(alloc: Global, name: &str, text: &[u8]) -> Result<Vec<u8>, AllocError>
+/// A text behind a name on a line of its own. Takes memory.
+pub fn behind_name(alloc: Global, name: &str, text: &[u8]) -> Result<Vec<u8>, AllocError>
     ensures { IfOk result (λ v. v.items ≡ name.now ++ (codes "\n" ++ text.now)) }
 {
     let mut whole = Vec::from_slice(alloc, name.as_bytes())?;

@@ -1,69 +1,115 @@
 // The jobs whose inputs are sent.
-use crate::answer::Answer;
-use crate::work::Work;
+ghost use Rattle.std.specs.Prelude.{IsTrue};
+ghost use Rattle.smithy_json.specs.JsonView.{view};
+ghost use Rattle.smithy_schema.specs.References.{schema_of};
+ghost use Rattle.smithy_serde.specs.StructValues.{members_of};
+ghost use Rattle.smithy_binding.specs.Checked.{checked_input as checked};
+ghost use Rattle.smithy_bind.specs.Outcome.{json_bodies, sent_by, sent_job};
+ghost use Rattle.smithy_bind.specs.views.AnswerView.{Gives, Sends, IsPlaced, IsPosted};
+
+use crate::told::{Answer, told};
+use smithy_binding::{HttpBindingProtocol, HttpRpcProtocol, checked_input};
+use smithy_http::Request;
 use smithy_job::{Job, read_job};
 use smithy_json::JsonValue;
 use smithy_model::JobError;
 use smithy_schema::SchemaRef;
-use smithy_serde::{OmitFlags, StructValue};
+use smithy_serde::{Codec, OmitFlags, SerdeError, StructValue};
 use std::alloc::Global;
 
-/// A protocol that sends the input of a job: its meaning is the outcome of each job.
-pub trait Sends {
-    ghost use Rattle.smithy_schema.specs.References.{schema_of};
-    ghost use Rattle.smithy_serde.specs.StructValues.{members_of};
-    ghost use Rattle.smithy_job.specs.Jobs as jobs;
-    ghost use Rattle.smithy_bind.specs.Told.{Outcome};
-    ghost use Rattle.smithy_bind.specs.AnswerView.{Gives, job_of};
-
-    /// It can send.
-    ghost may: { Self → Type 0 };
-
-    /// The outcome of this job.
-    ghost sends: { Self → jobs.Job → Outcome };
-
-    /// What is to be told of an input, by its schema. Takes memory. No job where it can't be sent by the schema.
-    fn send(
-        &self,
-        alloc: Global,
-        schema: SchemaRef<'_>,
-        input: &StructValue<'_>,
-        endpoint: &str,
-        omit: OmitFlags,
-    ) -> Result<Answer, JobError>
-        requires { may self.now }
-        ensures { let job = job_of (schema_of schema.entry) (members_of input.now) endpoint.now omit in
-            Gives (sends self.now job) result };
+/// How the input of a job is sent.
+#[derive(Clone, Copy, Drop)]
+pub enum Sending {
+    /// Placed by the bindings of its schema (AWS restJson1).
+    Rest,
+    /// Posted whole, whatever its schema.
+    Rpc,
 }
 
-/// What sends the input of a job by a protocol.
-#[derive(Drop)]
-pub struct Sending<P> {
-    pub protocol: P,
+/// What is to be told of the job that a JSON value is. Takes memory. No job where it is none, or where its input can't be sent by
+/// its schema. Condition: the codec, which writes the body, is lawful.
+#[tactic(auto, unfolding(crate::specs::Outcome::sent_job))]
+pub fn job_told<C: Codec + Drop>(
+    alloc: Global,
+    sending: Sending,
+    codec: C,
+    value: &JsonValue<'_>,
+) -> Result<Answer, JobError>
+    requires { C.lawful codec }
+    ensures { Gives (sent_job (sent_by sending (json_bodies (C.text codec))) (view value.now)) result }
+{
+    let Job {
+        table,
+        index,
+        further,
+        writes,
+        endpoint,
+        omit,
+    } = read_job(alloc, value)?;
+    let Some(schema) = table.get(index) else {
+        unreachable!()
+    };
+    let nodes = further.as_ref().unwrap_or(&table);
+    let input = StructValue::with_writes(nodes, index, writes);
+    input_told(alloc, sending, codec, schema, &input, endpoint, omit)
 }
 
-impl<P: Sends> Work for Sending<P> {
-    ghost use Rattle.smithy_bind.specs.Outcome.{sent_job};
-
-    ghost may = { λ s. P.may s.protocol };
-
-    ghost does = { λ s d. sent_job (P.sends s.protocol) d };
-
-    #[tactic(auto, unfolding(crate::specs::Outcome::sent_job))]
-    fn answer(&self, alloc: Global, value: &JsonValue<'_>) -> Result<Answer, JobError> {
-        let Job {
-            table,
-            place,
-            further,
-            writes,
-            endpoint,
-            omit,
-        } = read_job(alloc, value)?;
-        let Some(schema) = table.get(place) else {
-            unreachable!()
-        };
-        let nodes = further.as_ref().unwrap_or(&table);
-        let input = StructValue::with_writes(nodes, place, writes);
-        self.protocol.send(alloc, schema, &input, endpoint, omit)
+// What is to be told of an input, by its schema.
+#[tactic(auto, unfolding(crate::specs::Outcome::answered, crate::specs::Outcome::called))]
+fn input_told<C: Codec + Drop>(
+    alloc: Global,
+    sending: Sending,
+    codec: C,
+    schema: SchemaRef<'_>,
+    input: &StructValue<'_>,
+    endpoint: &str,
+    omit: OmitFlags,
+) -> Result<Answer, JobError>
+    requires { C.lawful codec }
+    ensures { Sends sending (C.text codec) schema.entry (members_of input.now) endpoint.now omit result }
+{
+    match sending {
+        Sending::Rest => {
+            if !checked_input(alloc, schema)? {
+                return Err(JobError::NoJob);
+            }
+            told(alloc, placed(alloc, codec, schema, input, endpoint, omit))
+        }
+        Sending::Rpc => told(alloc, posted(alloc, codec, schema, input, endpoint, omit)),
     }
+}
+
+/// The request of an input by its schema, with a body of JSON by a codec (AWS restJson1), or its first fault. Takes memory.
+/// Conditions: a request can be placed by the schema, and the codec is lawful.
+pub fn placed<C: Codec + Drop>(
+    alloc: Global,
+    codec: C,
+    schema: SchemaRef<'_>,
+    input: &StructValue<'_>,
+    endpoint: &str,
+    omit: OmitFlags,
+) -> Result<Request, SerdeError>
+    requires checked { IsTrue (checked (schema_of schema)) }
+    requires lawful { C.lawful codec }
+    ensures { IsPlaced (C.text codec) schema.entry (members_of input.now) endpoint.now omit result }
+{
+    let protocol = HttpBindingProtocol::rest_json(codec);
+    protocol.serialize_request(alloc, input, schema, endpoint, omit)
+}
+
+// The request of an input that is posted whole, as a body of JSON by a codec, or its first fault.
+#[tactic(auto, using(crate::proofs::WriteLemmas::writes_listed))]
+fn posted<C: Codec + Drop>(
+    alloc: Global,
+    codec: C,
+    schema: SchemaRef<'_>,
+    input: &StructValue<'_>,
+    endpoint: &str,
+    omit: OmitFlags,
+) -> Result<Request, SerdeError>
+    requires { C.lawful codec }
+    ensures { IsPosted (C.text codec) (members_of input.now) endpoint.now omit result }
+{
+    let protocol = HttpRpcProtocol::aws_json(codec);
+    protocol.serialize_request(alloc, input, schema, endpoint, omit)
 }

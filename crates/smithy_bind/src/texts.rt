@@ -4,11 +4,13 @@ ghost use Rattle.smithy_bind.specs.Texts.{help_text, version_text};
 
 /// What `--help` writes.
 pub const HELP: &str = "\
-Places inputs of Smithy operations in HTTP requests, and reads responses.
+Places Smithy inputs in HTTP requests, and reads requests and responses.
 
 Usage: smithy_bind request < JOB
        smithy_bind rpc < JOB
        smithy_bind response < JOB
+       smithy_bind recover < JOB
+       smithy_bind route < JOB
        smithy_bind generate N
        smithy_bind --help
        smithy_bind --version
@@ -21,21 +23,35 @@ one line that says why.
 `response` reads a job with a response, and writes the value of the
 operation's output, or of an error, as one line of JSON. Where the response
 can't be read, it writes one line that says why.
+`recover` reads a job with a request, and writes the input that has it, in
+normal form, as one line of JSON. Where no input has it, as where a text is
+spelled otherwise than `request` does, it writes one line that says so.
+`route` reads a job with a request and many operations, and writes the full
+name of the one whose template matches the request best, and then its input as
+`recover` does. Where there is none, or where a template has no route or one
+that conflicts with another's, it writes one line that says so.
 `generate` reads nothing: it makes the request of an input of N numbers, N from
 0 to 100000, and writes its target, the number of its headers, the length of
 its body and the sum of the body's bytes, each in a line.
 
 A job has these keys:
   model      a Smithy model as a JSON AST, with its `shapes`
-  operation  the full name of an operation of the model
+  operation  the full name of an operation of the model, but for `route`
 A job of `request` or `rpc` has also:
   input      an object from names of members to values, written in byte order
              of the names; or an array of pairs of a name and a value,
              written in this order
+A job of `request`, `rpc` or `recover` has also:
   endpoint   optional, a text: the URI template of an operation without
              smithy.api#http; of `rpc` the target
+A job of these or of `route` has also:
   omit       optional, an object: with `contentType` or `contentLength` true,
              that default header is left out
+A job of `recover` or `route` has also:
+  request    an object: `method`, a token; `target`; `headers` and `body` as in
+             a response; without a body, or with null, it is empty
+A job of `route` has also:
+  operations an array of full names of operations with smithy.api#http
 A job of `response` has also:
   response   an object: `status`, from 100 to 999; `headers`, an array of
              pairs of a name and a value; `body`. Values and the body are
@@ -63,7 +79,8 @@ The exit status is
   1  the words are no command
   2  the input is no job, or a request can't be placed by its schema, or a
      response read by it
-  3  the input can't be sent, or the response can't be read; the line says why
+  3  the input can't be sent, the response can't be read, no input has the
+     request, or no operation is found; the line says why
   4  reading failed
   5  writing failed
   6  there was not enough memory

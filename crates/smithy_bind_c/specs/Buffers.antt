@@ -3,7 +3,7 @@ use Rattle.std.specs.Prelude.{◌≡◌, ℕ, List, ◌++◌, length, drop, nat_
 use Rattle.smithy_bind.specs.Ends.{code_of, due_of, text_of, IsInMemory, IsSettled, HasText}
 use Rattle.smithy_bind.specs.Outcome.{outcome_by}
 use Rattle.smithy_bind.specs.declared.command.Command.{Command}
-use Rattle.smithy_bind.specs.declared.top_call.Status.{Status}
+use Rattle.smithy_bind.specs.declared.ended.Status.{Status}
 
 -- a buffer after a text was written to its front, where it fits
 abbrev pub filled : List ℕ → List ℕ → List ℕ

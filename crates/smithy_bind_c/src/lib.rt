@@ -51,6 +51,35 @@ pub extern "C" fn smithy_bind_rpc(
     answer_into(alloc, Command::Rpc, job, text, text_len)
 }
 
+/// The input that a job's request is of, as JSON, or the line that there is none: the text that the program's command
+/// `recover` writes. What it answers and leaves is as `smithy_bind_request` says. Takes memory.
+#[unsafe(no_mangle)]
+pub extern "C" fn smithy_bind_recover(
+    alloc: Global,
+    job: &[u8],
+    text: &mut [u8],
+    text_len: &mut usize,
+) -> u8
+    ensures { Answers Command.Recover job.now result text_len.new text.old text.new }
+{
+    answer_into(alloc, Command::Recover, job, text, text_len)
+}
+
+/// The operation that a job's request is of, by its full name and a line feed, and its input, as JSON, or the line that says why there
+/// is none: the text that the program's command `route` writes. What it answers and leaves is as `smithy_bind_request` says. Takes
+/// memory.
+#[unsafe(no_mangle)]
+pub extern "C" fn smithy_bind_route(
+    alloc: Global,
+    job: &[u8],
+    text: &mut [u8],
+    text_len: &mut usize,
+) -> u8
+    ensures { Answers Command.Route job.now result text_len.new text.old text.new }
+{
+    answer_into(alloc, Command::Route, job, text, text_len)
+}
+
 // Answers the command: the code of its end, the length of its text, and the text where it fits.
 fn answer_into(
     alloc: Global,

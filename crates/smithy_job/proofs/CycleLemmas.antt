@@ -10,7 +10,7 @@ use Rattle.smithy_schema.specs.Nodes.{Schema, element_of, key_of, value_of}
 use Rattle.smithy_serde.specs.Values.{Value, scalar, Writes, no_writes, write, boolean, null, document, list, structure}
 use Rattle.smithy_serde.specs.Values as values
 use Rattle.smithy_json.specs.FromData.{of_data}
-use Rattle.smithy_json.specs.JsonView.{Member, view, items_view, members_view}
+use Rattle.smithy_json.specs.views.JsonView.{Member, view, items_view, members_view}
 use Rattle.smithy_json.specs.declared.value.JsonValue as borrowed
 use Rattle.smithy_json.specs.declared.value.JsonValue.{JsonValue, the_lemmas}
 use Rattle.smithy_job.specs.Scalars.{number_at, text_at}

@@ -7,15 +7,15 @@ use Rattle.smithy_schema.specs.Nodes.{Schema, at_place}
 use Rattle.smithy_serde.specs.Values.{Writes, list_of, label_of}
 use Rattle.smithy_serde.specs.declared.header_omit_settings.OmitFlags.{OmitFlags}
 use Rattle.smithy_model.specs.Models as models
-use Rattle.smithy_model.specs.PlacedView.{IsPlaced, IsPlacedAt, Places}
+use Rattle.smithy_model.specs.views.PlacedView.{IsPlaced, IsPlacedAt, Places}
 use Rattle.smithy_model.specs.declared.error.JobError.{JobError}
 use Rattle.smithy_model.specs.declared.error.JobError.TheVariants.{NoJob, OutOfMemory}
-use Rattle.smithy_model.specs.declared.table.Placed.{Placed}
+use Rattle.smithy_model.specs.declared.table.ModelTable.{ModelTable}
 use Rattle.smithy_job.specs.Inputs.{input}
 use Rattle.smithy_job.specs.Jobs.{schema, writes, job_with, job}
-use Rattle.smithy_job.specs.JobView.{IsJob, nodes_of}
+use Rattle.smithy_job.specs.views.JobView.{IsJob, nodes_of}
 use Rattle.smithy_job.specs.Settings.{endpoint, omit}
-use Rattle.smithy_job.specs.Tables.{Has, ReadsAs, AreWrites, nodes_with}
+use Rattle.smithy_job.specs.views.Tables.{Has, ReadsAs, AreWrites, nodes_with}
 use Rattle.smithy_job.specs.declared.reading.Job.{Job as Stored}
 use Rattle.smithy_job.proofs.TableLemmas.{keeps-all, model-label}
 use Rattle.smithy_job.proofs.ValueLemmas.{has_node}
@@ -52,16 +52,16 @@ module _ (d : Data) (s : Schema) (there : schema models.input d ≡ Some s) wher
   job_is i ws text flags a b e f = by_schema ∙ rw (a, b, e, f) refl
 
 -- the schema that was placed
-pub placed_schema : (o : Option Schema) (placed : Placed) → IsPlacedAt o placed → (s : Schema) × (o ≡ Some s) × IsPlaced placed s
+pub placed_schema : (o : Option Schema) (placed : ModelTable) → IsPlacedAt o placed → (s : Schema) × (o ≡ Some s) × IsPlaced placed s
 placed_schema None placed h = absurd h
 placed_schema (Some s) placed h = (s, refl, h)
 
--- the schema at the place is that one
-pub schema_there : (placed : Placed) (s here : Schema) → IsPlaced placed s → Some here ≡ at_place placed.table placed.place.0 → here ≡ s
-schema_there placed s here h at = ap (λ (o : Option Schema). unwrap_or o s) (at ∙ ap (λ t. at_place t placed.place.0) h.nodes ∙ h.node)
+-- the schema at the index is that one
+pub schema_there : (placed : ModelTable) (s here : Schema) → IsPlaced placed s → Some here ≡ at_place placed.table placed.index.0 → here ≡ s
+schema_there placed s here h at = ap (λ (o : Option Schema). unwrap_or o s) (at ∙ ap (λ t. at_place t placed.index.0) h.nodes ∙ h.node)
 
 module _ (d : Data) (s : Schema) (there : schema models.input d ≡ Some s) (stored : Stored) (names : List (Bor (List ℕ))) (i : Data) where
-  by_input : (o : Option Writes) → input s i ≡ o → Has o (AreWrites (nodes_with stored.table names) stored.writes) → at_place stored.table stored.place.0 ≡ Some s
+  by_input : (o : Option Writes) → input s i ≡ o → Has o (AreWrites (nodes_with stored.table names) stored.writes) → at_place stored.table stored.index.0 ≡ Some s
       → get (codes "input") d ≡ Some i → nodes_of stored ≡ nodes_with stored.table names → endpoint d ≡ Some stored.endpoint.now → omit d ≡ Some stored.omit → Has (job d) (IsJob stored)
   by_input None e h at given nodes text flags = absurd h
   by_input (Some ws) e h at given nodes text flags =
@@ -71,11 +71,11 @@ module _ (d : Data) (s : Schema) (there : schema models.input d ≡ Some s) (sto
         writes = ap list_of (h.writes (nodes_of stored) (rw nodes (keeps-all (nodes_with stored.table names))));
         endpoint = refl;
         omit = refl;
-        node = has_node (nodes_of stored) stored.place.0 (label_of s) (rw nodes (model-label stored.table names stored.place.0 (label_of s) (ap (option_map label_of) at)));
+        node = has_node (nodes_of stored) stored.index.0 (label_of s) (rw nodes (model-label stored.table names stored.index.0 (label_of s) (ap (option_map label_of) at)));
         defined = h.defined (nodes_of stored) (rw nodes (keeps-all (nodes_with stored.table names)));
       })
 
-  pub job_read : Has (input s i) (AreWrites (nodes_with stored.table names) stored.writes) → at_place stored.table stored.place.0 ≡ Some s → get (codes "input") d ≡ Some i
+  pub job_read : Has (input s i) (AreWrites (nodes_with stored.table names) stored.writes) → at_place stored.table stored.index.0 ≡ Some s → get (codes "input") d ≡ Some i
       → nodes_of stored ≡ nodes_with stored.table names → endpoint d ≡ Some stored.endpoint.now → omit d ≡ Some stored.omit → Has (job d) (IsJob stored)
   job_read h at given nodes text flags = by_input (input s i) refl h at given nodes text flags
 

@@ -3,6 +3,8 @@ pub mod CycleLemmas
 pub mod InputLemmas
 pub mod JobLemmas
 pub mod ReceivedLemmas
+pub mod RecoveringLemmas
+pub mod RoutingLemmas
 pub mod ScalarLemmas
 pub mod TableLemmas
 pub mod ValueLemmas

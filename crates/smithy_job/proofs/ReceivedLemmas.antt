@@ -5,26 +5,26 @@ use Rattle.base64.specs.GeneralPurpose.{decode_of, decoded_of}
 use Rattle.base64.specs.declared.decode.DecodeError.{DecodeError}
 use Rattle.serde_json.specs.Data.{Data}
 use Rattle.serde_json.specs.Find.{get}
-use Rattle.smithy_json.specs.JsonView.{view}
+use Rattle.smithy_json.specs.views.JsonView.{view}
 use Rattle.smithy_json.specs.declared.value.JsonValue.{JsonValue}
 use Rattle.smithy_types.specs.Results.{each}
 use Rattle.smithy_http.specs.Responses.{Response}
 use Rattle.smithy_http.specs.declared.non_utf8.NonUtf8HeaderHandling.{NonUtf8HeaderHandling}
 use Rattle.smithy_schema.specs.Nodes.{Schema, at_place}
 use Rattle.smithy_model.specs.Nodes.{Errors}
-use Rattle.smithy_model.specs.PlacedView.{IsPlacedAt, ArePlacedAt, Places, PlacesErrors}
+use Rattle.smithy_model.specs.views.PlacedView.{IsPlacedAt, ArePlacedAt, Places, PlacesErrors}
 use Rattle.smithy_model.specs.Reads.{Reads}
 use Rattle.smithy_model.specs.declared.error.JobError.{JobError}
 use Rattle.smithy_model.specs.declared.error.JobError.TheVariants.{NoJob, OutOfMemory}
-use Rattle.smithy_model.specs.declared.table.Placed.{Placed}
+use Rattle.smithy_model.specs.declared.table.ModelTable.{ModelTable}
 use Rattle.smithy_model.specs.declared.table.PlacedErrors.{PlacedErrors}
 use Rattle.smithy_model.proofs.Each.{and_rest, each_item}
 use Rattle.std.proofs.lemmas.List.{drop_more}
 use Rattle.smithy_job.specs.Jobs as jobs
 use Rattle.smithy_job.specs.Jobs.{expected, received}
 use Rattle.smithy_job.specs.Responses.{header_in, response_in, policy_given}
-use Rattle.smithy_job.specs.Tables.{Has, ReadsAs}
-use Rattle.smithy_job.specs.ReceivedView.{IsExpected, IsExpectedIn, IsReceived}
+use Rattle.smithy_job.specs.views.Tables.{Has, ReadsAs}
+use Rattle.smithy_job.specs.views.ReceivedView.{IsExpected, IsExpectedIn, IsReceived}
 use Rattle.smithy_job.specs.declared.received.Expected.TheVariants.{Output, Error, Coded}
 use Rattle.smithy_job.specs.declared.received.ExpectedIn.{ExpectedIn}
 use Rattle.smithy_job.specs.declared.received.Received.{Received}
@@ -56,20 +56,20 @@ module _ (items : List JsonValue) (i : ℕ) (x : JsonValue) (done more : List (L
   headers-refused Is OutOfMemory r same k = rw same tt
 
 -- the schemas that were placed
-pub output-stands : (o : Option Schema) (p : Placed) → IsPlacedAt o p → Has (option_map jobs.output o) (IsExpected p.table (Output p.place))
+pub output-stands : (o : Option Schema) (p : ModelTable) → IsPlacedAt o p → Has (option_map jobs.output o) (IsExpected p.table (Output p.index))
 output-stands None p h = absurd h
-output-stands (Some s) p h = ap (λ t. at_place t p.place.0) h.nodes ∙ h.node
+output-stands (Some s) p h = ap (λ t. at_place t p.index.0) h.nodes ∙ h.node
 
-pub error-stands : (o : Option Schema) (p : Placed) → IsPlacedAt o p → Has (option_map jobs.error o) (IsExpected p.table (Error p.place))
+pub error-stands : (o : Option Schema) (p : ModelTable) → IsPlacedAt o p → Has (option_map jobs.error o) (IsExpected p.table (Error p.index))
 error-stands None p h = absurd h
-error-stands (Some s) p h = ap (λ t. at_place t p.place.0) h.nodes ∙ h.node
+error-stands (Some s) p h = ap (λ t. at_place t p.index.0) h.nodes ∙ h.node
 
 pub errors-stand : (code : Bor (List ℕ)) (o : Option Errors) (p : PlacedErrors) → ArePlacedAt o p
     → Has (option_map (jobs.coded code.now) o) (IsExpected p.table (Coded (record { code = code; operation = p.operation; service = p.service })))
 errors-stand code None p h = absurd h
 errors-stand code (Some errors) p h = (refl, record { operation = h.operation; service = h.service })
 
-none-mapped : {A B : Type 0} (f : A → B) (o : Option A) → o ≡ None → option_map f o ≡ None
+pub none-mapped : {A B : Type 0} (f : A → B) (o : Option A) → o ≡ None → option_map f o ≡ None
 none-mapped f o e = rw e refl
 
 pub schema-refused : (f : Schema → jobs.Expected) (o : Option Schema) (e : JobError) (r : Result ExpectedIn JobError) → r ≡ Err e → Places o (Err e) → ReadsAs IsExpectedIn (option_map f o) r

@@ -12,7 +12,7 @@ use Rattle.smithy_serde.specs.Values.{text, big_integer, big_decimal, blob, bool
 use Rattle.smithy_serde.specs.StoredValues.{value_in, IsDefined}
 use Rattle.smithy_serde.specs.declared.value.ShapeValue.TheVariants as stored
 use Rattle.smithy_json.specs.FromData.{of_data}
-use Rattle.smithy_job.specs.Tables.{IsScalar, Has}
+use Rattle.smithy_job.specs.views.Tables.{IsScalar, Has}
 use Rattle.smithy_job.proofs.CanonicalLemmas.{of_data-canonical}
 
 pub big_is : (n t : List ℕ) → n ≡ t → IsScalar (stored.BigInteger n) (big_integer t)

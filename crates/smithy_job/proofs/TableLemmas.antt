@@ -7,16 +7,16 @@ use Rattle.smithy_schema.specs.Nodes.{Node, Table, Schema, node_at, cited, shape
 use Rattle.smithy_serde.specs.Values.{Label, label_of}
 use Rattle.smithy_job.specs.Values as values
 use Rattle.smithy_job.specs.Values.{further_label}
-use Rattle.smithy_job.specs.Tables.{Keeps, HasLabel, StandsIn, MayStandIn, further_node, nodes_with}
+use Rattle.smithy_job.specs.views.Tables.{Keeps, HasLabel, StandsIn, MayStandIn, further_node, nodes_with}
 
 abbrev with_table : Table → Node → Schema
 with_table t n = record { table = t; node = n }
 
 pub keeps-all : (t : Table) → Keeps t t
-keeps-all t = record { keeps = λ place node e. e }
+keeps-all t = record { keeps = λ index node e. e }
 
 pub keeps-both : (a b c : Table) → Keeps a b → Keeps b c → Keeps a c
-keeps-both a b c h k = record { keeps = λ place node e. k.keeps place node (h.keeps place node e) }
+keeps-both a b c h k = record { keeps = λ index node e. k.keeps index node (h.keeps index node e) }
 
 node_at-front : (t u : Table) (p : ℕ) (n : Node) → node_at t p ≡ Some n → node_at (t ++ u) p ≡ Some n
 node_at-front [] u p n e = absurd (cc e)
@@ -46,7 +46,7 @@ cited-stands t s (Some p) h = go (node_at s.table p) refl
   where
     go : (o : Option Node) → node_at s.table p ≡ o → IfSome (option_map (with_table s.table) o) (StandsIn t)
     go None e = tt
-    go (Some n) e = record { table = h.table; place = (p, rw e refl) }
+    go (Some n) e = record { table = h.table; index = (p, rw e refl) }
 
 shape-stands : (t : Table) (s : Schema) → StandsIn t s → StandsIn t (shape s)
 shape-stands t s h = go (cited s s.node.target) (cited-stands t s s.node.target h)
@@ -95,5 +95,5 @@ length-nodes_with t xs = length-append t (map further xs) ∙ ap (λ n. length t
 
 pub name-labelled : (t : Table) (xs ys : List (Bor (List ℕ))) (x : Bor (List ℕ)) (p : ℕ) → ys ≡ xs ++ x ∷ [] → p ≡ length t + length xs → HasLabel (nodes_with t ys) p (further_label x.now)
 name-labelled t xs ys x p e at =
-    let place : p ≡ length (nodes_with t xs) = at ∙ sym (length-nodes_with t xs) in
-    rw (e, nodes_with-more t xs x, place, node_at-last (nodes_with t xs) (further x)) refl
+    let index : p ≡ length (nodes_with t xs) = at ∙ sym (length-nodes_with t xs) in
+    rw (e, nodes_with-more t xs x, index, node_at-last (nodes_with t xs) (further x)) refl

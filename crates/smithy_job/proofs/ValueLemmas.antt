@@ -13,7 +13,7 @@ use Rattle.smithy_serde.specs.declared.value.WriteList.{WriteList}
 use Rattle.smithy_serde.proofs.WritesLemmas.{appended-no_writes, appended_assoc}
 use Rattle.smithy_model.specs.declared.error.JobError.{JobError}
 use Rattle.smithy_model.specs.declared.error.JobError.TheVariants.{NoJob, OutOfMemory}
-use Rattle.smithy_job.specs.Tables.{Keeps, HasLabel, IsScalar, IsValue, AreWrites, Has, ReadsAs}
+use Rattle.smithy_job.specs.views.Tables.{Keeps, HasLabel, IsScalar, IsValue, AreWrites, Has, ReadsAs}
 use Rattle.smithy_job.proofs.TableLemmas.{keeps-both, label-kept}
 
 -- a refusal that is passed on
@@ -94,26 +94,26 @@ one_more done l v None = refl
 one_more done l v (Some ws) = ap (λ (x : Writes). Some x) (appended_assoc done (one_write l v) ws)
 
 -- a write is pushed
-pub so_far-push : (nodes : Table) (old new : WriteList) (place : SchemaIndex) (l : Label) (v : ShapeValue) (is : Value) (rest all : Option Writes)
-    → HasLabel nodes place.0 l → IsValue nodes v is → ((t : Table) → writes_in t new ≡ with_write t old place v) → StaysDefinedWith place v old new
+pub so_far-push : (nodes : Table) (old new : WriteList) (index : SchemaIndex) (l : Label) (v : ShapeValue) (is : Value) (rest all : Option Writes)
+    → HasLabel nodes index.0 l → IsValue nodes v is → ((t : Table) → writes_in t new ≡ with_write t old index v) → StaysDefinedWith index v old new
     → SoFar nodes old (option_map (write l is) rest) all → SoFar nodes new rest all
-so_far-push nodes old new place l v is rest all at h e d so_far = record {
+so_far-push nodes old new index l v is rest all at h e d so_far = record {
   are = appended so_far.are (one_write l is);
   stored = record {
     writes = λ t k.
-        let same = label_at-is t place.0 l (label-kept nodes t place.0 l k at) in
+        let same = label_at-is t index.0 l (label-kept nodes t index.0 l k at) in
         rw (e t, same, h.value t k, so_far.stored.writes t k) refl;
-    defined = λ t k. d t (so_far.stored.defined t k) (has_node t place.0 l (label-kept nodes t place.0 l k at)) (h.defined t k);
+    defined = λ t k. d t (so_far.stored.defined t k) (has_node t index.0 l (label-kept nodes t index.0 l k at)) (h.defined t k);
   };
   whole = one_more so_far.are l is rest ∙ so_far.whole;
 }
 
 -- a write is pushed, of what was read
-pub value_more : (a b : Table) (old new : WriteList) (place : SchemaIndex) (l : Label) (v : ShapeValue) (o : Option Value) (rest all : Option Writes)
-    → Keeps a b → HasLabel b place.0 l → Has o (IsValue b v) → ((t : Table) → writes_in t new ≡ with_write t old place v) → StaysDefinedWith place v old new
+pub value_more : (a b : Table) (old new : WriteList) (index : SchemaIndex) (l : Label) (v : ShapeValue) (o : Option Value) (rest all : Option Writes)
+    → Keeps a b → HasLabel b index.0 l → Has o (IsValue b v) → ((t : Table) → writes_in t new ≡ with_write t old index v) → StaysDefinedWith index v old new
     → SoFar a old (option_and_then (λ x. option_map (write l x) rest) o) all → SoFar b new rest all
-value_more a b old new place l v None rest all k at h e d so_far = absurd h
-value_more a b old new place l v (Some is) rest all k at h e d so_far = so_far-push b old new place l v is rest all at h e d (so_far-kept a b old _ all k so_far)
+value_more a b old new index l v None rest all k at h e d so_far = absurd h
+value_more a b old new index l v (Some is) rest all k at h e d so_far = so_far-push b old new index l v is rest all at h e d (so_far-kept a b old _ all k so_far)
 
 two_more : (l m : Label) (x y : Value) (o : Option Writes) → option_map (λ ws. write l x (write m y ws)) o ≡ option_map (write l x) (option_map (write m y) o)
 two_more l m x y None = refl

@@ -71,16 +71,26 @@ abbrev pub names_given : Option Data → Option (List (List ℕ))
 names_given None = Some []
 names_given (Some d) = option_and_then (each full_name_in) (items_in d)
 
+-- as the one of these errors that has this code
+abbrev pub expected_coded : List ℕ → List (List ℕ) → Data → Option Expected
+expected_coded code service job = option_map (coded code) (errors service job)
+
 -- without an error's name: as the error of the code, where there is one
 abbrev pub by_code : Data → List (List ℕ) → Option Data → Option Expected
 by_code job service None = option_map output (schema models.output job)
-by_code job service (Some code) = option_and_then (λ c. option_map (coded c) (errors service job)) (as_str code)
+by_code job service (Some code) = option_and_then (λ c. expected_coded c service job) (as_str code)
+
+abbrev pub expected_by_code : List (List ℕ) → Data → Option Expected
+expected_by_code service job = by_code job service (get (codes "code") job)
 
 -- beside an error's name there is neither a code nor an error of the service
 abbrev pub expected_by : Data → Option Data → Option Data → Option Data → Option Expected
 expected_by job None code service = option_and_then (λ names. by_code job names code) (names_given service)
 expected_by job (Some name) None None = option_and_then (λ e. option_map error (schema (models.error e) job)) (as_str name)
 expected_by job (Some name) _ _ = None
+
+abbrev pub expected_by_name : Data → Data → Option Expected
+expected_by_name name job = expected_by job (Some name) (get (codes "code") job) (get (codes "serviceErrors") job)
 
 abbrev pub expected : Data → Option Expected
 expected job = expected_by job (get (codes "error") job) (get (codes "code") job) (get (codes "serviceErrors") job)

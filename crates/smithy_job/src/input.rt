@@ -1,14 +1,14 @@
 // The input of a job: an object, or an array of pairs of a member's name and its value.
 ghost use Rattle.std.specs.Prelude.{◌≡◌, map, option_map};
-ghost use Rattle.smithy_json.specs.JsonView.{view, items_view};
+ghost use Rattle.smithy_json.specs.views.JsonView.{view};
 ghost use Rattle.smithy_schema.specs.References.{schema_of};
 ghost use Rattle.smithy_job.specs.Values.{natural_label};
-ghost use Rattle.smithy_job.specs.Inputs.{named_value, pair_in, pairs_in, input};
-ghost use Rattle.smithy_job.specs.ReadingView.{KeepsNodes, ReadsWrites};
-ghost use Rattle.smithy_job.specs.Seen.{seen};
-ghost use Rattle.smithy_job.specs.Tables.{HasLabel, StandsIn};
+ghost use Rattle.smithy_job.specs.Inputs.{named_value, pair_in, input};
+ghost use Rattle.smithy_job.specs.views.ReadingView.{KeepsNodes, ReadsWrites, pairs_at};
+ghost use Rattle.smithy_job.specs.views.Seen.{seen};
+ghost use Rattle.smithy_job.specs.views.Tables.{HasLabel, StandsIn};
 
-use crate::node::{ModelNodes, member_at, member_place};
+use crate::node::{ModelNodes, index_of_member, member_at};
 use crate::value::{members_at, value_at};
 use smithy_json::JsonValue;
 use smithy_model::{JobError, items_of};
@@ -42,8 +42,7 @@ fn pairs_at<'t>(
     requires natural { HasLabel model.table.now model.natural.0 natural_label }
     requires schema { StandsIn model.table.now (schema_of schema) }
     ensures kept { KeepsNodes model.entry names.old names.new result }
-    ensures writes { ReadsWrites model.entry names.new
-        (pairs_in (schema_of schema.entry) (items_view items.now)) result }
+    ensures writes { ReadsWrites model.entry names.new (pairs_at schema.entry items.now) result }
 {
     let mut writes = WriteList::new(alloc);
     for item in items {
@@ -51,9 +50,9 @@ fn pairs_at<'t>(
             return Err(JobError::NoJob);
         };
         let node = member_at(Some(schema), name);
-        let place = member_place(model, names, node, name)?;
+        let index = index_of_member(model, names, node, name)?;
         let value = value_at(alloc, model, names, node, value)?;
-        writes.push(place, value)?;
+        writes.push(index, value)?;
     }
     Ok(writes)
 }
@@ -71,8 +70,7 @@ pub fn read_input<'t>(
     requires natural { HasLabel model.table.now model.natural.0 natural_label }
     requires schema { StandsIn model.table.now (schema_of schema) }
     ensures kept { KeepsNodes model.entry names.old names.new result }
-    ensures writes { ReadsWrites model.entry names.new
-        (input (schema_of schema.entry) (view value.now)) result }
+    ensures writes { ReadsWrites model.entry names.new (input (schema_of schema.entry) (view value.now)) result }
 {
     match value {
         JsonValue::Object(members) => members_at(

@@ -1,8 +1,8 @@
 // The nodes of values: those of a model, and those of names that are no member's.
 ghost use Rattle.std.specs.Prelude.{◌≡◌, ◌++◌, ◌∷◌, [], Some, option_and_then, OnOk};
 ghost use Rattle.smithy_schema.specs.Nodes.{element_of, key_of, value_of};
-ghost use Rattle.smithy_job.specs.ReadingView.{node_of, KeepsNodes, GivesPlace};
-ghost use Rattle.smithy_job.specs.Tables.{HasLabel, MayStandIn, nodes_with, further_node};
+ghost use Rattle.smithy_job.specs.views.ReadingView.{node_of, KeepsNodes, GivesIndex};
+ghost use Rattle.smithy_job.specs.views.Tables.{HasLabel, MayStandIn, nodes_with, further_node};
 ghost use Rattle.smithy_job.specs.Values.{kind_of, is_document_kind, is_structure_kind, natural_label, further_label};
 ghost use Rattle.smithy_job.specs.Values.{label_at, member_at, member_label};
 
@@ -10,7 +10,7 @@ use smithy_ids::{ShapeId, ShapeType};
 use smithy_schema::{Schema, SchemaIndex, SchemaRef, Schemas};
 use smithy_types::OutOfMemory;
 
-/// The nodes of a model, and the place of the node of natural values among them.
+/// The nodes of a model, and the index of the node of natural values among them.
 #[derive(Clone, Copy)]
 pub struct ModelNodes<'t> {
     pub table: &'t Schemas,
@@ -73,39 +73,39 @@ pub fn member_at<'t>(here: Option<SchemaRef<'t>>, name: &str) -> Option<SchemaRe
     }
 }
 
-/// The place of a node, and that of natural values at none.
-pub fn place_of(model: ModelNodes<'_>, here: Option<SchemaRef<'_>>) -> SchemaIndex
+/// The index of a node, and that of natural values at none.
+pub fn index_of(model: ModelNodes<'_>, here: Option<SchemaRef<'_>>) -> SchemaIndex
     requires natural { HasLabel model.table.now model.natural.0 natural_label }
     requires here { MayStandIn model.table.now (node_of here) }
     ensures { HasLabel model.entry.table.now result.0 (label_at (node_of here.entry)) }
 {
     match here {
         Some(node) => match node.index() {
-            Some(place) => place,
+            Some(index) => index,
             None => unreachable!(),
         },
         None => model.natural,
     }
 }
 
-// The place of a node for a name that is no member's, behind those of the model and of earlier such names.
-fn further_place<'v>(
+// The index of a node for a name that is no member's, behind those of the model and of earlier such names.
+fn further_index<'v>(
     model: ModelNodes<'_>,
     names: &mut Vec<&'v str>,
     name: &'v str,
 ) -> Result<SchemaIndex, OutOfMemory>
     ensures kept { KeepsNodes model.entry names.old names.new result }
-    ensures place { GivesPlace model.entry names.new (further_label name.now) result }
+    ensures index { GivesIndex model.entry names.new (further_label name.now) result }
 {
-    let Some(place) = model.table.len().checked_add(names.len()) else {
+    let Some(index) = model.table.len().checked_add(names.len()) else {
         return Err(OutOfMemory);
     };
     names.push(name)?;
-    Ok(SchemaIndex(place))
+    Ok(SchemaIndex(index))
 }
 
-/// The place of a member's node; a name that is no member's gets a node. Takes memory.
-pub fn member_place<'v>(
+/// The index of a member's node; a name that is no member's gets a node. Takes memory.
+pub fn index_of_member<'v>(
     model: ModelNodes<'_>,
     names: &mut Vec<&'v str>,
     member: Option<SchemaRef<'_>>,
@@ -114,11 +114,11 @@ pub fn member_place<'v>(
     requires natural { HasLabel model.table.now model.natural.0 natural_label }
     requires member { MayStandIn model.table.now (node_of member) }
     ensures kept { KeepsNodes model.entry names.old names.new result }
-    ensures place { GivesPlace model.entry names.new (member_label (node_of member.entry) name.now) result }
+    ensures index { GivesIndex model.entry names.new (member_label (node_of member.entry) name.now) result }
 {
     match member {
-        Some(node) => Ok(place_of(model, Some(node))),
-        None => further_place(model, names, name),
+        Some(node) => Ok(index_of(model, Some(node))),
+        None => further_index(model, names, name),
     }
 }
 

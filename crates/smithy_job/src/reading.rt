@@ -1,32 +1,32 @@
 // A job.
 ghost use Rattle.std.specs.Prelude.{◌≡◌, Some, IfOk, option_map, unwrap_or};
-ghost use Rattle.smithy_json.specs.JsonView.{view};
+ghost use Rattle.smithy_json.specs.views.JsonView.{view};
 ghost use Rattle.smithy_model.specs.Models as models;
-ghost use Rattle.smithy_model.specs.ModelView.{asked_view};
-ghost use Rattle.smithy_model.specs.PlaceView.{texts};
-ghost use Rattle.smithy_model.specs.PlacedView.{Places, PlacesErrors, IsPlacedAt};
+ghost use Rattle.smithy_model.specs.views.ModelView.{asked_view};
+ghost use Rattle.smithy_model.specs.views.NameView.{texts};
+ghost use Rattle.smithy_model.specs.views.PlacedView.{Places, PlacesErrors, IsPlacedAt};
 ghost use Rattle.smithy_job.specs.Jobs.{job, operation_in, schema, errors};
-ghost use Rattle.smithy_job.specs.Seen.{operation_seen};
-ghost use Rattle.smithy_job.specs.Tables.{nodes_with, ReadsAs};
-ghost use Rattle.smithy_job.specs.JobView.{IsJob};
+ghost use Rattle.smithy_job.specs.views.Seen.{operation_seen};
+ghost use Rattle.smithy_job.specs.views.Tables.{nodes_with, ReadsAs};
+ghost use Rattle.smithy_job.specs.views.JobView.{IsJob};
 
 use crate::input::read_input;
 use crate::node::{ModelNodes, add_nodes};
 use crate::settings::{endpoint_of, omit_of};
 use smithy_json::JsonValue;
 use smithy_model::{
-    Asked, JobError, Placed, PlacedErrors, errors_of_operation, schema_of_operation, text_of,
+    Asked, JobError, ModelTable, PlacedErrors, errors_of_operation, schema_of_operation, text_of,
 };
 use smithy_schema::{SchemaIndex, Schemas};
 use smithy_serde::{OmitFlags, WriteList};
 use smithy_types::OutOfMemory;
 use std::alloc::Global;
 
-/// What is to be sent: the writes of an input, and the place of its schema in a table.
+/// What is to be sent: the writes of an input, and the index of its schema in a table.
 #[derive(Drop)]
 pub struct Job<'t> {
     pub table: Schemas,
-    pub place: SchemaIndex,
+    pub index: SchemaIndex,
     /// The nodes of the writes where some of their names are no member's: those of `table`, and one for
     /// each such name. Else they are those of `table`.
     pub further: Option<Schemas>,
@@ -48,7 +48,7 @@ pub fn schema_asked<'t>(
     alloc: Global,
     job: &JsonValue<'t>,
     asked: Asked<'t>,
-) -> Result<Placed, JobError>
+) -> Result<ModelTable, JobError>
     ensures { Places (schema (asked_view asked.entry) (view job.now)) result }
 {
     match operation_of(job) {
@@ -95,16 +95,16 @@ fn further_nodes(
 }
 
 // What a job asks by a model that was read.
-fn job_by<'t>(alloc: Global, value: &JsonValue<'t>, model: Placed) -> Result<Job<'t>, JobError>
+fn job_by<'t>(alloc: Global, value: &JsonValue<'t>, model: ModelTable) -> Result<Job<'t>, JobError>
     requires { IsPlacedAt (schema models.input (view value.now)) model }
     ensures { ReadsAs IsJob (job (view value.now)) result }
 {
-    let Placed {
+    let ModelTable {
         table,
-        place,
+        index,
         natural,
     } = model;
-    let Some(schema) = table.get(place) else {
+    let Some(schema) = table.get(index) else {
         return Err(JobError::NoJob);
     };
     let Some(input) = value.get("input") else {
@@ -125,7 +125,7 @@ fn job_by<'t>(alloc: Global, value: &JsonValue<'t>, model: Placed) -> Result<Job
     let further = further_nodes(alloc, value, &table, names.as_slice())?;
     Ok(Job {
         table,
-        place,
+        index,
         further,
         writes,
         endpoint,

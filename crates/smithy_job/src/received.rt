@@ -1,14 +1,14 @@
 // The job of a response.
-ghost use Rattle.std.specs.Prelude.{◌≡◌, codes, map, Some, option_map};
-ghost use Rattle.smithy_json.specs.JsonView.{view};
+ghost use Rattle.std.specs.Prelude.{◌≡◌, codes, map, option_map};
+ghost use Rattle.smithy_json.specs.views.JsonView.{view};
 ghost use Rattle.serde_json.specs.Find.{get};
 ghost use Rattle.smithy_types.specs.Results.{each};
-ghost use Rattle.smithy_model.specs.PlaceView.{texts};
+ghost use Rattle.smithy_model.specs.views.NameView.{texts};
 ghost use Rattle.smithy_model.specs.Reads.{Reads};
 ghost use Rattle.smithy_model.specs.Models as models;
-ghost use Rattle.smithy_job.specs.Jobs.{output, error, coded, full_name_in, names_given, schema, errors, by_code, expected_by, expected, received};
-ghost use Rattle.smithy_job.specs.ReceivedView.{IsExpectedIn, IsReceived};
-ghost use Rattle.smithy_job.specs.Tables.{ReadsAs};
+ghost use Rattle.smithy_job.specs.Jobs.{output, error, full_name_in, names_given, schema, expected_coded, expected_by_code, expected_by_name, expected, received};
+ghost use Rattle.smithy_job.specs.views.ReceivedView.{IsExpectedIn, IsReceived};
+ghost use Rattle.smithy_job.specs.views.Tables.{ReadsAs};
 
 use crate::reading::{errors_asked, schema_asked};
 use crate::response::{policy_of, read_response};
@@ -26,7 +26,7 @@ pub struct CodedError<'t> {
     pub service: Vec<SchemaIndex>,
 }
 
-/// What a response is read as, by places in a table.
+/// What a response is read as, by indexes in a table.
 #[derive(Drop)]
 pub enum Expected<'t> {
     /// The output of the operation.
@@ -91,7 +91,7 @@ fn expected_output<'t>(alloc: Global, job: &JsonValue<'t>) -> Result<ExpectedIn<
     let placed = schema_asked(alloc, job, Asked::Output)?;
     Ok(ExpectedIn {
         table: placed.table,
-        expected: Expected::Output(placed.place),
+        expected: Expected::Output(placed.index),
     })
 }
 
@@ -105,7 +105,7 @@ fn expected_error<'t>(
     let placed = schema_asked(alloc, job, Asked::Error(name))?;
     Ok(ExpectedIn {
         table: placed.table,
-        expected: Expected::Error(placed.place),
+        expected: Expected::Error(placed.index),
     })
 }
 
@@ -115,8 +115,7 @@ fn expected_coded<'t>(
     code: &'t str,
     service: &[&'t str],
 ) -> Result<ExpectedIn<'t>, JobError>
-    ensures { ReadsAs IsExpectedIn
-        (option_map (coded code.now) (errors (texts service.now) (view job.now))) result }
+    ensures { ReadsAs IsExpectedIn (expected_coded code.now (texts service.now) (view job.now)) result }
 {
     let placed = errors_asked(alloc, job, service)?;
     Ok(ExpectedIn {
@@ -135,8 +134,7 @@ fn expected_by_code<'t>(
     job: &JsonValue<'t>,
     service: &[&'t str],
 ) -> Result<ExpectedIn<'t>, JobError>
-    ensures { ReadsAs IsExpectedIn
-        (by_code (view job.now) (texts service.now) (get (codes "code") (view job.now))) result }
+    ensures { ReadsAs IsExpectedIn (expected_by_code (texts service.now) (view job.now)) result }
 {
     let Some(code) = job.get("code") else {
         return expected_output(alloc, job);
@@ -153,9 +151,7 @@ fn expected_by_name<'t>(
     job: &JsonValue<'t>,
     name: &JsonValue<'t>,
 ) -> Result<ExpectedIn<'t>, JobError>
-    ensures { ReadsAs IsExpectedIn
-        (expected_by (view job.now) (Some (view name.now)) (get (codes "code") (view job.now))
-        (get (codes "serviceErrors") (view job.now))) result }
+    ensures { ReadsAs IsExpectedIn (expected_by_name (view name.now) (view job.now)) result }
 {
     match (job.get("code"), job.get("serviceErrors")) {
         (None, None) => match name.as_str() {

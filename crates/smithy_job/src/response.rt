@@ -2,12 +2,12 @@
 ghost use Rattle.std.specs.Prelude.{◌≡◌, ◌≤◌, ◌++◌, ◌∷◌, [], codes, map, option_and_then, IfSome};
 ghost use Rattle.base64.specs.Engines.{standard};
 ghost use Rattle.base64.specs.GeneralPurpose.{decoded_of};
-ghost use Rattle.smithy_json.specs.JsonView.{view};
+ghost use Rattle.smithy_json.specs.views.JsonView.{view};
 ghost use Rattle.serde_json.specs.Find.{get};
 ghost use Rattle.smithy_types.specs.Results.{each};
 ghost use Rattle.smithy_model.specs.Reads.{Reads};
 ghost use Rattle.smithy_job.specs.Responses.{bytes_in, status_in, header_in, headers_given, body_given, response_in, policy_named, policy_given};
-ghost use Rattle.smithy_job.specs.Tables.{ReadsAs};
+ghost use Rattle.smithy_job.specs.views.Tables.{ReadsAs};
 
 use crate::input::pair_of;
 use base64::DecodeAllocError;
@@ -81,10 +81,11 @@ fn headers_in(alloc: Global, items: &[JsonValue<'_>]) -> Result<Headers, JobErro
     Ok(headers)
 }
 
-fn headers_of(alloc: Global, response: &JsonValue<'_>) -> Result<Headers, JobError>
-    ensures { Reads (λ h. h) (headers_given (get (codes "headers") (view response.now))) result }
+/// The headers that a message has, none where they are absent. Takes memory.
+pub fn headers_of(alloc: Global, message: &JsonValue<'_>) -> Result<Headers, JobError>
+    ensures { Reads (λ h. h) (headers_given (get (codes "headers") (view message.now))) result }
 {
-    let Some(headers) = response.get("headers") else {
+    let Some(headers) = message.get("headers") else {
         return Ok(Headers::new(alloc));
     };
     match items_of(headers) {
@@ -93,10 +94,11 @@ fn headers_of(alloc: Global, response: &JsonValue<'_>) -> Result<Headers, JobErr
     }
 }
 
-fn body_of(alloc: Global, response: &JsonValue<'_>) -> Result<Option<Blob>, JobError>
-    ensures { Reads (λ b. b) (body_given (get (codes "body") (view response.now))) result }
+/// The bytes of a message's body, and no body where it is absent or null. Takes memory.
+pub fn body_of(alloc: Global, message: &JsonValue<'_>) -> Result<Option<Blob>, JobError>
+    ensures { Reads (λ b. b) (body_given (get (codes "body") (view message.now))) result }
 {
-    let Some(body) = response.get("body") else {
+    let Some(body) = message.get("body") else {
         return Ok(None);
     };
     match body {

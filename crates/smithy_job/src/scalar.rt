@@ -1,12 +1,12 @@
 // Scalars at a node of a kind, or at none.
 ghost use Rattle.std.specs.Prelude.{Some, option_map, IfOk};
 ghost use Rattle.serde_json.specs.View.{number_view};
-ghost use Rattle.smithy_json.specs.JsonView.{view};
+ghost use Rattle.smithy_json.specs.views.JsonView.{view};
 ghost use Rattle.smithy_json.specs.FromData.{of_data};
 ghost use Rattle.smithy_serde.specs.Values as values;
 ghost use Rattle.smithy_serde.specs.Values.{big_integer, document};
 ghost use Rattle.smithy_job.specs.Scalars.{whole_at, number_at, text_at};
-ghost use Rattle.smithy_job.specs.Tables.{ReadsAs, IsScalar};
+ghost use Rattle.smithy_job.specs.views.Tables.{ReadsAs, IsScalar};
 
 use base64::DecodeAllocError;
 use base64::engine::general_purpose::STANDARD;

@@ -1,12 +1,12 @@
 // The value that a JSON value is at a node.
-ghost use Rattle.smithy_json.specs.JsonView.{view, items_view, members_view};
-ghost use Rattle.smithy_job.specs.Values.{natural_label, value_in, elements_in, entries_in, members_in};
-ghost use Rattle.smithy_job.specs.ReadingView.{node_of, KeepsNodes, ReadsValue, ReadsWrites};
-ghost use Rattle.smithy_job.specs.Tables.{HasLabel, MayStandIn};
+ghost use Rattle.smithy_json.specs.views.JsonView.{view};
+ghost use Rattle.smithy_job.specs.Values.{natural_label, value_in};
+ghost use Rattle.smithy_job.specs.views.ReadingView.{node_of, KeepsNodes, ReadsValue, ReadsWrites, elements_at, entries_at, members_at};
+ghost use Rattle.smithy_job.specs.views.Tables.{HasLabel, MayStandIn};
 
 use crate::node::{
-    ModelNodes, element_of, is_document, is_structure, key_of, kind_of, member_at, member_place,
-    place_of, value_of,
+    ModelNodes, element_of, index_of, index_of_member, is_document, is_structure, key_of, kind_of,
+    member_at, value_of,
 };
 use crate::scalar::{document_value, number_value, text_value};
 use smithy_json::JsonValue;
@@ -66,14 +66,13 @@ fn elements_at<'t>(
     requires natural { HasLabel model.table.now model.natural.0 natural_label }
     requires element { MayStandIn model.table.now (node_of element) }
     ensures kept { KeepsNodes model.entry names.old names.new result }
-    ensures writes { ReadsWrites model.entry names.new
-        (elements_in (node_of element.entry) (items_view items.now)) result }
+    ensures writes { ReadsWrites model.entry names.new (elements_at element.entry items.now) result }
 {
     let mut writes = WriteList::new(alloc);
-    let place = place_of(model, element);
+    let index = index_of(model, element);
     for item in items {
         let value = value_at(alloc, model, names, element, item)?;
-        writes.push(place, value)?;
+        writes.push(index, value)?;
     }
     Ok(writes)
 }
@@ -92,18 +91,17 @@ fn entries_at<'t>(
     requires key { MayStandIn model.table.now (node_of key) }
     requires value { MayStandIn model.table.now (node_of value) }
     ensures kept { KeepsNodes model.entry names.old names.new result }
-    ensures writes { ReadsWrites model.entry names.new
-        (entries_in (node_of key.entry) (node_of value.entry) (members_view members.now)) result }
+    ensures writes { ReadsWrites model.entry names.new (entries_at key.entry value.entry members.now) result }
 {
     let mut writes = WriteList::new(alloc);
-    let key_place = place_of(model, key);
-    let value_place = place_of(model, value);
+    let key_index = index_of(model, key);
+    let value_index = index_of(model, value);
     let key_kind = kind_of(key);
     for member in members {
         let found = value_at(alloc, model, names, value, &member.1)?;
         let text = text_value(alloc, key_kind, member.0)?;
-        writes.push(key_place, text)?;
-        writes.push(value_place, found)?;
+        writes.push(key_index, text)?;
+        writes.push(value_index, found)?;
     }
     Ok(writes)
 }
@@ -121,15 +119,14 @@ pub fn members_at<'t>(
     requires natural { HasLabel model.table.now model.natural.0 natural_label }
     requires here { MayStandIn model.table.now (node_of here) }
     ensures kept { KeepsNodes model.entry names.old names.new result }
-    ensures writes { ReadsWrites model.entry names.new
-        (members_in (node_of here.entry) (members_view members.now)) result }
+    ensures writes { ReadsWrites model.entry names.new (members_at here.entry members.now) result }
 {
     let mut writes = WriteList::new(alloc);
     for member in members {
         let node = member_at(here, member.0);
-        let place = member_place(model, names, node, member.0)?;
+        let index = index_of_member(model, names, node, member.0)?;
         let value = value_at(alloc, model, names, node, &member.1)?;
-        writes.push(place, value)?;
+        writes.push(index, value)?;
     }
     Ok(writes)
 }

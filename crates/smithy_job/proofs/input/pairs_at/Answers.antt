@@ -1,5 +1,5 @@
 use Rattle.std.proofs.Common.{option_map, rules, sym}
-use Rattle.smithy_json.specs.JsonView.{view}
+use Rattle.smithy_json.specs.views.JsonView.{view}
 use Rattle.smithy_schema.specs.References.{schema_of}
 use Rattle.smithy_job.specs.Values.{value_in}
 use Rattle.smithy_job.proofs.InputLemmas.{next_pair, no_pair}
@@ -21,12 +21,12 @@ returns-in_err-value-clause-writes c =
 
 pub loop-item-preserved : goal.loop-item-preserved
 loop-item-preserved c =
-    let kept = keeps-both _ _ _ c.in_ok-place.ensures.kept c.in_ok-value.ensures.kept in
+    let kept = keeps-both _ _ _ c.in_ok-index.ensures.kept c.in_ok-value.ensures.kept in
     record {
       kept = keeps-both _ _ _ c.loop-item.invariant.kept kept;
       so_far =
-          value_more _ _ c.loop-item.writes c.push.new.self c.in_ok-place.place _ c.in_ok-value.value (value_in (option_map schema_of c.member_at-node.result) (view c.in-Some.value.now)) _ _ kept
-          (label-kept _ _ _ _ c.in_ok-value.ensures.kept c.in_ok-place.ensures.place) c.in_ok-value.ensures.value c.in_ok-push.ensures.ok c.in_ok-push.ensures.ok_defined
+          value_more _ _ c.loop-item.writes c.push.new.self c.in_ok-index.index _ c.in_ok-value.value (value_in (option_map schema_of c.member_at-node.result) (view c.in-Some.value.now)) _ _ kept
+          (label-kept _ _ _ _ c.in_ok-value.ensures.kept c.in_ok-index.ensures.index) c.in_ok-value.ensures.value c.in_ok-push.ensures.ok c.in_ok-push.ensures.ok_defined
           (rw (next_pair (schema_of c.args.schema) c.args.items.now c.loop-item.item-index c.item-item.result c.in-Some.name.now (view c.in-Some.value.now) c.loop-item-test.true c.item-item.is (sym c.in-Some.ensures), ← c.member_at-node.ensures) at c.loop-item.invariant.so_far);
     }
 

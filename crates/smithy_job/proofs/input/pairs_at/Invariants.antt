@@ -1,8 +1,8 @@
 use Rattle.std.proofs.Common.{drop}
-use Rattle.smithy_json.specs.JsonView.{items_view}
+use Rattle.smithy_json.specs.views.JsonView.{items_view}
 use Rattle.smithy_schema.specs.References.{schema_of}
 use Rattle.smithy_job.specs.Inputs.{pairs_in}
-use Rattle.smithy_job.specs.Tables.{Keeps, nodes_with}
+use Rattle.smithy_job.specs.views.Tables.{Keeps, nodes_with}
 use Rattle.smithy_job.proofs.ValueLemmas.{SoFar}
 use Rattle.smithy_job.proofs.input.pairs_at.Given as goal
 

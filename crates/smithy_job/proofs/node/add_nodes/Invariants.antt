@@ -1,5 +1,5 @@
 use Rattle.std.proofs.Common.{◌≡◌, take}
-use Rattle.smithy_job.specs.Tables.{nodes_with}
+use Rattle.smithy_job.specs.views.Tables.{nodes_with}
 use Rattle.smithy_job.proofs.node.add_nodes.Given as goal
 
 abbrev pub invariant-loop-name : goal.invariant-loop-name

@@ -1,11 +1,11 @@
 use Rattle.std.proofs.Common.{◌∙◌, rules, Some, sym, ap, option_and_then}
-use Rattle.smithy_json.specs.JsonView.{view}
+use Rattle.smithy_json.specs.views.JsonView.{view}
 use Rattle.smithy_schema.specs.References.{schema_of}
 use Rattle.smithy_model.specs.Models as models
 use Rattle.smithy_job.specs.Inputs.{input}
-use Rattle.smithy_job.specs.JobView.{IsJob}
+use Rattle.smithy_job.specs.views.JobView.{IsJob}
 use Rattle.smithy_job.specs.Jobs.{schema}
-use Rattle.smithy_job.specs.Tables.{AreWrites, nodes_with}
+use Rattle.smithy_job.specs.views.Tables.{AreWrites, nodes_with}
 use Rattle.smithy_job.proofs.JobLemmas.{placed_schema, schema_there, no_writes, no_endpoint, no_omit, job_read}
 use Rattle.smithy_job.proofs.ValueLemmas.{refuses}
 use Rattle.smithy_job.proofs.reading.job_by.Goals as goal

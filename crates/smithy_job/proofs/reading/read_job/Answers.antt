@@ -1,5 +1,5 @@
 use Rattle.std.proofs.Common.{rules}
-use Rattle.smithy_json.specs.JsonView.{view}
+use Rattle.smithy_json.specs.views.JsonView.{view}
 use Rattle.smithy_job.proofs.JobLemmas.{job_refused}
 use Rattle.smithy_job.proofs.reading.read_job.Goals as goal
 

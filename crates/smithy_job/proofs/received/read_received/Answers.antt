@@ -1,5 +1,5 @@
 use Rattle.std.proofs.Common.{refl, rules, sym}
-use Rattle.smithy_json.specs.JsonView.{view}
+use Rattle.smithy_json.specs.views.JsonView.{view}
 use Rattle.smithy_job.proofs.ReceivedLemmas.{received-so, received-refused}
 use Rattle.smithy_job.proofs.received.read_received.Goals as goal
 

@@ -1,5 +1,5 @@
 use Rattle.std.proofs.Common.{◌≡◌, map, drop}
-use Rattle.smithy_json.specs.JsonView.{view}
+use Rattle.smithy_json.specs.views.JsonView.{view}
 use Rattle.smithy_types.specs.Results.{each}
 use Rattle.smithy_model.proofs.Each.{and_rest}
 use Rattle.smithy_job.specs.Responses.{header_in}

@@ -1,4 +1,4 @@
-use Rattle.smithy_json.specs.JsonView.{view}
+use Rattle.smithy_json.specs.views.JsonView.{view}
 use Rattle.smithy_job.proofs.ScalarLemmas.{document_is}
 use Rattle.smithy_job.proofs.scalar.document_value.Goals as goal
 

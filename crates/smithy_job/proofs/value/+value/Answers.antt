@@ -1,5 +1,5 @@
 use Rattle.std.proofs.Common.{◌≡◌, rules, true, false, option_map}
-use Rattle.smithy_json.specs.JsonView.{view, items_view, members_view}
+use Rattle.smithy_json.specs.views.JsonView.{view, items_view, members_view}
 use Rattle.smithy_schema.specs.References.{schema_of}
 use Rattle.smithy_serde.specs.Values.{list, map, structure, null, boolean}
 use Rattle.smithy_job.specs.Values.{kind_of, is_document_kind, is_structure_kind, label_at, value_in, elements_in, entries_in, members_in}
@@ -26,8 +26,8 @@ pub elements_at-loop-item-preserved : goal.elements_at-loop-item-preserved
 elements_at-loop-item-preserved t c = record {
   kept = keeps-both _ _ _ c.loop-item.invariant.kept c.in_ok-value.ensures.kept;
   so_far =
-      value_more _ _ c.loop-item.writes c.push.new.self c.place_of-place.result _ c.in_ok-value.value (value_in (option_map schema_of c.args.element) (view c.item-item.result)) _ _ c.in_ok-value.ensures.kept
-      (model-label c.args.model.table.now c.value_at.new.names.items c.place_of-place.result.0 (label_at (option_map schema_of c.args.element)) c.place_of-place.ensures) c.in_ok-value.ensures.value c.in_ok-push.ensures.ok c.in_ok-push.ensures.ok_defined
+      value_more _ _ c.loop-item.writes c.push.new.self c.index_of-index.result _ c.in_ok-value.value (value_in (option_map schema_of c.args.element) (view c.item-item.result)) _ _ c.in_ok-value.ensures.kept
+      (model-label c.args.model.table.now c.value_at.new.names.items c.index_of-index.result.0 (label_at (option_map schema_of c.args.element)) c.index_of-index.ensures) c.in_ok-value.ensures.value c.in_ok-push.ensures.ok c.in_ok-push.ensures.ok_defined
       (rw (next_element (option_map schema_of c.args.element) c.args.items.now c.loop-item.item-index c.item-item.result c.loop-item-test.true c.item-item.is) at c.loop-item.invariant.so_far);
 }
 
@@ -51,10 +51,10 @@ pub entries_at-loop-member-preserved : goal.entries_at-loop-member-preserved
 entries_at-loop-member-preserved t c = record {
   kept = keeps-both _ _ _ c.loop-member.invariant.kept c.in_ok-found.ensures.kept;
   so_far =
-      entry_more _ _ c.loop-member.writes c.push.new.self c.push-in-loop-member.new.self c.place_of-key_place.result c.place_of-value_place.result _ _ c.in_ok-text.text c.in_ok-found.found _
+      entry_more _ _ c.loop-member.writes c.push.new.self c.push-in-loop-member.new.self c.index_of-key_index.result c.index_of-value_index.result _ _ c.in_ok-text.text c.in_ok-found.found _
       (value_in (option_map schema_of c.args.value) (view c.member-item.result.1)) _ _ c.in_ok-found.ensures.kept
-      (model-label c.args.model.table.now c.value_at.new.names.items c.place_of-key_place.result.0 (label_at (option_map schema_of c.args.key)) c.place_of-key_place.ensures)
-      (model-label c.args.model.table.now c.value_at.new.names.items c.place_of-value_place.result.0 (label_at (option_map schema_of c.args.value)) c.place_of-value_place.ensures)
+      (model-label c.args.model.table.now c.value_at.new.names.items c.index_of-key_index.result.0 (label_at (option_map schema_of c.args.key)) c.index_of-key_index.ensures)
+      (model-label c.args.model.table.now c.value_at.new.names.items c.index_of-value_index.result.0 (label_at (option_map schema_of c.args.value)) c.index_of-value_index.ensures)
       (rw c.kind_of-key_kind.ensures at c.in_ok-text.ensures) c.in_ok-found.ensures.value
       c.in_ok-push.ensures.ok c.in_ok-push.ensures.ok_defined c.in_ok-push-2.ensures.ok c.in_ok-push-2.ensures.ok_defined
       (rw (next_entry (option_map schema_of c.args.key) (option_map schema_of c.args.value) c.args.members.now c.loop-member.member-index c.member-item.result c.loop-member-test.true c.member-item.is) at c.loop-member.invariant.so_far);
@@ -78,12 +78,12 @@ members_at-returns-in_err-value-clause-writes t c =
 
 pub members_at-loop-member-preserved : goal.members_at-loop-member-preserved
 members_at-loop-member-preserved t c =
-    let kept = keeps-both _ _ _ c.in_ok-place.ensures.kept c.in_ok-value.ensures.kept in
+    let kept = keeps-both _ _ _ c.in_ok-index.ensures.kept c.in_ok-value.ensures.kept in
     record {
       kept = keeps-both _ _ _ c.loop-member.invariant.kept kept;
       so_far =
-          value_more _ _ c.loop-member.writes c.push.new.self c.in_ok-place.place _ c.in_ok-value.value (value_in (option_map schema_of c.member_at-node.result) (view c.member-item.result.1)) _ _ kept
-          (label-kept _ _ _ _ c.in_ok-value.ensures.kept c.in_ok-place.ensures.place) c.in_ok-value.ensures.value c.in_ok-push.ensures.ok c.in_ok-push.ensures.ok_defined
+          value_more _ _ c.loop-member.writes c.push.new.self c.in_ok-index.index _ c.in_ok-value.value (value_in (option_map schema_of c.member_at-node.result) (view c.member-item.result.1)) _ _ kept
+          (label-kept _ _ _ _ c.in_ok-value.ensures.kept c.in_ok-index.ensures.index) c.in_ok-value.ensures.value c.in_ok-push.ensures.ok c.in_ok-push.ensures.ok_defined
           (rw (next_member (option_map schema_of c.args.here) c.args.members.now c.loop-member.member-index c.member-item.result c.loop-member-test.true c.member-item.is, ← c.member_at-node.ensures) at c.loop-member.invariant.so_far);
     }
 

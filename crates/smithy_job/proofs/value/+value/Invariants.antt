@@ -1,8 +1,8 @@
 use Rattle.std.proofs.Common.{drop, option_map}
-use Rattle.smithy_json.specs.JsonView.{items_view, members_view}
+use Rattle.smithy_json.specs.views.JsonView.{items_view, members_view}
 use Rattle.smithy_schema.specs.References.{schema_of}
 use Rattle.smithy_job.specs.Values.{elements_in, entries_in, members_in}
-use Rattle.smithy_job.specs.Tables.{Keeps, nodes_with}
+use Rattle.smithy_job.specs.views.Tables.{Keeps, nodes_with}
 use Rattle.smithy_job.proofs.ValueLemmas.{SoFar}
 use Rattle.smithy_job.proofs.value.+value.Given as goal
 

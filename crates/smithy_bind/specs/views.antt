@@ -1,0 +1,4 @@
+pub mod AnswerView
+pub mod CodedView
+pub mod RecoveredView
+pub mod RoutedView

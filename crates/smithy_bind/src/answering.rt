@@ -1,0 +1,57 @@
+// The commands as one table: what each answers to the JSON value of its input.
+ghost use Rattle.smithy_json.specs.JsonView.{view};
+ghost use Rattle.smithy_bind.specs.Outcome.{answer_to, json_bodies};
+ghost use Rattle.smithy_bind.specs.Told.{by_json};
+ghost use Rattle.smithy_bind.specs.views.AnswerView.{Gives};
+
+use crate::command::Command;
+use crate::generate::generated;
+use crate::recovered::recovered;
+use crate::response::responded;
+use crate::routed::routed;
+use crate::sending::{Sending, job_told};
+use crate::texts::{help, version};
+use crate::told::{Answer, said};
+use smithy_json::{JsonValue, Scratch, read_json};
+use smithy_model::JobError;
+use smithy_serde::Codec;
+use std::alloc::Global;
+
+/// What a command answers to the JSON value of its input; one that reads no input looks at no value. The codec writes the bodies
+/// of requests. Takes memory. No job where the value is none for this command. Condition: the codec is lawful.
+pub fn answer<C: Codec + Drop>(
+    alloc: Global,
+    command: Command,
+    codec: C,
+    value: &JsonValue<'_>,
+) -> Result<Answer, JobError>
+    requires { C.lawful codec }
+    ensures { Gives (answer_to (json_bodies (C.text codec)) command (view value.now)) result }
+{
+    match command {
+        Command::Request => job_told(alloc, Sending::Rest, codec, value),
+        Command::Rpc => job_told(alloc, Sending::Rpc, codec, value),
+        Command::Response => responded(alloc, value),
+        Command::Recover => recovered(alloc, value),
+        Command::Route => routed(alloc, value),
+        Command::Generate(count) => generated(alloc, codec, count),
+        Command::Help => said(alloc, help()),
+        Command::Version => said(alloc, version()),
+    }
+}
+
+/// The same to the bytes of a job, whose texts with escapes are written to the scratch. No job also where they are no JSON in
+/// UTF-8 (RFC 8259).
+pub fn answer_text<C: Codec + Drop>(
+    alloc: Global,
+    scratch: &mut Scratch,
+    command: Command,
+    codec: C,
+    bytes: &[u8],
+) -> Result<Answer, JobError>
+    requires { C.lawful codec }
+    ensures { Gives (by_json (answer_to (json_bodies (C.text codec)) command) bytes.now) result }
+{
+    let value = read_json(alloc, bytes, scratch)?;
+    answer(alloc, command, codec, &value)
+}

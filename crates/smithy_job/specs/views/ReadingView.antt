@@ -1,0 +1,56 @@
+-- What the readers of values answer, over the nodes of a model and those of names that are no member's.
+use Rattle.std.specs.Prelude.{ℕ, List, Vec, Option, option_map, Result, OnOk, IfOk}
+use Rattle.std.specs.Borrow.{Bor}
+use Rattle.std.specs.declared.alloc.Global.{Global}
+use Rattle.smithy_schema.specs.Nodes.{Schema, Table}
+use Rattle.smithy_schema.specs.References.{schema_of}
+use Rattle.smithy_schema.specs.declared.parts.SchemaIndex.{SchemaIndex}
+use Rattle.smithy_schema.specs.declared.schema_ref.SchemaRef.{SchemaRef}
+use Rattle.smithy_json.specs.views.JsonView.{Member, items_view, members_view}
+use Rattle.smithy_json.specs.declared.value.JsonValue.{JsonValue}
+use Rattle.smithy_serde.specs.Values.{Label, Value, Writes}
+use Rattle.smithy_serde.specs.declared.value.ShapeValue.{ShapeValue}
+use Rattle.smithy_serde.specs.declared.value.WriteList.{WriteList}
+use Rattle.smithy_model.specs.declared.error.JobError.{JobError}
+use Rattle.smithy_job.specs.Inputs.{pairs_in}
+use Rattle.smithy_job.specs.Values.{elements_in, entries_in, members_in}
+use Rattle.smithy_job.specs.views.Tables.{Keeps, HasLabel, IsValue, AreWrites, ReadsAs, nodes_with}
+use Rattle.smithy_job.specs.declared.node.ModelNodes.{ModelNodes}
+
+-- names that are no member's
+abbrev pub Names : Type 0
+Names = Vec (Bor (List ℕ)) Global
+
+abbrev pub node_of : Option SchemaRef → Option Schema
+node_of here = option_map schema_of here
+
+-- the nodes of the model, and of these names
+abbrev pub nodes_of : ModelNodes → Names → Table
+nodes_of model names = nodes_with model.table.now names.items
+
+-- the nodes that there were are there
+abbrev pub KeepsNodes : {A E : Type 0} → ModelNodes → Names → Names → Result A E → Type 0
+KeepsNodes model before after result = OnOk result (Keeps (nodes_of model before) (nodes_of model after))
+
+-- the index has a node with this label
+abbrev pub GivesIndex : {E : Type 0} → ModelNodes → Names → Label → Result SchemaIndex E → Type 0
+GivesIndex model names label result = IfOk result (λ index. HasLabel (nodes_of model names) index.0 label)
+
+abbrev pub ReadsValue : ModelNodes → Names → Option Value → Result ShapeValue JobError → Type 0
+ReadsValue model names value result = ReadsAs (IsValue (nodes_of model names)) value result
+
+abbrev pub ReadsWrites : ModelNodes → Names → Option Writes → Result WriteList JobError → Type 0
+ReadsWrites model names writes result = ReadsAs (AreWrites (nodes_of model names)) writes result
+
+-- the writes of values of JSON, by the nodes of the code
+abbrev pub pairs_at : SchemaRef → List JsonValue → Option Writes
+pairs_at schema items = pairs_in (schema_of schema) (items_view items)
+
+abbrev pub elements_at : Option SchemaRef → List JsonValue → Option Writes
+elements_at element items = elements_in (node_of element) (items_view items)
+
+abbrev pub entries_at : Option SchemaRef → Option SchemaRef → List Member → Option Writes
+entries_at key value members = entries_in (node_of key) (node_of value) (members_view members)
+
+abbrev pub members_at : Option SchemaRef → List Member → Option Writes
+members_at here members = members_in (node_of here) (members_view members)
