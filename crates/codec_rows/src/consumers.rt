@@ -150,7 +150,7 @@ fn handed<D: ShapeDeserializer>(
 // The structure by the node of the operation's input.
 fn by_model(alloc: Global, given: &Value) -> Result<Text, Failed> {
     let placed = input_schema(alloc, given)?;
-    let schema = placed.table.get(placed.place).ok_or(Failed)?;
+    let schema = placed.table.get(placed.index).ok_or(Failed)?;
     let input = input_of(alloc, given)?;
     let Ok(mut reader) = JsonCodec.create_deserializer(alloc, input.as_slice()) else {
         return Err(Failed);

@@ -30,7 +30,7 @@ pub fn answer(alloc: Global, call: &str, given: &Value) -> Result<Option<Text>, 
         return Ok(None);
     };
     let placed = input_schema(alloc, given)?;
-    let structure = structure_of(alloc, &placed.table, placed.place, input).map_err(|_| Failed)?;
+    let structure = structure_of(alloc, &placed.table, placed.index, input).map_err(|_| Failed)?;
     let Some((table, writes)) = structure.stored_writes() else {
         return Err(Failed);
     };

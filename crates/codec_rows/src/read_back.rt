@@ -1,12 +1,9 @@
 // A document that is read back, by what the laws say.
-ghost use Rattle.std.specs.Prelude.{◌≡◌, Ok, Some, IsTrue};
+ghost use Rattle.std.specs.Prelude.{IsTrue};
 ghost use Rattle.smithy_types.specs.DocumentView.{view};
-ghost use Rattle.smithy_schema.specs.Nodes.{at_place};
-ghost use Rattle.smithy_serde.specs.DocumentOf.{document_of};
 ghost use Rattle.smithy_types.specs.Documents.{is_canonical};
-ghost use Rattle.smithy_serde.specs.ReadCalls.{Gives};
-ghost use Rattle.smithy_serde.specs.StoredValues.{HasNode, value_in};
-ghost use Rattle.smithy_document.specs.ReadsBack.{Follows, normal_form};
+ghost use Rattle.smithy_serde.specs.StoredValues.{HasNode};
+ghost use Rattle.codec_rows.specs.ReadBack.{ReadsBackAt};
 
 use smithy_document::DocumentShapeDeserializer;
 use smithy_document::laws::{documents_are_read_back, schemas_stand};
@@ -24,9 +21,7 @@ pub fn read_back(
 ) -> Result<ShapeValue, SerdeError>
     requires canonical { IsTrue (is_canonical (view document.now)) }
     requires defined { HasNode table.now node.0 }
-    ensures { (n : _) (v : _) → at_place table.now node.0 ≡ Some n →
-        Follows n v → document_of v ≡ Ok (view document.now)
-        → Gives (value_in table.now) (Some (Ok (normal_form n v))) result }
+    ensures { ReadsBackAt table.now node.0 (view document.now) result }
 {
     let Some(schema) = table.get(node) else {
         unreachable!()

@@ -54,7 +54,7 @@ fn query_error(alloc: Global, given: &Value) -> Result<Text, Failed> {
 
 fn by_registries(alloc: Global, call: &str, given: &Value) -> Result<Option<Text>, Failed> {
     let placed = input_schema(alloc, given)?;
-    let (table, place) = (&placed.table, placed.place);
+    let (table, place) = (&placed.table, placed.index);
     let first = registry_of(alloc, table, place, items_of(given, "first")?.as_slice())?;
     let second = match given.get("second").and_then(Value::as_array) {
         Some(steps) => registry_of(alloc, table, place, steps.as_slice())?,

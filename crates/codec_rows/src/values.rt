@@ -9,24 +9,28 @@ use crate::told::{optional, push_part, refusal};
 use crate::value_text::{document_told, value_told, writes_told};
 use serde_json::Value;
 use smithy_document::{DiscriminatedDocumentExt, DocumentShapeSerializer};
-use smithy_schema::{SchemaIndex, Schemas};
+use smithy_ids::{ShapeId, ShapeType};
+use smithy_model::ModelTable;
+use smithy_schema::{Schema, SchemaIndex, Schemas};
 use smithy_serde::{
-    SerdeError, SerializableStruct, ShapeReader, StructValue, ValueReader, read_value,
-    record_members,
+    SerdeError, SerializableStruct, ShapeReader, StructValue, ValueReader, read_struct_value,
+    read_value, record_members,
 };
 use smithy_types::{DiscriminatedDocument, NoSettings, Text};
 use std::alloc::Global;
 use test_rows::{Failed, text_of};
 
-/// What is told of the structure under `input`, read by the input of the operation under `operation`.
+/// What is told of the structure under `input`, read by the input of the operation under `operation`; with a member's name
+/// under `target`, by another node, which has the input's members and that member's shape as its target.
 pub fn answer(alloc: Global, call: &str, given: &Value) -> Result<Option<Text>, Failed> {
     let Some(input) = given.get("input") else {
         return Ok(None);
     };
-    let placed = input_schema(alloc, given)?;
-    let (table, place) = (&placed.table, placed.place);
+    let asked = asked_schema(alloc, given)?;
+    let (table, place) = (&asked.table, asked.index);
     let text = match call {
         "ValueReader::read" => read_told(alloc, table, place, input)?,
+        "read_struct_value" => by_own_members(alloc, table, place, given, input)?,
         "read_value" => value_at(alloc, table, place, text_of(given, "member")?, input)?,
         "read_value(DocumentShapeDeserializer)" => {
             value_back(alloc, table, place, text_of(given, "member")?, input)?
@@ -42,6 +46,39 @@ pub fn answer(alloc: Global, call: &str, given: &Value) -> Result<Option<Text>, 
         _ => return Ok(None),
     };
     Ok(Some(text))
+}
+
+// The schema that a row asks for.
+fn asked_schema(alloc: Global, given: &Value) -> Result<ModelTable, Failed> {
+    let input = input_schema(alloc, given)?;
+    match given.get("target").and_then(Value::as_str) {
+        Some(member) => with_target(alloc, input, member),
+        None => Ok(input),
+    }
+}
+
+// Another schema with the members of an input, whose target is the shape of a member.
+fn with_target(alloc: Global, input: ModelTable, member: &str) -> Result<ModelTable, Failed> {
+    let ModelTable {
+        mut table,
+        index,
+        natural,
+    } = input;
+    let target = target_of(&table, index, member).ok_or(Failed)?;
+    let members = match table.get(index) {
+        Some(schema) => Vec::from_slice(alloc, schema.members())?,
+        None => return Err(Failed),
+    };
+    let id = ShapeId::from_parts("ex#Own", "ex", "Own");
+    let schema = Schema::new_struct(id, ShapeType::Structure, members.as_slice());
+    let Ok(index) = table.insert(schema.with_target(target)) else {
+        return Err(Failed);
+    };
+    Ok(ModelTable {
+        table,
+        index,
+        natural,
+    })
 }
 
 /// The structure of an input by the node at a place.
@@ -84,6 +121,33 @@ fn read_told(
 /// The place of the shape that a member of the node at a place has.
 pub fn target_of(table: &Schemas, place: SchemaIndex, member: &str) -> Option<SchemaIndex> {
     table.get(place)?.member_schema(member)?.target()?.index()
+}
+
+// The index of the node of the member under `member`, where there is one, and else that of the schema.
+fn node_asked(table: &Schemas, schema: SchemaIndex, given: &Value) -> Option<SchemaIndex> {
+    match given.get("member").and_then(Value::as_str) {
+        Some(member) => table.get(schema)?.member_schema(member)?.index(),
+        None => Some(schema),
+    }
+}
+
+// The writes of the structure by the own members of a node, or the refusal.
+fn by_own_members(
+    alloc: Global,
+    table: &Schemas,
+    schema: SchemaIndex,
+    given: &Value,
+    input: &Value,
+) -> Result<Text, Failed> {
+    let index = node_asked(table, schema, given).ok_or(Failed)?;
+    let Some(node) = table.get(index) else {
+        return Err(Failed);
+    };
+    let mut reader = reader_of(alloc, input).map_err(|_| Failed)?;
+    match read_struct_value(alloc, &mut reader, table, node) {
+        Ok(writes) => writes_told(alloc, table, &writes),
+        Err(error) => refusal(alloc, &error),
+    }
 }
 
 // The value by the shape of a member.
@@ -217,10 +281,10 @@ fn kind_told(alloc: Global, given: &Value) -> Result<Text, Failed> {
 // The structure that a document is by settings of a caller's own.
 fn by_own_settings(alloc: Global, given: &Value) -> Result<Text, Failed> {
     let placed = input_schema(alloc, given)?;
-    if placed.table.get(placed.place).is_none() {
+    if placed.table.get(placed.index).is_none() {
         return Err(Failed);
     }
-    let reader = ValueReader::new(&placed.table, placed.place);
+    let reader = ValueReader::new(&placed.table, placed.index);
     let document = canonical_document_of(alloc, given)?;
     let document = DiscriminatedDocument::new(document, OwnSettings);
     let mut text = optional(alloc, document.discriminator())?;

@@ -18,7 +18,7 @@ pub fn answer(alloc: Global, call: &str, given: &Value) -> Result<Option<Text>, 
         return Ok(None);
     };
     let placed = input_schema(alloc, given)?;
-    let (table, place) = (&placed.table, placed.place);
+    let (table, place) = (&placed.table, placed.index);
     let text = match call {
         "WriteList::iter" => writes_told(alloc, table, &list_of(alloc, table, place, given)?)?,
         "WriteList::write" => each_told(alloc, table, &list_of(alloc, table, place, given)?)?,

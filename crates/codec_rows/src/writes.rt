@@ -23,7 +23,7 @@ pub fn answer(alloc: Global, call: &str, given: &Value) -> Result<Option<Text>, 
         return by_name(alloc, call, None, given);
     };
     let placed = input_schema(alloc, given)?;
-    let schema = placed.table.get(placed.place).ok_or(Failed)?;
+    let schema = placed.table.get(placed.index).ok_or(Failed)?;
     by_name(alloc, call, Some(schema), given)
 }
 

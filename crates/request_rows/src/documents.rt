@@ -47,14 +47,14 @@ fn by_model(alloc: Global, given: &Value, is_shape: bool) -> Result<Text, Failed
         Err(refusal) => return no_job(alloc, refusal),
     };
     let table = &found.table;
-    if table.get(found.place).is_none() {
+    if table.get(found.index).is_none() {
         return Err(Failed);
     }
     let json = given.get("document").ok_or(Failed)?.to_string(alloc)?;
     let told = if is_shape {
-        through_document(alloc, table, found.place, json.as_bytes())
+        through_document(alloc, table, found.index, json.as_bytes())
     } else {
-        document_value(alloc, table, found.place, json.as_bytes())
+        document_value(alloc, table, found.index, json.as_bytes())
     };
     match told {
         Ok(text) => Ok(text),

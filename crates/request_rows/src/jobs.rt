@@ -1,12 +1,17 @@
-// Jobs that are read: the writes of an input, and what a response is read as.
+// Jobs that are read: the writes of an input, what a response is read as, a request whose input is recovered, and one whose
+// operation is found.
 use crate::given_job::job_bytes;
-use crate::told::{no_job, push_headers, push_names, writes_text};
+use crate::told::{no_job, push_headers, push_names, request_text, writes_text};
 use serde_json::Value;
 use smithy_http::NonUtf8HeaderHandling;
-use smithy_job::{CodedError, Expected, Job, Received, read_job, read_received};
+use smithy_job::{
+    CodedError, Expected, Job, Operation, Received, Recovering, Routing, read_job, read_received,
+    read_recovering, read_routing,
+};
 use smithy_json::{Scratch, read_json};
 use smithy_model::{is_full_name, members_of, text_of};
 use smithy_schema::Schemas;
+use smithy_serde::OmitFlags;
 use smithy_types::Text;
 use std::alloc::Global;
 use test_rows::{Failed, text_of as given_text, told_bytes};
@@ -16,6 +21,8 @@ pub fn answer(alloc: Global, call: &str, given: &Value) -> Result<Option<Text>, 
     match call {
         "read_job" => Ok(Some(job(alloc, given)?)),
         "read_received" => Ok(Some(received(alloc, given)?)),
+        "read_recovering" => Ok(Some(recovering(alloc, given)?)),
+        "read_routing" => Ok(Some(routing(alloc, given)?)),
         "is_full_name" => {
             let is_name = is_full_name(given_text(given, "name")?);
             let word = if is_name { "true" } else { "false" };
@@ -46,15 +53,95 @@ fn job_text(alloc: Global, job: &Job<'_>) -> Result<Text, Failed> {
     if job.further.is_some() {
         text.push_str("further names; ")?;
     }
-    if job.omit.content_type {
+    push_settings(alloc, &mut text, job.endpoint, job.omit)?;
+    Ok(text)
+}
+
+// The headers to be left out, and the endpoint.
+fn push_settings(
+    alloc: Global,
+    text: &mut Text,
+    endpoint: &str,
+    omit: OmitFlags,
+) -> Result<(), Failed> {
+    if omit.content_type {
         text.push_str("without content type; ")?;
     }
-    if job.omit.content_length {
+    if omit.content_length {
         text.push_str("without content length; ")?;
     }
-    let endpoint = job.endpoint;
     text.push_str(format!(in alloc; "endpoint \"{endpoint}\"")?.as_str())?;
+    Ok(())
+}
+
+fn recovering(alloc: Global, given: &Value) -> Result<Text, Failed> {
+    let bytes = job_bytes(alloc, given)?;
+    let mut scratch = Scratch::new(alloc);
+    let value = match read_json(alloc, bytes.as_slice(), &mut scratch) {
+        Ok(value) => value,
+        Err(refusal) => return no_job(alloc, refusal.into()),
+    };
+    match read_recovering(alloc, &value) {
+        Ok(job) => recovering_text(alloc, &job),
+        Err(refusal) => no_job(alloc, refusal),
+    }
+}
+
+// The name of the schema, the headers to be left out, the endpoint, and the request.
+fn recovering_text(alloc: Global, job: &Recovering<'_>) -> Result<Text, Failed> {
+    let mut text = Text::from_str(alloc, "by")?;
+    push_names(&mut text, &job.table, &[job.index])?;
+    text.push_str("; ")?;
+    push_settings(alloc, &mut text, job.endpoint, job.omit)?;
+    text.push_str("\n")?;
+    text.push_str(request_text(alloc, &job.request)?.as_str())?;
     Ok(text)
+}
+
+fn routing(alloc: Global, given: &Value) -> Result<Text, Failed> {
+    let bytes = job_bytes(alloc, given)?;
+    let mut scratch = Scratch::new(alloc);
+    let value = match read_json(alloc, bytes.as_slice(), &mut scratch) {
+        Ok(value) => value,
+        Err(refusal) => return no_job(alloc, refusal.into()),
+    };
+    match read_routing(alloc, &value) {
+        Ok(job) => routing_text(alloc, job),
+        Err(refusal) => no_job(alloc, refusal),
+    }
+}
+
+// A line for each operation, and then the job in which the last one recovers the input; without one the request.
+fn routing_text(alloc: Global, job: Routing<'_>) -> Result<Text, Failed> {
+    let Routing {
+        mut operations,
+        request,
+        omit,
+    } = job;
+    let mut text = Text::from_str(alloc, "")?;
+    for operation in &operations {
+        push_operation(alloc, &mut text, operation)?;
+    }
+    match operations.pop() {
+        Some(last) => {
+            let job = last.into_recovering(request, omit);
+            text.push_str(recovering_text(alloc, &job)?.as_str())?;
+        }
+        None => text.push_str(request_text(alloc, &request)?.as_str())?,
+    }
+    Ok(text)
+}
+
+// The name of an operation, its method and its template, and the name of its input's schema.
+fn push_operation(alloc: Global, text: &mut Text, operation: &Operation<'_>) -> Result<(), Failed> {
+    let name = operation.name;
+    let http = operation.http();
+    let method = http.method();
+    let uri = http.uri();
+    let schema = operation.schema().shape_id();
+    let input = schema.as_str();
+    text.push_str(format!(in alloc; "{name} {method} {uri} {input}\n")?.as_str())?;
+    Ok(())
 }
 
 fn received(alloc: Global, given: &Value) -> Result<Text, Failed> {

@@ -11,6 +11,7 @@ mod requests;
 mod runs;
 mod schema_text;
 mod service;
+mod templates;
 mod told;
 mod told_input;
 
@@ -46,6 +47,9 @@ impl Answers for Calls {
             return Ok(text);
         }
         if let Some(text) = service::answer(alloc, call, given)? {
+            return Ok(text);
+        }
+        if let Some(text) = templates::answer(alloc, call, given)? {
             return Ok(text);
         }
         if let Some(text) = runs::answer(alloc, call, given)? {

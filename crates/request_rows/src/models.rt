@@ -7,7 +7,7 @@ use smithy_binding::{checked_input, checked_output};
 use smithy_ids::{PayloadHint, ShapeId, ShapeType};
 use smithy_json::{JsonValue, Scratch, read_json};
 use smithy_model::{
-    Asked, JobError, Placed, PlacedErrors, errors_of_operation, items_of, schema_of_operation,
+    Asked, JobError, ModelTable, PlacedErrors, errors_of_operation, items_of, schema_of_operation,
     text_of,
 };
 use smithy_schema::{Schema, SchemaIndex, Schemas};
@@ -52,7 +52,7 @@ fn asked_of<'t>(job: &JsonValue<'t>) -> Asked<'t> {
 }
 
 /// The schema that a row asks for of its model. It takes memory.
-pub fn placed(alloc: Global, job: &JsonValue<'_>) -> Result<Placed, JobError> {
+pub fn placed(alloc: Global, job: &JsonValue<'_>) -> Result<ModelTable, JobError> {
     let (Some(model), Some(name)) = (job.get("model"), text_of(job, "operation")) else {
         return Err(JobError::NoJob);
     };
@@ -72,8 +72,8 @@ fn by_schema(alloc: Global, given: &Value, told: Told) -> Result<Text, Failed> {
     };
     match told {
         Told::Schema => schema_text(alloc, &placed, flag_of(given, "members")),
-        Told::Input => checked(alloc, &placed.table, placed.place, true),
-        Told::Output => checked(alloc, &placed.table, placed.place, false),
+        Told::Input => checked(alloc, &placed.table, placed.index, true),
+        Told::Output => checked(alloc, &placed.table, placed.index, false),
         Told::Flagged => flagged(alloc, given, placed),
     }
 }
@@ -98,13 +98,13 @@ fn checked(
 }
 
 // The same of an input whose members are those of the schema, with a flag or a hint of the row's.
-fn flagged(alloc: Global, given: &Value, placed: Placed) -> Result<Text, Failed> {
-    let Placed {
+fn flagged(alloc: Global, given: &Value, placed: ModelTable) -> Result<Text, Failed> {
+    let ModelTable {
         mut table,
-        place,
+        index,
         ..
     } = placed;
-    let members = match table.get(place) {
+    let members = match table.get(index) {
         Some(schema) => Vec::from_slice(alloc, schema.members())?,
         None => return Err(Failed),
     };

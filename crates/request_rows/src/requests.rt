@@ -4,7 +4,6 @@ ghost use Rattle.std.specs.Prelude.{OnOk, IfOk, IsTrue};
 ghost use Rattle.smithy_schema.specs.References.{schema_of};
 ghost use Rattle.smithy_serde.specs.StoredValues.{AreDefined, IsDefined};
 ghost use Rattle.smithy_binding.specs.Checked.{checked_input as checked};
-ghost use Rattle.smithy_binding.specs.Protocols.{codec_of};
 
 use crate::given_job::job_bytes;
 use crate::told::{no_job, outcome_text, same_text};
@@ -44,7 +43,7 @@ fn sent(alloc: Global, given: &Value, is_placed: bool) -> Result<Text, Failed> {
     };
     let Job {
         table,
-        place,
+        index,
         further,
         writes,
         endpoint,
@@ -53,12 +52,12 @@ fn sent(alloc: Global, given: &Value, is_placed: bool) -> Result<Text, Failed> {
         Ok(job) => job,
         Err(refusal) => return no_job(alloc, refusal),
     };
-    let Some(schema) = table.get(place) else {
+    let Some(schema) = table.get(index) else {
         return Err(Failed);
     };
     let nodes = further.as_ref().unwrap_or(&table);
     let writes = with_broken_map(alloc, nodes, schema, given, writes)?;
-    let input = StructValue::with_writes(nodes, place, writes);
+    let input = StructValue::with_writes(nodes, index, writes);
     if is_placed {
         placed(alloc, input, schema, endpoint, omit)
     } else {
@@ -174,7 +173,7 @@ fn place_each_way<C: Codec>(
     answers: &mut Words,
 ) -> Result<(), Failed>
     requires checked { IsTrue (checked (schema_of schema)) }
-    requires lawful { C.lawful (codec_of protocol.now) }
+    requires lawful { C.lawful protocol.now.codec }
 {
     let outcome = protocol.serialize_request(alloc, input, schema, endpoint, omit);
     answers.push(outcome_text(alloc, outcome)?.as_str())?;

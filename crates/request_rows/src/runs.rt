@@ -93,6 +93,8 @@ fn command_of(given: &Value) -> Result<Command, Failed> {
         "request" => Ok(Command::Request),
         "response" => Ok(Command::Response),
         "rpc" => Ok(Command::Rpc),
+        "recover" => Ok(Command::Recover),
+        "route" => Ok(Command::Route),
         "generate" => {
             let count = count_of(given, "count")?;
             Ok(Command::Generate(u32::try_from(count).map_err(|_| Failed)?))

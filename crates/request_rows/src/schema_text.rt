@@ -1,6 +1,6 @@
 // Schemas of models as texts.
 use smithy_ids::{PayloadHint, TimestampFormat};
-use smithy_model::Placed;
+use smithy_model::ModelTable;
 use smithy_schema::{SchemaIndex, SchemaRef, Schemas};
 use smithy_types::Text;
 use std::alloc::Global;
@@ -8,9 +8,9 @@ use test_rows::Failed;
 
 /// How many nodes the table has, the full name of the schema, its method, URI and status code, what it says of payload and
 /// body, and the node of natural values; with `has_members` each member in a line of its own. It takes memory.
-pub fn schema_text(alloc: Global, placed: &Placed, has_members: bool) -> Result<Text, Failed> {
+pub fn schema_text(alloc: Global, placed: &ModelTable, has_members: bool) -> Result<Text, Failed> {
     let table = &placed.table;
-    let schema = table.get(placed.place).ok_or(Failed)?;
+    let schema = table.get(placed.index).ok_or(Failed)?;
     let natural = table.get(placed.natural).ok_or(Failed)?.full_name();
     let (count, name) = (table.len(), schema.full_name());
     let mut text = Text::from_string(format!(in alloc;

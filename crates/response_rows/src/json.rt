@@ -2,8 +2,8 @@
 ghost use Rattle.std.specs.Prelude.{IfOk};
 ghost use Rattle.smithy_serde.specs.Finishing.{IsReady};
 ghost use Rattle.smithy_serde.specs.StoredValues.{IsDefined};
-ghost use Rattle.smithy_serde.specs.Values.{structure};
-ghost use Rattle.smithy_serde.specs.Writing.{TellsOne, label};
+ghost use Rattle.smithy_serde.specs.Writing.{TellsStruct};
+ghost use Rattle.smithy_document.specs.JsonSeen.{json_seen};
 
 use crate::told::shortened;
 use smithy_document::{JsonCodec, JsonSerializer, json_is_lawful};
@@ -26,15 +26,13 @@ fn json_serializer(alloc: Global) -> Result<JsonSerializer, SerdeError>
 
 // Writes a structure, as `write_struct` does.
 fn write_value(
-    serializer: &mut JsonSerializer,
-    schema: SchemaRef<'_>,
+    to: &mut JsonSerializer,
+    node: SchemaRef<'_>,
     value: &dyn SerializableStruct,
 ) -> Result<(), SerdeError>
-    ensures { let seen = ⟦<JsonSerializer as ShapeSerializer>⟧.seen in
-        let told = structure (writes value.now) in
-        TellsOne (label schema.entry) told (seen serializer.old) (seen serializer.new) result }
+    ensures { TellsStruct node.entry (writes value.now) (json_seen to.old) (json_seen to.new) result }
 {
-    write_struct(serializer, schema, value)
+    write_struct(to, node, value)
 }
 
 // The text of a structure's document.

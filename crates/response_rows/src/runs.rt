@@ -81,17 +81,17 @@ fn spaced_request(alloc: Global, given: &Value) -> Result<Text, Failed> {
     };
     let Job {
         table,
-        place,
+        index,
         further,
         writes,
         endpoint,
         omit,
     } = job;
-    let Some(schema) = table.get(place) else {
+    let Some(schema) = table.get(index) else {
         return Err(Failed);
     };
     let nodes = further.as_ref().unwrap_or(&table);
-    let input = StructValue::with_writes(nodes, place, writes);
+    let input = StructValue::with_writes(nodes, index, writes);
     if !checked_input(alloc, schema)? {
         return Err(Failed);
     }

@@ -8,7 +8,7 @@ use Rattle.smithy_ids.specs.declared.payload_hint.PayloadHint.{PayloadHint}
 use Rattle.smithy_schema.specs.Nodes.{Schema, Node, Traits, Table, no_traits, bare_node, member_at}
 use Rattle.smithy_serde.specs.Values.{Label, Value, scalar, Write, writes_of, text, list, label_of}
 use Rattle.smithy_serde.specs.Values as value
-use Rattle.smithy_binding.specs.Placing.{Protocol, Omit}
+use Rattle.smithy_binding.specs.Placing.{Protocol, OmitFlags}
 use Rattle.smithy_document.specs.JsonText.{json_text}
 
 -- traits of members, each alone
@@ -119,5 +119,5 @@ abbrev pub json : Protocol
 json = record { content_type = codes "application/json"; text_of = json_text }
 
 -- both default headers are kept
-abbrev pub keep_all : Omit
+abbrev pub keep_all : OmitFlags
 keep_all = record { content_type = false; content_length = false }

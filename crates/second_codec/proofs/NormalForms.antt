@@ -7,7 +7,8 @@ use Rattle.smithy_schema.specs.Nodes.{at_place, member_at}
 use Rattle.smithy_serde.specs.Values.{Value, scalar, Write, label_of, writes_of, no_writes, write, whole, integer, text, blob, null, document, list, structure}
 use Rattle.smithy_serde.specs.Shaped.{is_shaped}
 use Rattle.smithy_serde.specs.Ranges.{is_in_range}
-use Rattle.smithy_serde.specs.NormalBody.{put_entry, last_named}
+use Rattle.smithy_types.specs.Maps.{with_value}
+use Rattle.smithy_serde.specs.NormalBody.{last_named}
 use Rattle.smithy_binding.specs.NormalForm.{view}
 use Rattle.second_codec.proofs.Making.{item_label, integer_label, to, named, elements, strings, string_map, list_map}
 use Rattle.second_codec.proofs.Samples.{own_content_type, nested_body, metadata, search, list_search, tags, list_payload, document_payload}
@@ -24,7 +25,7 @@ pub object_with_a_name_twice : is_in_range (scalar (document (doc.object (doc.me
 unfolding second_codec_on_literals
 object_with_a_name_twice = refl
 
-pub entry_in_place_of_another : put_entry (codes "k") (scalar null) ((codes "k", scalar (text [])) ∷ []) ≡ (codes "k", scalar null) ∷ []
+pub entry_in_place_of_another : with_value (codes "k") (scalar null) ((codes "k", scalar (text [])) ∷ []) ≡ (codes "k", scalar null) ∷ []
 entry_in_place_of_another = refl
 
 pub last_of_a_name : last_named (codes "k") ((codes "k", scalar (text [])) ∷ (codes "k", scalar null) ∷ (codes "l", scalar (text [])) ∷ []) ≡ Some (scalar null)

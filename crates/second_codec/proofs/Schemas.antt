@@ -4,7 +4,7 @@ use Rattle.second_codec.proofs.OnLiterals.{second_codec_on_literals}
 use Rattle.smithy_ids.specs.declared.shape_type.ShapeType.TheVariants as kind
 use Rattle.smithy_ids.specs.declared.payload_hint.PayloadHint.TheVariants.{StructPayload}
 use Rattle.smithy_schema.specs.Nodes.{no_traits}
-use Rattle.smithy_schema.specs.Routing.{routing}
+use Rattle.second_codec.specs.Routing.{routing}
 use Rattle.smithy_binding.specs.Clear.{is_clear}
 use Rattle.smithy_binding.specs.Checked.{checked_input}
 use Rattle.smithy_binding.specs.CheckedOutput.{checked_output}

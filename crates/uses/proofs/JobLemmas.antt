@@ -18,7 +18,7 @@ job_of s ws e o = record { schema = s; writes = list_of ws; endpoint = e; omit =
 
 -- the job that is answered is the one that was read
 pub job_answered : (o : Option jobs.Job) (stored : Job) (schema : Schema) (ws : Writes) (outcome : Result Request SerdeError)
-    → Has o (IsJob stored) → Some schema ≡ at_place stored.table stored.place.0 → ws ≡ writes_in (nodes_of stored) stored.writes
+    → Has o (IsJob stored) → Some schema ≡ at_place stored.table stored.index.0 → ws ≡ writes_in (nodes_of stored) stored.writes
     → RestAnswers schema ws stored.endpoint.now stored.omit outcome → ReadsAs AnswersJob o (Ok outcome)
 job_answered (Some is) stored schema ws outcome has node listed told =
     let same : schema ≡ is.schema = let e : Some schema ≡ Some is.schema = node ∙ has.schema in cc in

@@ -3,3 +3,4 @@ pub mod JobLemmas
 pub mod LenientTexts
 pub mod MemberLemmas
 pub mod RoundTripLemmas
+pub mod WayBackLemmas

@@ -5,12 +5,9 @@ use Rattle.smithy_http.specs.Requests.{Request}
 use Rattle.smithy_schema.specs.Nodes.{Schema}
 use Rattle.smithy_serde.specs.Values.{Write, Writes, list_of}
 use Rattle.smithy_serde.specs.declared.error.SerdeError.{SerdeError}
-use Rattle.smithy_serde.specs.declared.header_omit_settings.OmitFlags.{OmitFlags}
 use Rattle.smithy_binding.specs.Answer.{answer}
 use Rattle.smithy_binding.specs.Checked.{checked_input}
-use Rattle.smithy_binding.specs.DefaultHeaders.{omit_of}
-use Rattle.smithy_binding.specs.Placing.{Protocol, Omit}
-use Rattle.smithy_binding.specs.Protocols.{protocol_with}
+use Rattle.smithy_binding.specs.Placing.{Protocol, OmitFlags}
 use Rattle.smithy_binding.specs.Refusing.{Answers}
 use Rattle.smithy_binding.specs.Rpc.{rpc_answer}
 use Rattle.smithy_job.specs.Jobs.{Job}
@@ -18,16 +15,16 @@ use Rattle.uses.specs.GetObject as model
 
 -- their content type, and the text of a document
 abbrev pub json_bodies : Protocol
-json_bodies = protocol_with (codes "application/json") json_text
+json_bodies = record { content_type = codes "application/json"; text_of = json_text }
 
 -- no default header is left out
-abbrev pub keep_all : Omit
+abbrev pub keep_all : OmitFlags
 keep_all = record { content_type = false; content_length = false }
 
 -- by a schema that a request can be placed by, the outcome is the request of these writes, or their first fault
 abbrev pub IsAnswer : Schema → List Write → List ℕ → OmitFlags → Result Request SerdeError → Type 0
 IsAnswer schema ws endpoint omit result =
-    checked_input schema ≡ true → Answers result (answer json_bodies schema ws endpoint (omit_of omit))
+    checked_input schema ≡ true → Answers result (answer json_bodies schema ws endpoint omit)
 
 -- the same of the writes of a structure
 abbrev pub RestAnswers : Schema → Writes → List ℕ → OmitFlags → Result Request SerdeError → Type 0
@@ -40,7 +37,7 @@ RestAnswersModel ws result =
 
 -- the outcome is the call with these writes as its body, or their first fault
 abbrev pub RpcAnswers : Writes → List ℕ → OmitFlags → Result Request SerdeError → Type 0
-RpcAnswers ws endpoint omit result = Answers result (rpc_answer json_bodies ws endpoint (omit_of omit))
+RpcAnswers ws endpoint omit result = Answers result (rpc_answer json_bodies ws endpoint omit)
 
 -- the outcome is what REST answers to a job
 abbrev pub AnswersJob : Result Request SerdeError → Job → Type 0

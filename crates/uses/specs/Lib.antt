@@ -2,4 +2,8 @@ pub mod Answering
 pub mod GetObject
 pub mod LenientText
 pub mod Members
+pub mod Outputs
 pub mod RoundTrip
+pub mod Routed
+pub mod Telling
+pub mod WayBack

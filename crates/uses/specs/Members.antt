@@ -1,8 +1,13 @@
 -- What a structure has for the member of a name.
-use Rattle.std.specs.Prelude.{ℕ, Bool, false, List, Option, Some, None, if◌then◌else◌}
+use Rattle.std.specs.Prelude.{ℕ, Bool, false, List, Option, Some, None, option_map, if◌then◌else◌}
+use Rattle.std.specs.Borrow.{Bor}
 use Rattle.std.specs.Option.{option_map_or}
 use Rattle.std.specs.Str.{bytes_eq}
 use Rattle.smithy_serde.specs.Values.{Label, Value, scalar, text, Writes, no_writes, write}
+
+-- a text that is lent
+abbrev pub lent : Option (Bor (List ℕ)) → Option (List ℕ)
+lent found = option_map (λ text. text.now) found
 
 -- a write to a member of this name
 abbrev pub has_name : List ℕ → Label → Bool

@@ -1,13 +1,10 @@
 // What requests tell of their inputs.
-ghost use Rattle.std.specs.Prelude.{◌≡◌, ◌↔◌, ℕ, List, IsTrue};
+ghost use Rattle.std.specs.Prelude.{IsTrue};
 ghost use Rattle.smithy_schema.specs.References.{schema_of};
-ghost use Rattle.smithy_serde.specs.Values.{Write};
 ghost use Rattle.smithy_binding.specs.Checked.{checked_input};
-ghost use Rattle.smithy_binding.specs.NormalForm.{view};
-ghost use Rattle.smithy_binding.specs.Placing.{Omit};
-ghost use Rattle.smithy_binding.specs.Protocols.{codec_of, protocol_of};
-ghost use Rattle.smithy_binding.specs.Typed.{IsTyped};
-ghost use Rattle.smithy_unambiguity.specs.Laws.{SeesSame, ViewSettles};
+ghost use Rattle.smithy_binding.specs.Protocols.{protocol_of};
+ghost use Rattle.smithy_unambiguity.specs.Laws.{ViewSettles};
+ghost use Rattle.uses.specs.Telling.{FactsTell};
 
 use smithy_binding::HttpBindingProtocol;
 use smithy_schema::SchemaRef;
@@ -19,13 +16,9 @@ use smithy_unambiguity::laws::{facts_decide_view, view_settles};
 /// own. Conditions: a request can be placed by the schema, and the codec is lawful. Takes no memory.
 pub fn requests_tell<C: Codec>(protocol: &HttpBindingProtocol<C>, schema: SchemaRef<'_>)
     requires checked { IsTrue (checked_input (schema_of schema)) }
-    requires lawful { C.lawful (codec_of protocol.now) }
+    requires lawful { C.lawful protocol.now.codec }
     ensures settles { ViewSettles (protocol_of C.text protocol.now) }
-    ensures tells { (endpoint : List ℕ) (omit : Omit) (v w : List Write) →
-        IsTyped (protocol_of C.text protocol.now) (schema_of schema.entry) endpoint omit v →
-        IsTyped (protocol_of C.text protocol.now) (schema_of schema.entry) endpoint omit w →
-        SeesSame (protocol_of C.text protocol.now) (schema_of schema.entry) endpoint omit v w
-        ↔ (view (schema_of schema.entry) v ≡ view (schema_of schema.entry) w) }
+    ensures tells { FactsTell (protocol_of C.text protocol.now) (schema_of schema.entry) }
 {
     schema_is_well_made(schema);
     view_settles(protocol);

@@ -1,4 +1,4 @@
-// Uses of the library, as a caller writes them: requests made, responses read, errors found, documents kept.
+// Uses of the library, as a caller writes them: requests made and read back, responses read, errors found, documents kept.
 #![tactic(auto)]
 
 mod documents;
@@ -6,8 +6,10 @@ mod errors;
 mod get_object;
 mod laws;
 pub mod lenient_json;
+mod recovering;
 mod requests;
 mod responses;
+mod routing;
 #[cfg(test)]
 mod tests;
 
@@ -15,5 +17,7 @@ pub use documents::{structure_in, through_document};
 pub use errors::{error_place, error_registry};
 pub use get_object::{get_object_request, get_object_table, get_object_writes};
 pub use laws::requests_tell;
+pub use recovering::input_of;
 pub use requests::{job_request, lenient_request, rest_request, rpc_request};
 pub use responses::{output_of, text_named};
+pub use routing::{object_routes, operation_of};

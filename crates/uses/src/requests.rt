@@ -89,16 +89,16 @@ pub fn job_request(
 {
     let Job {
         table,
-        place,
+        index,
         further,
         writes,
         endpoint,
         omit,
     } = read_job(alloc, value)?;
-    let Some(schema) = table.get(place) else {
+    let Some(schema) = table.get(index) else {
         unreachable!()
     };
     let nodes = further.as_ref().unwrap_or(&table);
-    let input = StructValue::with_writes(nodes, place, writes);
+    let input = StructValue::with_writes(nodes, index, writes);
     Ok(rest_request(alloc, &input, schema, endpoint, omit))
 }

@@ -1,12 +1,10 @@
 // Responses: read into a structure, and a member of it taken.
-ghost use Rattle.std.specs.Prelude.{◌≡◌, false, option_map};
+ghost use Rattle.std.specs.Prelude.{◌≡◌};
 ghost use Rattle.smithy_schema.specs.Nodes.{Table};
 ghost use Rattle.smithy_serde.specs.StoredValues.{HasNode, label_at, value_in, writes_in};
 ghost use Rattle.smithy_serde.specs.StructValues.{members_of};
-ghost use Rattle.smithy_document.specs.JsonHeld.{json_held};
-ghost use Rattle.smithy_response.specs.ProtocolReaders.{bytes_of};
-ghost use Rattle.smithy_response.specs.WholeResponses.{GivesResponse};
-ghost use Rattle.uses.specs.Members.{has_name, text_of, text_of_named};
+ghost use Rattle.uses.specs.Members.{has_name, lent, text_of, text_of_named};
+ghost use Rattle.uses.specs.Outputs.{GivesOutput};
 
 use smithy_document::JsonCodec;
 use smithy_http::{NonUtf8HeaderHandling, Response};
@@ -14,16 +12,6 @@ use smithy_response::response_value;
 use smithy_schema::{SchemaIndex, Schemas};
 use smithy_serde::{Codec, SerdeError, SerializableStruct, ShapeValue, StructValue, WriteList};
 use std::alloc::Global;
-
-// The bytes of the body, none where it isn't buffered.
-fn body_bytes(response: &Response) -> &[u8]
-    ensures { result.now ≡ bytes_of response.now }
-{
-    match response.body() {
-        Some(bytes) => bytes.as_slice(),
-        None => &[],
-    }
-}
 
 /// The output of a response by REST with bodies of JSON, read by the node at a place: exactly what status,
 /// headers and body have for its members, or the first refusal. Condition: the node is defined. Takes memory.
@@ -34,10 +22,9 @@ pub fn output_of<'t>(
     output: SchemaIndex,
 ) -> Result<StructValue<'t>, SerdeError>
     requires { HasNode table.now output.0 }
-    ensures { GivesResponse table.now output.0 response.now false NonUtf8HeaderHandling.Reject
-        (json_held (bytes_of response.now)) result }
+    ensures { GivesOutput table.now output.0 response.now result }
 {
-    let Ok(body) = JsonCodec.create_deserializer(alloc, body_bytes(response)) else {
+    let Ok(body) = JsonCodec.create_deserializer(alloc, response.body_bytes()) else {
         return Err(SerdeError::OutOfMemory);
     };
     let policy = NonUtf8HeaderHandling::Reject;
@@ -60,7 +47,7 @@ fn is_named(table: &Schemas, node: SchemaIndex, name: &str) -> bool
 // The text that a value is.
 #[tactic(auto, unfolding(smithy_serde::specs::StoredValues::value_in))]
 fn text_in(value: &ShapeValue) -> Option<&str>
-    ensures { (t : Table) → option_map (λ found. found.now) result ≡ text_of (value_in t value.now) }
+    ensures { (t : Table) → lent result ≡ text_of (value_in t value.now) }
 {
     match value {
         ShapeValue::String(text) => Some(text.as_str()),
@@ -70,8 +57,7 @@ fn text_in(value: &ShapeValue) -> Option<&str>
 
 // The text of the first write to a member of this name, where it is one.
 fn text_among<'v>(table: &Schemas, writes: &'v WriteList, name: &str) -> Option<&'v str>
-    ensures { let writes = writes_in table.now writes.now in
-        option_map (λ found. found.now) result ≡ text_of_named name.now writes }
+    ensures { lent result ≡ text_of_named name.now (writes_in table.now writes.now) }
 {
     for (node, value) in writes.iter() {
         if is_named(table, node, name) {
@@ -84,7 +70,7 @@ fn text_among<'v>(table: &Schemas, writes: &'v WriteList, name: &str) -> Option<
 /// The text that a structure has for the member of this name, where the first write to it is one. Takes no
 /// memory.
 pub fn text_named<'v>(value: &'v StructValue<'_>, name: &str) -> Option<&'v str>
-    ensures { option_map (λ found. found.now) result ≡ text_of_named name.now (members_of value.now) }
+    ensures { lent result ≡ text_of_named name.now (members_of value.now) }
 {
     match value.stored_writes() {
         Some((table, writes)) => text_among(table, writes, name),

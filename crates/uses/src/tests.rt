@@ -8,6 +8,7 @@ use smithy_binding::HttpBindingProtocol;
 use smithy_http::{Headers, NonUtf8HeaderHandling, Response};
 use smithy_ids::{HttpTrait, ShapeId, ShapeType};
 use smithy_json::{Scratch, read_json};
+use smithy_recovery::RecoverError;
 use smithy_response::ResponseProtocol;
 use smithy_schema::{Schema, SchemaError, SchemaIndex, Schemas};
 use smithy_serde::{OmitFlags, ShapeReader, ShapeValue, StructValue, ValueReader};
@@ -23,6 +24,39 @@ fn a_model_in_code_has_a_request(rt: HostRuntime) -> Result<(), Fail> {
     assert_eq!(rt; request.uri(), "/b/x/y%20z?max=3");
     assert_eq!(rt; request.headers().get("x-id"), Some("7"));
     assert!(rt; request.body().as_slice().is_empty());
+    Ok(())
+}
+
+#[test]
+fn a_request_has_its_input(rt: HostRuntime) -> Result<(), Fail> {
+    let alloc = rt.alloc();
+    let table = get_object_table(alloc)?;
+    assert!(rt; table.get(INPUT).is_some());
+    let writes = get_object_writes(alloc, "b", "x/y z", 3, 7)?;
+    let mut request = get_object_request(alloc, writes)?;
+    let keep = OmitFlags::KEEP_ALL;
+    let input = input_of(alloc, &request, &table, INPUT, "", keep)?;
+    assert_eq!(rt; text_named(&input, "Bucket"), Some("b"));
+    assert_eq!(rt; text_named(&input, "Key"), Some("x/y z"));
+    request.set_uri("/b/x/y%2fz?max=3")?;
+    let other = input_of(alloc, &request, &table, INPUT, "", keep);
+    assert_eq!(rt; other.err(), Some(RecoverError::NotPlaced));
+    Ok(())
+}
+
+#[test]
+fn a_request_has_its_operation(rt: HostRuntime) -> Result<(), Fail> {
+    let alloc = rt.alloc();
+    let routes = object_routes(alloc)?;
+    let writes = get_object_writes(alloc, "b", "x/y z", 3, 7)?;
+    let request = get_object_request(alloc, writes)?;
+    let found = operation_of(&routes, request.method(), request.uri());
+    assert_eq!(rt; found, Some("GetObject"));
+    assert_eq!(rt;
+        operation_of(&routes, "GET", "/b?acl"),
+        Some("GetBucketAcl")
+    );
+    assert_eq!(rt; operation_of(&routes, "GET", "/b/"), None);
     Ok(())
 }
 

@@ -139,6 +139,10 @@ fn kind(alloc: Global, given: &Value) -> Result<Text, Failed> {
     told.tell_flag("simple", kind.is_simple())?;
     told.tell_flag("aggregate", kind.is_aggregate())?;
     told.tell_flag("member", kind.is_member())?;
+    told.tell_flag("structure", kind.is_structure())?;
+    told.tell_flag("structure or union", kind.is_structure_or_union())?;
+    told.tell_flag("scalar", kind.is_scalar())?;
+    told.tell_flag("unwritable", kind.is_unwritable())?;
     Ok(told.into_text())
 }
 

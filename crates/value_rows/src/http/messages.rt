@@ -111,10 +111,10 @@ fn tell_response(told: &mut Told, response: &Response) -> Result<(), Failed> {
     let status = format!(in told.alloc(); "{}", response.status())?;
     told.tell(status.as_str())?;
     tell_pairs(told, response.headers())?;
-    match response.body() {
-        Some(body) => told.tell_bytes("body", body.as_slice())?,
-        None => told.tell("no body")?,
+    if response.body().is_none() {
+        told.tell("no body")?;
     }
+    told.tell_bytes("body", response.body_bytes())?;
     let policy = NonUtf8HeaderHandling::default();
     told.tell_flag("rejects", policy == NonUtf8HeaderHandling::Reject)
 }

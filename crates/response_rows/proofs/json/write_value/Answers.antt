@@ -7,5 +7,5 @@ use Rattle.response_rows.proofs.json.write_value.Goals as goal
 
 pub returns : goal.returns
 returns g c =
-    let shown = read_made own-2 entry-2-1 at-2-1 same-2-1 _ (λ j y. j.1.seen y) _ _ _ c.serializer-1.given.2 in
-    told_same c.write_struct.ensures (readsᵐ-seen-2-1 _) shown (sym (ap json_seen (c.serializer-2-1.given.1 refl)))
+    let shown = read_made own-2 entry-2-1 at-2-1 same-2-1 _ (λ j y. j.1.seen y) _ _ _ c.to-1.given.2 in
+    told_same c.write_struct.ensures (readsᵐ-seen-2-1 _) shown (sym (ap json_seen (c.to-2-1.given.1 refl)))
