@@ -1,5 +1,8 @@
 // The end of a measurement that can't go on.
+use matchit::InsertError;
 use smithy_http::HttpError;
+use smithy_recovery::RecoverError;
+use smithy_router::RouteError;
 use smithy_schema::SchemaError;
 use smithy_serde::SerdeError;
 use smithy_types::OutOfMemory;
@@ -42,6 +45,24 @@ impl From<SchemaError> for Failed {
 
 impl From<SerdeError> for Failed {
     fn from(_: SerdeError) -> Failed {
+        Failed
+    }
+}
+
+impl From<RecoverError> for Failed {
+    fn from(_: RecoverError) -> Failed {
+        Failed
+    }
+}
+
+impl From<RouteError> for Failed {
+    fn from(_: RouteError) -> Failed {
+        Failed
+    }
+}
+
+impl From<InsertError> for Failed {
+    fn from(_: InsertError) -> Failed {
         Failed
     }
 }

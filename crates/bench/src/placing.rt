@@ -1,12 +1,12 @@
-// What is measured: requests of one input, placed again and again.
+// What is measured: requests of one input, placed again and again, or read back.
 ghost use Rattle.std.specs.Prelude.{IsTrue};
 ghost use Rattle.smithy_schema.specs.References.{schema_of};
 ghost use Rattle.smithy_serde.specs.StoredValues.{AreDefined};
 ghost use Rattle.smithy_binding.specs.Checked.{checked_input as checked};
-ghost use Rattle.smithy_binding.specs.Protocols.{codec_of};
 
 use crate::failed::Failed;
 use crate::told_struct::ToldStruct;
+use crate::way_back::read_back;
 use smithy_binding::{HttpBindingProtocol, checked_input};
 use smithy_document::{JsonCodec, json_is_lawful};
 use smithy_ids::ShapeId;
@@ -14,11 +14,13 @@ use smithy_schema::{SchemaIndex, SchemaRef, Schemas};
 use smithy_serde::{Codec, OmitFlags, SerializableStruct, StructValue, WriteList};
 use std::alloc::Global;
 
-/// How an input gives its writes: it keeps them ready, or tells them one by one.
+/// What is done with an input: it is placed, keeping its writes ready or telling them one by one, or it is placed once and its
+/// request read back.
 #[derive(Clone, Copy)]
-pub enum Giving {
-    Kept,
-    Told,
+pub enum Doing {
+    PlacingKept,
+    PlacingTold,
+    ReadingBack,
 }
 
 // Places the input so many times, and drops each request.
@@ -30,7 +32,7 @@ fn place_checked(
     times: u32,
 ) -> Result<(), Failed>
     requires checked { IsTrue (checked (schema_of schema)) }
-    requires lawful { ⟦<JsonCodec as Codec>⟧.lawful (codec_of protocol.now) }
+    requires lawful { ⟦<JsonCodec as Codec>⟧.lawful protocol.now.codec }
 {
     for _ in 0..times {
         protocol.serialize_request(alloc, input, schema, "", OmitFlags::KEEP_ALL)?;
@@ -38,14 +40,14 @@ fn place_checked(
     Ok(())
 }
 
-/// Places an input of these writes so many times, by the schema at a place of the table. Fails where the schema is no
-/// checked one, and where the input is refused.
-pub fn place(
+/// Places an input of these writes so many times, by the schema at a place of the table, or reads its request back. Fails where
+/// the schema is no checked one, and where the input is refused or not recovered.
+pub fn do_with(
     alloc: Global,
     table: &Schemas,
     node: SchemaIndex,
     writes: WriteList,
-    giving: Giving,
+    doing: Doing,
     times: u32,
 ) -> Result<(), Failed>
     requires { AreDefined table.now writes }
@@ -60,8 +62,13 @@ pub fn place(
     let protocol = HttpBindingProtocol::new(id, JsonCodec, "application/json");
     json_is_lawful(protocol.codec());
     let value = StructValue::with_writes(table, node, writes);
-    match giving {
-        Giving::Kept => place_checked(alloc, &protocol, &value, schema, times),
-        Giving::Told => place_checked(alloc, &protocol, &ToldStruct { value }, schema, times),
+    match doing {
+        Doing::PlacingKept => place_checked(alloc, &protocol, &value, schema, times),
+        Doing::PlacingTold => place_checked(alloc, &protocol, &ToldStruct { value }, schema, times),
+        Doing::ReadingBack => {
+            let keep = OmitFlags::KEEP_ALL;
+            let request = protocol.serialize_request(alloc, &value, schema, "", keep)?;
+            read_back(alloc, table, node, &request, times)
+        }
     }
 }

@@ -4,7 +4,7 @@ ghost use Rattle.smithy_serde.specs.StoredValues.{AreDefined, IsDefined};
 
 use crate::failed::Failed;
 use crate::inputs::{add, text_value};
-use crate::placing::{Giving, place};
+use crate::placing::{Doing, do_with};
 use smithy_ids::{HttpTrait, ShapeId, ShapeType};
 use smithy_schema::{Schema, SchemaError, SchemaIndex, Schemas};
 use smithy_serde::{ShapeValue, WriteList};
@@ -135,10 +135,10 @@ fn put_writes(alloc: Global, table: &Schemas) -> Result<WriteList, Failed>
     Ok(writes)
 }
 
-/// Places the input so many times.
-pub fn place_put(alloc: Global, giving: Giving, times: u32) -> Result<(), Failed> {
+/// Places the input so many times, or reads its request back.
+pub fn do_put(alloc: Global, doing: Doing, times: u32) -> Result<(), Failed> {
     let mut table = Schemas::new(alloc);
     let node = insert(&mut table)?;
     let writes = put_writes(alloc, &table)?;
-    place(alloc, &table, node, writes, giving, times)
+    do_with(alloc, &table, node, writes, doing, times)
 }
