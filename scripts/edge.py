@@ -207,8 +207,10 @@ GET = json.dumps({
             "Bucket": {"target": "smithy.api#String", "traits": {"smithy.api#httpLabel": {}}}}},
         "ex#GetOut": {"type": "structure", "members": {"Name": {"target": "smithy.api#String"}}}}},
     "operation": "ex#Get",
+    "operations": ["ex#Get"],
     "input": {"Bucket": "b"},
     "response": {"status": 200, "body": "{\"Name\":\"a\"}"},
+    "request": {"method": "GET", "target": "/b"},
 }).encode()  # fmt: skip
 GOTTEN = b"GET /b\n\n"
 WITHOUT_BUCKET = GET.replace(b'"Bucket": "b"', b'"Bucket": ""')
@@ -216,6 +218,9 @@ NO_BUCKET = b"InvalidInput: invalid input: Bucket was missing: cannot be empty o
 WITHOUT_BODY = GET.replace(b'{\\"Name\\":\\"a\\"}', b"")
 NO_JSON = b"InvalidInput: invalid input: body is not JSON\n"
 NO_TARGET = b"Custom: invalid endpoint URI: not a legal request target\n"
+WITHOUT_LABEL = GET.replace(b'"target": "/b"', b'"target": "/"')
+NO_INPUT = b"NotPlaced: no typed input has this request\n"
+NO_ROUTE = b"NoRoute: no operation has this request\n"
 
 
 def numbers(length):
@@ -269,6 +274,10 @@ def inputs():
         ("no label", "request", WITHOUT_BUCKET, 3, NO_BUCKET),
         ("no body", "response", WITHOUT_BODY, 3, NO_JSON),
         ("no target", "rpc", GET[:-1] + b', "endpoint": "x"}', 3, NO_TARGET),
+        ("a request that is read back", "recover", GET, 0, b'{"Bucket":"b"}\n'),
+        ("a request of no input", "recover", WITHOUT_LABEL, 3, NO_INPUT),
+        ("a request whose operation is found", "route", GET, 0, b'ex#Get\n{"Bucket":"b"}\n'),
+        ("a request of no operation", "route", WITHOUT_LABEL, 3, NO_ROUTE),
         ("a text of 40,000 bytes", "rpc", job, 0, request),
     ]
     for name, command, data, status, text in ends:
@@ -298,7 +307,7 @@ def lengths():
 
 def failed_reads():
     """Standard input that can't be read, or not to its end."""
-    for command in ("request", "response", "rpc"):
+    for command in ("request", "response", "rpc", "recover", "route"):
         yield Case(f"{command} of a folder", [command], Path("/"), Pipe(), 4, b"")
         yield Case(f"{command} without standard input", [command], File(GET), Pipe(), 4, b"", None, close(0))
         for data in (b"", GET[:9], GET):
@@ -313,6 +322,8 @@ def failed_writes():
         ("a request", ["request"], GET),
         ("a fault", ["request"], WITHOUT_BUCKET),
         ("a response", ["response"], GET),
+        ("an input", ["recover"], GET),
+        ("an operation and an input", ["route"], GET),
         ("a text of 40,000 bytes", ["rpc"], job),
         ("generate 3", ["generate", "3"], b""),
         ("--help", ["--help"], b""),
@@ -337,7 +348,7 @@ def failed_writes():
 
 def without_memory():
     """An input for which there is not enough memory."""
-    for command in ("request", "response", "rpc"):
+    for command in ("request", "response", "rpc", "recover", "route"):
         first = limit(resource.RLIMIT_AS, MOST_READ)
         yield Case(f"{command} without memory", [command], File(GET.ljust(MOST_READ)), Pipe(), 6, b"", None, first)
 
