@@ -1,5 +1,5 @@
 -- What a reader gives of a body, in the words of the way back.
-use Rattle.std.proofs.Common.{◌≡◌, refl, sym, ap, cond, ℕ, Bool, true, false, List, Some, None, Result, Ok, Err}
+use Rattle.std.proofs.Common.{◌≡◌, refl, sym, ap, cond, ℕ, Bool, true, false, List, Some, None, Result, Ok, Err, subst}
 use Rattle.std.specs.Result.{result_ok}
 use Rattle.std.specs.Str.{is_utf8}
 use Rattle.smithy_http.specs.HeaderValues.{text_of}
@@ -10,10 +10,10 @@ use Rattle.smithy_serde.specs.Values as value
 use Rattle.smithy_serde.specs.Values.{Value, list_of}
 use Rattle.smithy_serde.specs.MembersRead.{structure_in}
 use Rattle.smithy_serde.specs.declared.error.SerdeError.{SerdeError}
-use Rattle.smithy_serde.specs.declared.error.SerdeError.TheVariants as serde_error
 use Rattle.smithy_serde.specs.declared.value.ShapeValue.{ShapeValue}
 use Rattle.smithy_serde.specs.declared.value.WriteList.{WriteList}
 use Rattle.smithy_recovery.specs.BodyParts.{text_payload, structure_writes}
+use Rattle.smithy_recovery.specs.Finding.{refusal_of}
 use Rattle.smithy_recovery.specs.views.Keeping.{Keeps, KeepsWrites}
 use Rattle.smithy_recovery.specs.declared.error.RecoverError.{RecoverError}
 use Rattle.smithy_recovery.specs.declared.error.RecoverError.TheVariants.{NotPlaced, OutOfMemory}
@@ -22,21 +22,26 @@ pub read_given : (t : Table) (read : Result Value SerdeError) (v : ShapeValue) �
 read_given t (Ok x) v gives = ap (λ (y : Value). Some y) (sym gives)
 read_given t (Err e) v gives = absurd gives
 
-pub read_refused : (t : Table) (read : Result Value SerdeError) (e : SerdeError) (r : RecoverError) → Gives (value_in t) (Some read) (Err e) → (e ≡ serde_error.OutOfMemory → r ≡ OutOfMemory) → Keeps t (result_ok read) (Err r)
-read_refused t (Ok x) e NotPlaced gives memory = let bad : NotPlaced ≡ OutOfMemory = memory gives in absurd (cc bad)
-read_refused t (Ok x) e OutOfMemory gives memory = tt
-read_refused t (Err x) e NotPlaced gives memory = refl
-read_refused t (Err x) e OutOfMemory gives memory = tt
+-- any refusal is free or says that there is nothing
+none_read : (t : Table) (r : RecoverError) → Keeps t None (Err r)
+none_read t NotPlaced = refl
+none_read t OutOfMemory = tt
+
+pub read_refused : (t : Table) (read : Result Value SerdeError) (e : SerdeError) → Gives (value_in t) (Some read) (Err e) → Keeps t (result_ok read) (Err (refusal_of e))
+read_refused t (Ok x) e gives = subst (λ y. Keeps t (Some x) (Err (refusal_of y))) (sym gives) tt
+read_refused t (Err x) e gives = none_read t (refusal_of e)
 
 pub members_given : (t : Table) (read : Result Value SerdeError) (ws : WriteList) → Gives (structure_in t) (Some read) (Ok ws) → structure_writes read ≡ Some (list_of (writes_in t ws))
 members_given t (Ok x) ws gives = ap (λ (y : Value). structure_writes (Ok y)) (sym gives)
 members_given t (Err e) ws gives = absurd gives
 
-pub members_refused : (t : Table) (read : Result Value SerdeError) (e : SerdeError) (r : RecoverError) → Gives (structure_in t) (Some read) (Err e) → (e ≡ serde_error.OutOfMemory → r ≡ OutOfMemory) → KeepsWrites t (structure_writes read) (Err r)
-members_refused t (Ok x) e NotPlaced gives memory = let bad : NotPlaced ≡ OutOfMemory = memory gives in absurd (cc bad)
-members_refused t (Ok x) e OutOfMemory gives memory = tt
-members_refused t (Err x) e NotPlaced gives memory = refl
-members_refused t (Err x) e OutOfMemory gives memory = tt
+none_written : (t : Table) (r : RecoverError) → KeepsWrites t None (Err r)
+none_written t NotPlaced = refl
+none_written t OutOfMemory = tt
+
+pub members_refused : (t : Table) (read : Result Value SerdeError) (e : SerdeError) → Gives (structure_in t) (Some read) (Err e) → KeepsWrites t (structure_writes read) (Err (refusal_of e))
+members_refused t (Ok x) e gives = subst (λ y. KeepsWrites t (structure_writes (Ok x)) (Err (refusal_of y))) (sym gives) tt
+members_refused t (Err x) e gives = none_written t (refusal_of e)
 
 pub text_some : (body text : List ℕ) → Some text ≡ text_of body → text_payload body ≡ Some (value.scalar (value.text text))
 text_some body text e = go (is_utf8 body) e

@@ -2,20 +2,18 @@
 use Rattle.std.proofs.Common.{◌≡◌, refl, sym, ◌∙◌, ap, subst, cond, ℕ, Bool, true, false, ◌||◌, not, List, [], ◌∷◌, length, map, filter_map, Option, Some, None, Result, Ok, Err, option_map, option_and_then, is_some, arith}
 use Rattle.std.specs.List.{list_any, cons_option}
 use Rattle.std.specs.Option.{option_map_or}
-use Rattle.std.specs.Result.{result_ok}
 use Rattle.smithy_ids.specs.declared.shape_type.ShapeType.{ShapeType}
 use Rattle.smithy_ids.specs.declared.shape_type.ShapeType.TheVariants as kind
 use Rattle.smithy_schema.specs.Nodes.{Schema, Table, at_place, members_of, Binding, to_body, binding_of, is_outside_body, is_bound}
 use Rattle.smithy_schema.specs.declared.parts.SchemaIndex.{SchemaIndex}
 use Rattle.smithy_serde.specs.Held.{Held}
 use Rattle.smithy_serde.specs.StoredValues.{value_in, writes_in, IsDefined, AreDefined}
-use Rattle.smithy_serde.specs.ValueRead.{value_read, value_of_structure}
 use Rattle.smithy_serde.specs.Values as value
 use Rattle.smithy_serde.specs.Values.{Value, Writes, no_writes, Write, list_of}
 use Rattle.smithy_serde.specs.declared.value.ShapeValue.{ShapeValue}
 use Rattle.smithy_serde.specs.declared.value.WriteList.{WriteList}
 use Rattle.smithy_binding.specs.Bodies.{is_raw_kind, has_unbound_member}
-use Rattle.smithy_recovery.specs.BodyParts.{text_payload, held_value, held_writes, payload_value, writes_inside, unbound_part, is_asked_at, is_asked, reads_body, is_told}
+use Rattle.smithy_recovery.specs.BodyParts.{text_payload, held_value, held_writes, payload_value, is_asked_at, is_asked, reads_body, is_told}
 use Rattle.smithy_recovery.specs.views.Keeping.{Keeps, KeepsHeld, KeepsPart, KeepsWrites, KeepsMembers}
 use Rattle.smithy_recovery.specs.views.KeptBodies.{KeepsValueTold, KeepsPartTold, KeepsPayload, KeepsBody, is_unbound_at}
 use Rattle.smithy_recovery.specs.declared.error.RecoverError.{RecoverError}
@@ -121,21 +119,17 @@ unbound_asked body (m ∷ ms) e = go (is_bound m) refl e (unbound_asked body ms)
 asked_some : (asked : Bool) (o : Option Held) → asked ≡ true → is_told asked o ≡ true → is_some o ≡ true
 asked_some asked o is told = ap (λ a. not a || is_some o) (sym is) ∙ told
 
-inside_listed : (o : Option Value) → option_map list_of (option_map writes_inside o) ≡ option_map (λ v. list_of (writes_inside v)) o
-inside_listed None = refl
-inside_listed (Some v) = refl
-
 members_kept : (t : Table) (schema : Schema) (o : Option Held) (result : Result WriteList RecoverError) → is_some o ≡ true → ((h : Held) → o ≡ Some h → KeepsWrites t (held_writes schema h) result)
-    → KeepsWrites t (option_map list_of (option_and_then (λ h. option_map writes_inside (result_ok (value_of_structure value_read schema h))) o)) result
+    → KeepsWrites t (option_and_then (held_writes schema) o) result
 members_kept t schema None result some kept = absurd (cc some)
-members_kept t schema (Some h) result some kept = subst (λ r. KeepsWrites t r result) (sym (inside_listed (result_ok (value_of_structure value_read schema h)))) (kept h refl)
+members_kept t schema (Some h) result some kept = kept h refl
 
 pub body_kept : (t : Table) (holds : List ℕ → Option Held) (schema : Schema) (body : List ℕ) (result : Result WriteList RecoverError) → has_unbound_member schema ≡ true → KeepsMembers t (holds body) (held_writes schema) result
     → KeepsBody t holds schema body result
 body_kept t holds schema body result some kept =
     record {
       writes = λ told.
-          subst (λ b. KeepsWrites t (cond b (option_map list_of (unbound_part holds schema body)) (Some [])) result) (sym some)
+          subst (λ b. KeepsWrites t (cond b (option_and_then (held_writes schema) (holds body)) (Some [])) result) (sym some)
           (members_kept t schema (holds body) result (asked_some (reads_body schema body) (holds body) (unbound_asked body (members_of schema) some) told) kept.writes);
       defined = kept.defined;
     }
@@ -145,7 +139,7 @@ no_body_kept t holds schema body ws none empty defined =
     record {
       writes = λ told.
           record {
-            writes = ap (λ b. cond b (option_map list_of (unbound_part holds schema body)) (Some [])) none ∙ ap (λ (us : Writes). Some (list_of us)) (sym empty);
+            writes = ap (λ b. cond b (option_and_then (held_writes schema) (holds body)) (Some [])) none ∙ ap (λ (us : Writes). Some (list_of us)) (sym empty);
             defined = defined;
           };
       defined = defined;

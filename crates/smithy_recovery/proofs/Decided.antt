@@ -24,7 +24,7 @@ use Rattle.smithy_binding.proofs.CheckedLaws.{IsCheckedInput-from_test}
 use Rattle.smithy_unambiguity.proofs.HeadersTold.{typed_writes}
 use Rattle.smithy_unambiguity.proofs.Requests.{placed_request}
 use Rattle.smithy_recovery.specs.Recovered.{Reading, read_writes, is_body_told, writes_defaults, is_typed, is_placed_so, recovered}
-use Rattle.smithy_recovery.specs.Recovering.{are_typed}
+use Rattle.smithy_recovery.specs.views.Stages.{are_typed}
 use Rattle.smithy_recovery.specs.SameFacts.{has_same_facts}
 use Rattle.smithy_recovery.specs.TypedWrites.{has_typed_writes}
 use Rattle.smithy_recovery.proofs.TypedTold.{typed_is_told}

@@ -20,7 +20,8 @@ use Rattle.smithy_unambiguity.specs.Laws.{FactsDecideView, ViewSettles, ViewIsTy
 use Rattle.smithy_recovery.specs.Finding.{Finds, refusal_of}
 use Rattle.smithy_recovery.specs.views.KeptMembers.{ReadsTold}
 use Rattle.smithy_recovery.specs.Recovered.{Reading, read_writes, is_body_told, recovered, RecoveredIsExact}
-use Rattle.smithy_recovery.specs.Recovering.{Tells, HasRequest}
+use Rattle.smithy_recovery.specs.Recovering.{HasFactsOf}
+use Rattle.smithy_recovery.specs.views.Stages.{Tells}
 use Rattle.smithy_recovery.specs.SameFacts.{has_same_facts}
 use Rattle.smithy_recovery.specs.declared.error.RecoverError.{RecoverError}
 use Rattle.smithy_recovery.specs.declared.error.RecoverError.TheVariants.{NotPlaced, OutOfMemory}
@@ -74,7 +75,7 @@ not_tested r omit q test e result is none told = rw is (none_of_test r omit q te
 -- By the laws.
 
 -- of a request with the facts of a typed input's, its normal form is recovered
-pub view_recovered : (r : Reading) (omit : OmitFlags) (q : Request) (ws : List Write) → RecoveredIsExact r → FactsDecideView r.protocol → ViewSettles r.protocol → ViewIsTyped r.protocol → IsSoundReading r → HasRequest r omit q ws
+pub view_recovered : (r : Reading) (omit : OmitFlags) (q : Request) (ws : List Write) → RecoveredIsExact r → FactsDecideView r.protocol → ViewSettles r.protocol → ViewIsTyped r.protocol → IsSoundReading r → HasFactsOf r omit q ws
     → recovered r omit q ≡ Some (view r.schema ws)
 view_recovered r omit q ws exact decide settles typed sound has =
     let own = settles r.schema r.endpoint omit ws sound.checked sound.well_made has.typed in
@@ -82,7 +83,7 @@ view_recovered r omit q ws exact decide settles typed sound has =
     let same = (decide r.schema r.endpoint omit ws (view r.schema ws) sound.checked sound.well_made has.typed typed_view).1 (sym own) in
     (exact omit q (view r.schema ws) sound.checked sound.well_made).1 (record { typed = typed_view; normal = own; seen = sym same ∙ has.seen })
 
-pub lacks : (r : Reading) (omit : OmitFlags) (q : Request) (ws : List Write) → RecoveredIsExact r → FactsDecideView r.protocol → ViewSettles r.protocol → ViewIsTyped r.protocol → IsSoundReading r → recovered r omit q ≡ None → HasRequest r omit q ws → ⊥
+pub lacks : (r : Reading) (omit : OmitFlags) (q : Request) (ws : List Write) → RecoveredIsExact r → FactsDecideView r.protocol → ViewSettles r.protocol → ViewIsTyped r.protocol → IsSoundReading r → recovered r omit q ≡ None → HasFactsOf r omit q ws → ⊥
 lacks r omit q ws exact decide settles typed sound none has =
     let both : None ≡ Some (view r.schema ws) = sym none ∙ view_recovered r omit q ws exact decide settles typed sound has in cc both
 

@@ -1,5 +1,5 @@
 -- Of a request with the facts of a typed input's the normal form is read.
-use Rattle.std.proofs.Common.{◌≡◌, refl, sym, ◌∙◌, ap, subst, cond, ℕ, suc, ◌+◌, slice_get, Bool, true, false, ◌&&◌, ◌||◌, List, [], ◌∷◌, Option, Some, None, option_map, option_and_then, is_some, is_none, not, if◌then◌else◌}
+use Rattle.std.proofs.Common.{◌≡◌, refl, sym, ◌∙◌, ap, subst, cond, ℕ, suc, ◌+◌, slice_get, Bool, true, false, ◌&&◌, ◌||◌, List, [], ◌∷◌, Option, Some, None, option_and_then, is_some, is_none, not, if◌then◌else◌}
 use Rattle.std.specs.List.{AllByRecursion, enumerate_from, list_any}
 use Rattle.std.specs.Option.{option_map_or}
 use Rattle.std.specs.Str.{str_to_ascii_lowercase}
@@ -15,7 +15,7 @@ use Rattle.smithy_schema.specs.Templates.{pieces}
 use Rattle.smithy_schema.specs.WellMade.{has_utf8}
 use Rattle.smithy_serde.specs.Lawful.{IsLawfulText}
 use Rattle.smithy_serde.specs.Ranges.{is_in_range}
-use Rattle.smithy_serde.specs.Values.{Value, Write, list_of}
+use Rattle.smithy_serde.specs.Values.{Value, Write}
 use Rattle.smithy_strings.specs.Escapes.{escape, AreBytes}
 use Rattle.smithy_binding.specs.Bindings.{pairs, labels}
 use Rattle.smithy_binding.specs.Bodies.{has_unbound_member}
@@ -23,17 +23,18 @@ use Rattle.smithy_binding.specs.Checked.{IsCheckedInput, has_plain_elements, is_
 use Rattle.smithy_binding.specs.NormalForm.{member_view}
 use Rattle.smithy_binding.specs.Placing.{Protocol, OmitFlags, template_of}
 use Rattle.smithy_strings.proofs.Bytes.{AreBytes-from_utf8}
+use Rattle.smithy_binding.proofs.WriteSteps.{member-passes}
 use Rattle.smithy_unambiguity.proofs.ByMember.{first_value, first_texts}
 use Rattle.smithy_unambiguity.proofs.HeadersTold.{clear_template}
 use Rattle.smithy_unambiguity.proofs.Lists.{all_apply}
 use Rattle.smithy_unambiguity.proofs.Members.{member_in_place}
-use Rattle.smithy_unambiguity.proofs.Placed.{HasTypedWrites, member_has, first_fitting}
+use Rattle.smithy_unambiguity.proofs.Placed.{HasTypedWrites, first_fitting}
 use Rattle.smithy_unambiguity.proofs.Positions.{members_by_position}
 use Rattle.smithy_unambiguity.proofs.QueryNames.{pairs_of_member}
 use Rattle.smithy_unambiguity.proofs.TextsBytes.{AreUtf8, texts_utf8, pairs_are_bytes, IsBytePair}
 use Rattle.smithy_unambiguity.proofs.Traits.{trait_of}
 use Rattle.smithy_unambiguity.proofs.UnboundTold.{unbound_form_is}
-use Rattle.smithy_recovery.specs.BodyParts.{payload_part, unbound_part}
+use Rattle.smithy_recovery.specs.BodyParts.{payload_part, held_writes}
 use Rattle.smithy_recovery.specs.HeaderParts.{header_part}
 use Rattle.smithy_recovery.specs.MemberParts.{part_writes, with_body}
 use Rattle.smithy_recovery.specs.PathParts.{path_texts}
@@ -53,7 +54,7 @@ use Rattle.smithy_recovery.proofs.Seen.{IsSeen, seen}
 -- Elements of a header or query list have no media type.
 plain_elements : (schema : Schema) → IsCheckedInput schema → (i : ℕ) (m : Schema) → member_at schema i ≡ Some m → (is_none m.node.traits.http_query && is_none m.node.traits.http_header) ≡ false → HasPlainElements m
 plain_elements schema checked i m at bound e is_list element =
-    let test = member_has has_plain_elements (members_of schema) i m (list_all-from_AllPass has_plain_elements (members_of schema) checked.elements) (members_by_position schema checked i ∙ at) in
+    let test = member-passes has_plain_elements schema i m (list_all-from_AllPass has_plain_elements (members_of schema) checked.elements) at in
     let plain : is_element_plain m ≡ true = ap (λ b. b || is_element_plain m) (sym bound) ∙ test in
     let is_plain = λ (x : Schema). is_none x.node.traits.media_type && same_format x.node.traits.timestamp_format m.node.traits.timestamp_format in
     let one : is_plain e ≡ true =
@@ -140,13 +141,13 @@ some_member (m ∷ ms) e = go (is_bound m) refl e (some_member ms)
 body_back : (r : Reading) → IsLawfulText r.protocol.text_of r.holds → (omit : OmitFlags) (ws : List Write) (q : Request) → IsSeen r.protocol r.schema r.endpoint omit ws q → body_writes r q ≡ Some (writes (free_part r.schema ws) 0 (members_of r.schema))
 body_back r lawful omit ws q is = go (has_unbound_member r.schema) refl
   where
-    go : (b : Bool) → has_unbound_member r.schema ≡ b → cond b (option_map list_of (unbound_part r.holds r.schema q.body)) (Some []) ≡ Some (writes (free_part r.schema ws) 0 (members_of r.schema))
+    go : (b : Bool) → has_unbound_member r.schema ≡ b → cond b (option_and_then (held_writes r.schema) (r.holds q.body)) (Some []) ≡ Some (writes (free_part r.schema ws) 0 (members_of r.schema))
     go false e = ap Some (sym (no_free r.schema ws 0 (members_of r.schema) e))
     go true e =
         let x = some_member (members_of r.schema) e in
         let form = unbound_form_is r.schema is.checked x.0 x.1 (sym (members_by_position r.schema is.checked x.0) ∙ x.2) x.3 in
-        ap (λ b. option_map list_of (unbound_part r.holds r.schema b)) (sym is.body)
-        ∙ ap (option_map list_of) (unbound_back r.protocol r.holds lawful r.schema r.endpoint omit ws is.checked is.well_made is.typed form)
+        ap (λ b. option_and_then (held_writes r.schema) (r.holds b)) (sym is.body)
+        ∙ unbound_back r.protocol r.holds lawful r.schema r.endpoint omit ws is.checked is.well_made is.typed form
         ∙ ap Some (unbound_is_free r.protocol r.schema r.endpoint omit ws is.checked is.well_made is.typed)
 
 pub reads_by : (r : Reading) → IsLawfulText r.protocol.text_of r.holds → ReadsView r

@@ -1,17 +1,16 @@
 -- Of a body that the codec's reader doesn't tell, where it is asked, nothing is read.
 use Rattle.std.proofs.Common.{◌≡◌, refl, ◌∙◌, ap, cond, ℕ, ◌+◌, Bool, true, false, ◌||◌, not, List, [], ◌∷◌, ◌⊎◌, inl, inr, Option, Some, None, option_map, option_and_then}
 use Rattle.std.specs.List.{list_any, cons_option, enumerate_from}
-use Rattle.std.specs.Result.{result_ok}
 use Rattle.smithy_ids.specs.declared.shape_type.ShapeType.{ShapeType}
 use Rattle.smithy_ids.specs.declared.shape_type.ShapeType.TheVariants as kind
 use Rattle.smithy_types.specs.Grammars.{before_query}
 use Rattle.smithy_http.specs.Requests.{Request}
 use Rattle.smithy_schema.specs.Nodes.{Schema, members_of, Binding, to_payload, to_body, binding_of, is_outside_body, is_bound}
 use Rattle.smithy_serde.specs.Held.{Held}
-use Rattle.smithy_serde.specs.Values.{Value, Write, list_of}
-use Rattle.smithy_serde.specs.ValueRead.{value_read, value_of_structure, write_by}
+use Rattle.smithy_serde.specs.Values.{Value, Write}
+use Rattle.smithy_serde.specs.ValueRead.{write_by}
 use Rattle.smithy_binding.specs.Bodies.{is_raw_kind, has_unbound_member}
-use Rattle.smithy_recovery.specs.BodyParts.{held_value, payload_value, payload_part, writes_inside, unbound_part, is_asked_at, is_asked, reads_body, is_told}
+use Rattle.smithy_recovery.specs.BodyParts.{held_value, payload_value, payload_part, is_asked_at, is_asked, reads_body, is_told, held_writes}
 use Rattle.smithy_recovery.specs.views.KeptMembers.{part_of, parts_read}
 use Rattle.smithy_recovery.specs.MemberParts.{part_writes, with_body}
 use Rattle.smithy_recovery.specs.PathParts.{path_texts}
@@ -81,8 +80,7 @@ untold_is_none r q e = go (path_texts (template r) (before_query q.target))
 
     no_body : has_unbound_member r.schema ≡ true → body_writes r q ≡ None
     no_body some =
-        ap (λ b. cond b (option_map list_of (unbound_part r.holds r.schema q.body)) (Some [])) some
-        ∙ ap (λ o. option_map list_of (option_and_then (λ h. option_map writes_inside (result_ok (value_of_structure value_read r.schema h))) o)) asked.1
+        ap (λ b. cond b (option_and_then (held_writes r.schema) (r.holds q.body)) (Some [])) some ∙ ap (option_and_then (held_writes r.schema)) asked.1
 
     by : (texts : List (List ℕ × List ℕ)) → (has_unbound_member r.schema ≡ true) ⊎ (parts_read r q texts (members_of r.schema) ≡ None) → with_body (parts_read r q texts (members_of r.schema)) (body_writes r q) ≡ None
     by texts (inl some) = ap (with_body (parts_read r q texts (members_of r.schema))) (no_body some)

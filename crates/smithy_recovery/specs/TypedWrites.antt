@@ -1,7 +1,8 @@
 -- What is asked of each write of a recovered input alone.
-use Rattle.std.specs.Prelude.{ℕ, ◌-◌, Bool, true, false, not, ◌&&◌, List, Option, Some, option_and_then, if◌then◌else◌}
+use Rattle.std.specs.Prelude.{ℕ, ◌-◌, Bool, true, false, not, ◌&&◌, ◌++◌, List, Option, Some, option_and_then, if◌then◌else◌}
 use Rattle.std.specs.List.{list_all}
 use Rattle.std.specs.Option.{option_map_or}
+use Rattle.std.specs.Str.{str_to_ascii_lowercase}
 use Rattle.smithy_types.specs.Texts.{are_distinct, is_one_of}
 use Rattle.smithy_ids.specs.declared.traits.TimestampFormat.{TimestampFormat}
 use Rattle.smithy_schema.specs.Nodes.{Schema, member_at, Binding, to_prefix, to_payload, to_body, binding_of}
@@ -37,6 +38,10 @@ has_sound_parts m _ = true
 -- of a value in the target or the headers
 abbrev pub is_typed_text : Schema → Value → Bool
 is_typed_text m v = is_in_range v && has_sound_parts m v
+
+-- the header of an entry has a default's name
+abbrev pub is_default_behind : (prefix key : List ℕ) → Bool
+is_default_behind prefix key = is_one_of (str_to_ascii_lowercase (prefix ++ key)) default_names
 
 -- no header of an entry has a default's name (httpPrefixHeaders)
 abbrev pub has_no_default : List ℕ → Schema → Value → Bool

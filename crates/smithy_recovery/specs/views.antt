@@ -9,3 +9,4 @@ pub mod KeptQueries
 pub mod NameOrder
 pub mod ShapedParts
 pub mod Testing
+pub mod Stages

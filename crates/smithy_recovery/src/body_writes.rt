@@ -1,17 +1,15 @@
 // What stands in a body: a payload, or the unbound members (Smithy, HTTP protocol bindings, httpPayload).
 ghost use Rattle.std.specs.Prelude.{◌≡◌, not, IfOk, Some, option_map};
 ghost use Rattle.smithy_schema.specs.Nodes.{Table, is_bound};
-ghost use Rattle.smithy_schema.specs.References.{schema_of};
+ghost use Rattle.smithy_schema.specs.References.{schema_of as node};
 ghost use Rattle.smithy_serde.specs.StoredValues.{value_in, IsDefined};
 ghost use Rattle.smithy_serde.specs.ValueRead.{IsPlaced};
 ghost use Rattle.smithy_serde.specs.Values as value;
 ghost use Rattle.smithy_serde.specs.Values.{list_of};
-ghost use Rattle.smithy_serde.specs.declared.error.SerdeError.TheVariants as serde_error;
 ghost use Rattle.smithy_recovery.specs.BodyParts.{text_payload, held_value, held_writes};
 ghost use Rattle.smithy_binding.specs.Bodies.{has_unbound_member};
 ghost use Rattle.smithy_recovery.specs.views.Keeping.{Keeps, KeepsHeld, KeepsMembers};
 ghost use Rattle.smithy_recovery.specs.views.KeptBodies.{is_unbound_at, KeepsPayloadValue, KeepsPayload, KeepsBody};
-ghost use Rattle.smithy_recovery.specs.declared.error.RecoverError.TheVariants as recover_error;
 
 use crate::error::RecoverError;
 use crate::header_values::text_in;
@@ -19,7 +17,7 @@ use crate::values::own_place;
 use smithy_ids::ShapeType;
 use smithy_schema::{Binding, SchemaIndex, SchemaRef, Schemas};
 use smithy_serde::{
-    Codec, SerdeError, ShapeDeserializer, ShapeValue, WriteList, read_struct_value, read_value,
+    Codec, ShapeDeserializer, ShapeValue, WriteList, read_struct_value, read_value,
 };
 use smithy_types::{Blob, OutOfMemory};
 use std::alloc::Global;
@@ -52,16 +50,6 @@ fn text_payload(alloc: Global, body: &[u8]) -> Result<ShapeValue, RecoverError>
     }
 }
 
-// A refusal of the codec's reader.
-fn not_read(error: SerdeError) -> RecoverError
-    ensures { error ≡ serde_error.OutOfMemory → result ≡ recover_error.OutOfMemory }
-{
-    match error {
-        SerdeError::OutOfMemory => RecoverError::OutOfMemory,
-        _ => RecoverError::NotPlaced,
-    }
-}
-
 // What a reader has at hand, by the node.
 fn value_at_hand<D: ShapeDeserializer>(
     alloc: Global,
@@ -69,13 +57,13 @@ fn value_at_hand<D: ShapeDeserializer>(
     table: &Schemas,
     member: SchemaRef<'_>,
 ) -> Result<ShapeValue, RecoverError>
-    requires placed { IsPlaced (schema_of member).table (schema_of member) }
-    requires table { (schema_of member).table ≡ table.now }
-    ensures { KeepsHeld table.now (D.at_hand reader.old).held (held_value (schema_of member.entry)) result }
+    requires placed { IsPlaced (node member).table (node member) }
+    requires table { (node member).table ≡ table.now }
+    ensures { KeepsHeld table.now (D.at_hand reader.old).held (held_value (node member.entry)) result }
 {
     match read_value(alloc, reader, table, own_place(member)) {
         Ok(value) => Ok(value),
-        Err(error) => Err(not_read(error)),
+        Err(error) => Err(RecoverError::from(error)),
     }
 }
 
@@ -87,9 +75,9 @@ fn codec_payload<C: Codec>(
     member: SchemaRef<'_>,
     body: &[u8],
 ) -> Result<ShapeValue, RecoverError>
-    requires placed { IsPlaced (schema_of member).table (schema_of member) }
-    requires table { (schema_of member).table ≡ table.now }
-    ensures { KeepsHeld table.now (C.holds codec.now body.now) (held_value (schema_of member.entry)) result }
+    requires placed { IsPlaced (node member).table (node member) }
+    requires table { (node member).table ≡ table.now }
+    ensures { KeepsHeld table.now (C.holds codec.now body.now) (held_value (node member.entry)) result }
 {
     match codec.create_deserializer(alloc, body) {
         Ok(mut reader) => value_at_hand(alloc, &mut reader, table, member),
@@ -104,12 +92,12 @@ fn members_at_hand<D: ShapeDeserializer>(
     table: &Schemas,
     schema: SchemaRef<'_>,
 ) -> Result<WriteList, RecoverError>
-    requires { (schema_of schema).table ≡ table.now }
-    ensures { KeepsMembers table.now (D.at_hand reader.old).held (held_writes (schema_of schema.entry)) result }
+    requires { (node schema).table ≡ table.now }
+    ensures { KeepsMembers table.now (D.at_hand reader.old).held (held_writes (node schema.entry)) result }
 {
     match read_struct_value(alloc, reader, table, schema) {
         Ok(writes) => Ok(writes),
-        Err(error) => Err(not_read(error)),
+        Err(error) => Err(RecoverError::from(error)),
     }
 }
 
@@ -122,8 +110,8 @@ fn unbound_writes<C: Codec>(
     schema: SchemaRef<'_>,
     body: &[u8],
 ) -> Result<WriteList, RecoverError>
-    requires { (schema_of schema).table ≡ table.now }
-    ensures { KeepsMembers table.now (C.holds codec.now body.now) (held_writes (schema_of schema.entry)) result }
+    requires { (node schema).table ≡ table.now }
+    ensures { KeepsMembers table.now (C.holds codec.now body.now) (held_writes (node schema.entry)) result }
 {
     match codec.create_deserializer(alloc, body) {
         Ok(mut reader) => members_at_hand(alloc, &mut reader, table, schema),
@@ -139,9 +127,9 @@ fn payload_value<C: Codec>(
     member: SchemaRef<'_>,
     body: &[u8],
 ) -> Result<ShapeValue, RecoverError>
-    requires placed { IsPlaced (schema_of member).table (schema_of member) }
-    requires table { (schema_of member).table ≡ table.now }
-    ensures { KeepsPayloadValue table.now (C.holds codec.now) (schema_of member.entry) body.now result }
+    requires placed { IsPlaced (node member).table (node member) }
+    requires table { (node member).table ≡ table.now }
+    ensures { KeepsPayloadValue table.now (C.holds codec.now) (node member.entry) body.now result }
 {
     match member.shape_type() {
         ShapeType::Blob => Ok(blob_payload(alloc, body)?),
@@ -159,9 +147,9 @@ pub fn payload_part<C: Codec>(
     member: SchemaRef<'_>,
     body: &[u8],
 ) -> Result<Option<ShapeValue>, RecoverError>
-    requires placed { IsPlaced (schema_of member).table (schema_of member) }
-    requires table { (schema_of member).table ≡ table.now }
-    ensures { KeepsPayload table.now (C.holds codec.now) (schema_of member.entry) body.now result }
+    requires placed { IsPlaced (node member).table (node member) }
+    requires table { (node member).table ≡ table.now }
+    ensures { KeepsPayload table.now (C.holds codec.now) (node member.entry) body.now result }
 {
     if body.is_empty() {
         return Ok(None);
@@ -172,7 +160,7 @@ pub fn payload_part<C: Codec>(
 
 // Whether a member stands in the body.
 fn is_unbound(member: SchemaRef<'_>) -> bool
-    ensures { result ≡ not (is_bound (schema_of member.entry)) }
+    ensures { result ≡ not (is_bound (node member.entry)) }
 {
     matches!(member.request_binding(), Binding::Body)
 }
@@ -189,8 +177,8 @@ fn is_unbound_at(table: &Schemas, place: SchemaIndex) -> bool
 
 // Whether some member stands in the body.
 fn has_unbound_member(table: &Schemas, schema: SchemaRef<'_>) -> bool
-    requires { (schema_of schema).table ≡ table.now }
-    ensures { result ≡ has_unbound_member (schema_of schema.entry) }
+    requires { (node schema).table ≡ table.now }
+    ensures { result ≡ has_unbound_member (node schema.entry) }
 {
     schema
         .members()
@@ -207,8 +195,8 @@ pub fn body_writes<C: Codec>(
     schema: SchemaRef<'_>,
     body: &[u8],
 ) -> Result<WriteList, RecoverError>
-    requires { (schema_of schema).table ≡ table.now }
-    ensures { KeepsBody table.now (C.holds codec.now) (schema_of schema.entry) body.now result }
+    requires { (node schema).table ≡ table.now }
+    ensures { KeepsBody table.now (C.holds codec.now) (node schema.entry) body.now result }
 {
     if has_unbound_member(table, schema) {
         unbound_writes(alloc, codec, table, schema, body)

@@ -67,7 +67,7 @@ fn list_of_texts(
 
 // The list of texts, where a list's elements have a node.
 fn text_list(alloc: Global, node: SchemaRef<'_>, texts: &[Text]) -> Result<ShapeValue, RecoverError>
-    ensures { Keeps (schema_of node.entry).table (text_list (Some (schema_of node.entry)) texts.now) result }
+    ensures { KeepsOf (schema_of node.entry) (λ n. text_list (Some n) texts.now) result }
 {
     match node.element() {
         Some(element) => list_of_texts(alloc, element, texts),
@@ -82,7 +82,7 @@ pub fn entry_value(
     node: SchemaRef<'_>,
     texts: &[Text],
 ) -> Result<ShapeValue, RecoverError>
-    ensures { Keeps (schema_of node.entry).table (entry_value (Some (schema_of node.entry)) texts.now) result }
+    ensures { KeepsOf (schema_of node.entry) (λ n. entry_value (Some n) texts.now) result }
 {
     if is_string(node.shape_type()) {
         one_text(alloc, texts)

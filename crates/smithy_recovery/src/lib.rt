@@ -28,3 +28,4 @@ mod values;
 
 pub use error::RecoverError;
 pub use recovering::recover_request;
+pub use shallow::are_shallow;

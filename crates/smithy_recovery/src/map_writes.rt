@@ -1,7 +1,7 @@
 // A map as writes of its keys and values in turn.
 ghost use Rattle.std.specs.Prelude.{◌≡◌, IsTrue, OnOk};
 ghost use Rattle.smithy_schema.specs.References.{schema_of};
-ghost use Rattle.smithy_recovery.specs.views.KeptEntries.{ArePlaces, AddsEntry, StaysDefined, has_entry_nodes};
+ghost use Rattle.smithy_recovery.specs.views.KeptEntries.{ArePlaces, AddsEntry, StaysDefinedAt, has_entry_nodes};
 
 use crate::values::own_place;
 use smithy_schema::{SchemaIndex, SchemaRef};
@@ -33,7 +33,7 @@ pub fn push_entry(
     value: ShapeValue,
 ) -> Result<(), OutOfMemory>
     ensures writes { OnOk result (AddsEntry places.0.0 places.1.0 key.now value writes.old writes.new) }
-    ensures defined { OnOk result (StaysDefined places.0.0 places.1.0 value writes.old writes.new) }
+    ensures defined { OnOk result (StaysDefinedAt places.0.0 places.1.0 value writes.old writes.new) }
 {
     let (key_place, value_place) = places;
     writes.push(key_place, ShapeValue::text(alloc, key)?)?;

@@ -15,7 +15,6 @@ use crate::error::RecoverError;
 use crate::header_values::header_part;
 use crate::label_values::label_part;
 use crate::path_texts::{LabelText, NamedTexts, by_name, path_texts};
-use crate::pieces::before_query;
 use crate::prefix_entries::prefix_part;
 use crate::query_entries::{QueryNames, query_map_part, query_names};
 use crate::query_texts::{NamedPieces, named_pieces, texts_named};
@@ -24,7 +23,7 @@ use smithy_binding::{HttpBindingProtocol, cut, template_of};
 use smithy_http::Request;
 use smithy_schema::{Binding, SchemaIndex, SchemaRef, Schemas};
 use smithy_serde::{Codec, ShapeValue, WriteList};
-use smithy_types::OutOfMemory;
+use smithy_types::{OutOfMemory, before_query};
 use std::alloc::Global;
 
 // A request that was cut by a template, and the table of the members that are read from it.

@@ -2,14 +2,13 @@
 ghost use Rattle.std.specs.Prelude.{◌≡◌, IfOk, map, option_map};
 ghost use Rattle.smithy_binding.specs.views.CutTemplate.{behind_holes, literal_alone};
 ghost use Rattle.smithy_recovery.specs.Finding.{Finds};
-ghost use Rattle.smithy_recovery.specs.PathParts.{behind_front, before_end, segment, part_by, path_texts};
-ghost use Rattle.smithy_recovery.specs.views.Kept.{label_seen, labels_seen, HasTexts, part_behind, text_of_hole};
+ghost use Rattle.smithy_recovery.specs.PathParts.{behind_front, before_end, segment, part_by};
+ghost use Rattle.smithy_recovery.specs.views.Kept.{label_seen, labels_seen, texts_cut, HasTexts, part_behind, text_of_hole};
 
 use crate::error::RecoverError;
-use crate::pieces::before_query;
 use smithy_binding::CutHole;
 use smithy_strings::decoded;
-use smithy_types::{OutOfMemory, Text};
+use smithy_types::{OutOfMemory, Text, before_query};
 use std::alloc::Global;
 use std::collections::BTreeMap;
 
@@ -105,7 +104,7 @@ pub fn path_texts<'t>(
     last: &'t str,
     mut path: &str,
 ) -> Result<Vec<LabelText<'t>>, RecoverError>
-    ensures { Finds labels_seen result (path_texts (behind_holes holes.now (literal_alone last.now)) path.now) }
+    ensures { Finds labels_seen result (texts_cut holes.now last.now path.now) }
 {
     let mut texts = Vec::new(alloc);
     for (i, hole) in holes.iter().enumerate() {

@@ -1,19 +1,8 @@
 // The path of a target, and the pieces of its query (RFC 3986, sections 3.3 and 3.4).
 ghost use Rattle.std.specs.Prelude.{◌≡◌, ◌∷◌, option_map};
-ghost use Rattle.smithy_types.specs.Grammars.{before_query};
 ghost use Rattle.smithy_http.specs.Facts.{query_pieces, named_piece};
 ghost use Rattle.smithy_recovery.specs.views.Pieces.{pieces_of, cut_pieces, pieces_left, next_pieces};
 ghost use Rattle.smithy_recovery.specs.QueryParts.{behind_equals};
-
-/// What stands before the first `?`.
-pub fn before_query(target: &str) -> &str
-    ensures { result.now ≡ before_query target.now }
-{
-    match target.split_once('?') {
-        Some((path, _)) => path,
-        None => target,
-    }
-}
 
 /// What stands behind the first `?`.
 pub fn query_of(target: &str) -> Option<&str>

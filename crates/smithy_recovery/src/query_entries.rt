@@ -1,13 +1,12 @@
 // The map of a query beside its members (Smithy, HTTP protocol bindings, httpQueryParams).
 ghost use Rattle.std.specs.Prelude.{◌≡◌, IsTrue, IfOk, OnOk, Some, length, map, option_map};
 ghost use Rattle.smithy_schema.specs.Nodes.{Table};
-ghost use Rattle.smithy_schema.specs.References.{schema_of};
+ghost use Rattle.smithy_schema.specs.References.{schema_of as node};
 ghost use Rattle.smithy_binding.specs.Bindings.{query_names};
 ghost use Rattle.smithy_binding.specs.views.Entries.{query_name_at};
-ghost use Rattle.smithy_recovery.specs.Finding.{Finds};
 ghost use Rattle.smithy_recovery.specs.views.Keeping.{KeepsOf};
 ghost use Rattle.smithy_recovery.specs.views.KeptEntries.{HasEntries, has_entry_nodes};
-ghost use Rattle.smithy_recovery.specs.views.KeptQueries.{is_named, HasNames, entries_in, AreKeptDefined, AreEntriesDefined, has_key, is_to_come, key_to_come, value_under, PutsValue, PutsUnder, PutsLeft, StaysKept, StaysKeptWith, KeepsQuery, KeepsQueryMap, map_kept};
+ghost use Rattle.smithy_recovery.specs.views.KeptQueries.{is_named, HasNames, entries_in, AreKeptDefined, AreEntriesDefined, has_key, is_to_come, TellsKey, value_under, PutsValue, PutsUnder, PutsLeft, StaysKept, StaysKeptWith, KeepsQuery, KeepsQueryMap, map_kept};
 
 use crate::entry_values::entry_value;
 use crate::error::RecoverError;
@@ -29,20 +28,20 @@ type Entries = BTreeMap<String, ShapeValue>;
 
 // How many members a schema has.
 fn member_count(schema: SchemaRef<'_>) -> usize
-    ensures { result ≡ length (schema_of schema.entry).node.members }
+    ensures { result ≡ length (node schema.entry).node.members }
 {
     schema.members().len()
 }
 
 fn query_name<'t>(member: SchemaRef<'t>) -> Option<&'t str>
-    ensures { option_map (λ n. n.now) result ≡ (schema_of member.entry).node.traits.http_query }
+    ensures { option_map (λ n. n.now) result ≡ (node member.entry).node.traits.http_query }
 {
     Some(member.http_query()?.value())
 }
 
 // The query name of the member at a position.
 fn query_name_at<'t>(schema: SchemaRef<'t>, position: usize) -> Option<&'t str>
-    ensures { option_map (λ n. n.now) result ≡ query_name_at (schema_of schema.entry) position }
+    ensures { option_map (λ n. n.now) result ≡ query_name_at (node schema.entry) position }
 {
     query_name(schema.member_schema_by_index(position)?)
 }
@@ -50,7 +49,7 @@ fn query_name_at<'t>(schema: SchemaRef<'t>, position: usize) -> Option<&'t str>
 /// The names of the query members of a schema. Takes memory.
 #[tactic(auto, unfolding(crate::specs::views::KeptQueries::is_named))]
 pub fn query_names(alloc: Global, schema: SchemaRef<'_>) -> Result<QueryNames, OutOfMemory>
-    ensures { IfOk result (HasNames (query_names (schema_of schema.entry))) }
+    ensures { IfOk result (HasNames (query_names (node schema.entry))) }
 {
     let mut names = BTreeMap::new(alloc);
     for position in 0..member_count(schema) {
@@ -92,7 +91,7 @@ fn key_to_come(
     entries: &Entries,
     name: &str,
 ) -> Result<Option<Text>, RecoverError>
-    ensures { (t : Table) → Finds (λ k. k) result (key_to_come names.now (entries_in t entries.now) name.now) }
+    ensures { TellsKey names.now entries.now name.now result }
 {
     let Some(key) = percent_decode(alloc, name)? else {
         return Err(RecoverError::NotPlaced);
@@ -107,13 +106,13 @@ fn key_to_come(
 // The value of an entry by its pieces.
 fn value_under(
     alloc: Global,
-    node: SchemaRef<'_>,
+    here: SchemaRef<'_>,
     pieces: &[&str],
 ) -> Result<ShapeValue, RecoverError>
-    ensures { KeepsOf (schema_of node.entry) (λ n. value_under (Some n) (map (λ p. p.now) pieces.now)) result }
+    ensures { KeepsOf (node here.entry) (λ n. value_under (Some n) (map (λ p. p.now) pieces.now)) result }
 {
     let texts = texts_of(alloc, pieces)?;
-    entry_value(alloc, node, texts.as_slice())
+    entry_value(alloc, here, texts.as_slice())
 }
 
 // Puts a value at a key.
@@ -130,19 +129,19 @@ fn put_under(
     alloc: Global,
     names: &QueryNames,
     entries: &mut Entries,
-    node: SchemaRef<'_>,
+    here: SchemaRef<'_>,
     name: &str,
     pieces: &[&str],
 ) -> Result<(), RecoverError>
-    ensures put { PutsUnder (schema_of node.entry) names.now name.now pieces.now entries.old entries.new result }
-    ensures defined { OnOk result (StaysKept (schema_of node.entry).table entries.old entries.new) }
+    ensures put { PutsUnder (node here.entry) names.now name.now pieces.now entries.old entries.new result }
+    ensures defined { OnOk result (StaysKept (node here.entry).table entries.old entries.new) }
 {
     if pieces.is_empty() {
         return Ok(());
     }
     match key_to_come(alloc, names, entries, name)? {
         Some(key) => {
-            let value = value_under(alloc, node, pieces)?;
+            let value = value_under(alloc, here, pieces)?;
             put(entries, key, value)?;
             Ok(())
         }
@@ -155,15 +154,15 @@ fn put_left(
     alloc: Global,
     names: &QueryNames,
     entries: &mut Entries,
-    node: SchemaRef<'_>,
+    here: SchemaRef<'_>,
     name: &str,
     pieces: Option<&[&str]>,
 ) -> Result<(), RecoverError>
-    ensures put { PutsLeft (schema_of node.entry) names.now name.now pieces.entry entries.old entries.new result }
-    ensures defined { OnOk result (StaysKept (schema_of node.entry).table entries.old entries.new) }
+    ensures put { PutsLeft (node here.entry) names.now name.now pieces.entry entries.old entries.new result }
+    ensures defined { OnOk result (StaysKept (node here.entry).table entries.old entries.new) }
 {
     match pieces {
-        Some(pieces) => put_under(alloc, names, entries, node, name, pieces),
+        Some(pieces) => put_under(alloc, names, entries, here, name, pieces),
         None => Ok(()),
     }
 }
@@ -175,16 +174,16 @@ fn query_entries(
     pieces: &NamedPieces<'_>,
     target: &str,
     names: &QueryNames,
-    node: SchemaRef<'_>,
+    here: SchemaRef<'_>,
 ) -> Result<Entries, RecoverError>
-    ensures { KeepsQuery (schema_of node.entry) own.now pieces.now names.now target.now result }
+    ensures { KeepsQuery (node here.entry) own.now pieces.now names.now target.now result }
 {
     let mut entries = BTreeMap::new(alloc);
     let mut rest = query_of(target);
     while let Some((piece, behind)) = next_piece(rest) {
         let name = name_of(piece);
         let named = named_left(own, pieces, name);
-        put_left(alloc, names, &mut entries, node, name, named)?;
+        put_left(alloc, names, &mut entries, here, name, named)?;
         rest = behind;
     }
     Ok(entries)
@@ -212,9 +211,9 @@ fn map_of(
     member: SchemaRef<'_>,
     entries: Entries,
 ) -> Result<ShapeValue, RecoverError>
-    requires nodes { IsTrue (has_entry_nodes (schema_of member)) }
-    requires defined { AreKeptDefined (schema_of member).table entries }
-    ensures { KeepsOf (schema_of member.entry) (map_kept entries) result }
+    requires nodes { IsTrue (has_entry_nodes (node member)) }
+    requires defined { AreKeptDefined (node member).table entries }
+    ensures { KeepsOf (node member.entry) (map_kept entries) result }
 {
     let writes = entry_list(alloc, entry_places(member), entries)?;
     Ok(ShapeValue::Map(writes))
@@ -231,8 +230,8 @@ pub fn query_map_part(
     names: &QueryNames,
     member: SchemaRef<'_>,
 ) -> Result<Option<ShapeValue>, RecoverError>
-    requires { IsTrue (has_entry_nodes (schema_of member)) }
-    ensures { KeepsQueryMap (schema_of member.entry) own.now pieces.now names.now target.now result }
+    requires { IsTrue (has_entry_nodes (node member)) }
+    ensures { KeepsQueryMap (node member.entry) own.now pieces.now names.now target.now result }
 {
     let Some(node) = member.value() else {
         unreachable!()

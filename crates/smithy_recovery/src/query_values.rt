@@ -2,7 +2,7 @@
 ghost use Rattle.std.specs.Prelude.{◌≡◌, option_map};
 ghost use Rattle.smithy_schema.specs.Nodes.{Table};
 ghost use Rattle.smithy_schema.specs.References.{schema_of};
-ghost use Rattle.smithy_recovery.specs.views.Keeping.{Keeps, KeepsPart};
+ghost use Rattle.smithy_recovery.specs.views.Keeping.{Keeps, KeepsOf, KeepsPartOf};
 ghost use Rattle.smithy_recovery.specs.QueryParts.{one_of, query_scalar, query_list, query_value, query_part};
 
 use crate::error::RecoverError;
@@ -43,7 +43,7 @@ fn query_list(
     member: SchemaRef<'_>,
     texts: &[Text],
 ) -> Result<ShapeValue, RecoverError>
-    ensures { Keeps (schema_of member.entry).table (query_list (schema_of member.entry) texts.now) result }
+    ensures { KeepsOf (schema_of member.entry) (λ m. query_list m texts.now) result }
 {
     match member.element() {
         Some(element) => scalar_list(alloc, element, Place::Query, texts),
@@ -56,7 +56,7 @@ fn query_value(
     member: SchemaRef<'_>,
     texts: &[Text],
 ) -> Result<ShapeValue, RecoverError>
-    ensures { Keeps (schema_of member.entry).table (query_value (schema_of member.entry) texts.now) result }
+    ensures { KeepsOf (schema_of member.entry) (λ m. query_value m texts.now) result }
 {
     if is_list(member.shape_type()) {
         query_list(alloc, member, texts)
@@ -71,7 +71,7 @@ pub fn query_part(
     member: SchemaRef<'_>,
     texts: &[Text],
 ) -> Result<Option<ShapeValue>, RecoverError>
-    ensures { KeepsPart (schema_of member.entry).table (query_part (schema_of member.entry) texts.now) result }
+    ensures { KeepsPartOf (schema_of member.entry) (λ m. query_part m texts.now) result }
 {
     if texts.is_empty() {
         return Ok(None);

@@ -7,7 +7,8 @@ ghost use Rattle.smithy_serde.specs.StoredValues.{HasNode, AreDefined};
 ghost use Rattle.smithy_serde.specs.StructValues.{table_of, node_of, members_of};
 ghost use Rattle.smithy_binding.specs.Checked.{checked_input};
 ghost use Rattle.smithy_binding.specs.Protocols.{AnswersBy};
-ghost use Rattle.smithy_recovery.specs.Recovering.{IsCheckedAt, TellsTyped, Places, TellsSame, RecoversNode, Recovers, IsInputOf, Lacks};
+ghost use Rattle.smithy_recovery.specs.Recovering.{IsCheckedAt, Recovers, IsInputOf, Lacks};
+ghost use Rattle.smithy_recovery.specs.views.Stages.{TellsTyped, Places, TellsSame, RecoversNode};
 
 use crate::error::RecoverError;
 use crate::laws::recovered_is_exact;

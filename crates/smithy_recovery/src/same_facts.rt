@@ -6,9 +6,9 @@ ghost use Rattle.smithy_http.specs.Facts.{named_piece};
 ghost use Rattle.smithy_recovery.specs.SameFacts.{has_same_values, query_pairs, has_same_facts};
 ghost use Rattle.smithy_recovery.specs.views.NameOrder.{named_seen, pairs_seen, IsInOrder, same_pairs};
 
-use crate::pieces::{before_query, name_of, next_piece, query_of};
+use crate::pieces::{name_of, next_piece, query_of};
 use smithy_http::{HeaderPairs, Request};
-use smithy_types::OutOfMemory;
+use smithy_types::{OutOfMemory, before_query};
 use std::alloc::Global;
 
 // A value with its name.

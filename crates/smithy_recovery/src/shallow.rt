@@ -23,8 +23,10 @@ pub fn is_shallow(value: &ShapeValue, levels: usize) -> bool
     }
 }
 
+/// Whether the lists, maps and structures of each value of these writes, with the arrays and objects of its documents, are
+/// nested at most so many levels deep. Takes no memory.
 #[cycle(shallow)]
-fn are_shallow(writes: &WriteList, levels: usize) -> bool
+pub fn are_shallow(writes: &WriteList, levels: usize) -> bool
     ensures { (t : Table) → result ≡ nat_le (writes_nesting (writes_in t writes.now)) levels }
 {
     'parts: for (_, part) in writes.iter() {

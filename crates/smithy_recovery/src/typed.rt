@@ -1,17 +1,15 @@
 // The tests of a recovered input that are asked of each write alone (Smithy, HTTP protocol bindings).
-ghost use Rattle.std.specs.Prelude.{◌≡◌, ◌++◌, IfOk, IfSome, option_map};
-ghost use Rattle.std.specs.Str.{str_to_ascii_lowercase};
-ghost use Rattle.smithy_types.specs.Texts.{is_one_of};
+ghost use Rattle.std.specs.Prelude.{◌≡◌, IfOk, IfSome, option_map};
 ghost use Rattle.smithy_schema.specs.Nodes.{Table};
 ghost use Rattle.smithy_schema.specs.References.{schema_of};
 ghost use Rattle.smithy_schema.specs.ShownBindings.{binding_shown};
-ghost use Rattle.smithy_serde.specs.StoredValues.{IsDefined, AreDefined, label_at, writes_in, write_in};
+ghost use Rattle.smithy_serde.specs.StoredValues.{IsDefined, AreDefined, label_at, writes_in};
 ghost use Rattle.smithy_binding.specs.Bodies.{is_codec_kind};
 ghost use Rattle.smithy_binding.specs.Checked.{same_format};
-ghost use Rattle.smithy_binding.specs.Typed.{default_names, element_format};
+ghost use Rattle.smithy_binding.specs.Typed.{element_format};
 ghost use Rattle.smithy_binding.specs.views.Entries.{text_at};
-ghost use Rattle.smithy_recovery.specs.views.Testing.{Tests, member_in, TestsNames, TestsInput};
-ghost use Rattle.smithy_recovery.specs.TypedWrites.{is_typed_document, is_typed_payload, have_format, has_sound_parts, is_typed_text, has_no_default, is_typed_entries, is_typed_at, is_typed_value, is_typed_write};
+ghost use Rattle.smithy_recovery.specs.views.Testing.{Tests, member_in, TestsNames, TestsWrite, TestsInput};
+ghost use Rattle.smithy_recovery.specs.TypedWrites.{is_typed_document, is_typed_payload, have_format, has_sound_parts, is_typed_text, has_no_default, is_typed_entries, is_default_behind, is_typed_at, is_typed_value};
 
 use crate::prefix_entries::is_default;
 use crate::ranges::is_in_range;
@@ -153,7 +151,7 @@ fn text_at<'w>(entries: &'w WriteList, place: usize) -> &'w str
 
 // Whether the header of an entry has the name of one that is added by default.
 fn is_default_behind(alloc: Global, prefix: &str, key: &str) -> Result<bool, OutOfMemory>
-    ensures { IfOk result (λ b. b ≡ is_one_of (str_to_ascii_lowercase (prefix.now ++ key.now)) default_names) }
+    ensures { IfOk result (λ b. b ≡ is_default_behind prefix.now key.now) }
 {
     let mut name = String::with_capacity(alloc, prefix.len() + key.len())?;
     name.push_str(prefix)?;
@@ -268,7 +266,7 @@ fn is_typed_write(
 ) -> Result<bool, OutOfMemory>
     requires table { (schema_of schema).table ≡ table.now }
     requires defined { IsDefined table.now value.now }
-    ensures { IfOk result (λ b. b ≡ is_typed_write (schema_of schema.entry) (write_in table.now node value.now)) }
+    ensures { TestsWrite schema.entry table.now node value.now result }
 {
     match member_by_index(table, schema, node) {
         Some(member) => is_typed_value(alloc, table, member, value),

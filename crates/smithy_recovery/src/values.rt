@@ -1,5 +1,5 @@
 // Values of texts: a scalar, and lists of them.
-ghost use Rattle.std.specs.Prelude.{◌≡◌, Some, option_map};
+ghost use Rattle.std.specs.Prelude.{◌≡◌, Some};
 ghost use Rattle.smithy_ids.specs.Kinds.{same_kind};
 ghost use Rattle.smithy_ids.specs.declared.shape_type.ShapeType.TheVariants as kind;
 ghost use Rattle.smithy_schema.specs.Nodes.{Table, at_place};
@@ -8,7 +8,7 @@ ghost use Rattle.smithy_serde.specs.StoredValues.{value_in, IsDefined};
 ghost use Rattle.smithy_serde.specs.ValueRead.{IsPlaced};
 ghost use Rattle.smithy_serde.specs.Values as value;
 ghost use Rattle.smithy_recovery.specs.HeaderParts.{text_value, texts_value, times_value};
-ghost use Rattle.smithy_recovery.specs.views.Keeping.{Keeps, KeepsOf, KeepsPart};
+ghost use Rattle.smithy_recovery.specs.views.Keeping.{Keeps, KeepsOf, KeepsWritten};
 
 use crate::error::RecoverError;
 use smithy_ids::ShapeType;
@@ -41,7 +41,7 @@ pub fn own_place(node: SchemaRef<'_>) -> SchemaIndex
 
 /// The value as what stands there of a member.
 pub fn written(value: Result<ShapeValue, RecoverError>) -> Result<Option<ShapeValue>, RecoverError>
-    ensures { (t : Table) (read : _) → Keeps t read value → KeepsPart t (option_map (λ v. Some v) read) result }
+    ensures { KeepsWritten value result }
 {
     Ok(Some(value?))
 }

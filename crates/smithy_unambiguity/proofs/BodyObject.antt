@@ -1,11 +1,13 @@
 -- The unbound members of an input are written as one structure.
-use Rattle.smithy_unambiguity.proofs.Common.{◌≡◌, ◌≢◌, refl, sym, ◌∙◌, ap, ℕ, zero, suc, Bool, true, false, not, cond, ◌&&◌, ◌==◌, List, [], ◌∷◌, map, filter, find, filter_map, slice_get, Option, Some, None, option_map, option_and_then, unwrap_or, is_some, IsTrue, if◌then◌else◌, eq-eqb, AllByRecursion, last_or, cons_option, option_map_or, option_or, and_from, eqb-true, same_text, AreDistinct, Schema, member_at, members_of, name_of, is_bound, is_well_made, Value, Write, Writes, no_writes, write, writes_of, label_of, are_writes_in_range, settled, settled_fields, last_named, field_of, is_shaped, are_fields_shaped, fits_at, has_distinct_fields, named_member, is_named, Resolved, all_resolved, is_of, IsCheckedInput, member_names, member_view, last_of, Protocol, OmitFlags, IsTyped, is_shaped_write, same_text_self, are_distinct-from_facts, Stands}
+use Rattle.smithy_unambiguity.proofs.Common.{◌≡◌, refl, sym, ◌∙◌, ap, ℕ, Bool, true, false, not, cond, ◌&&◌, ◌==◌, List, [], ◌∷◌, map, filter, find, filter_map, Option, Some, None, option_map, option_and_then, unwrap_or, is_some, IsTrue, if◌then◌else◌, eq-eqb, AllByRecursion, last_or, cons_option, option_map_or, option_or, and_from, eqb-true, same_text, Schema, member_at, members_of, name_of, is_bound, is_well_made, Value, Write, Writes, no_writes, write, writes_of, label_of, are_writes_in_range, settled, settled_fields, last_named, field_of, is_shaped, are_fields_shaped, fits_at, has_distinct_fields, named_member, is_named, Resolved, all_resolved, is_of, IsCheckedInput, member_names, member_view, last_of, Protocol, OmitFlags, IsTyped, is_shaped_write, same_text_self, are_distinct-from_facts, Stands, false_from_ne_true}
 use Rattle.std.specs.Cmp.Lexicographic.{same_text as same_from_test}
 use Rattle.smithy_ids.specs.declared.shape_type.ShapeType.TheVariants as kind
 use Rattle.smithy_serde.specs.Values as value
 use Rattle.smithy_unambiguity.proofs.Conforming.{resolved_at}
+use Rattle.smithy_unambiguity.proofs.Lists.{all_apply, both_hold, all_passing}
 use Rattle.smithy_unambiguity.proofs.Members.{member_in_place, names_apart}
-use Rattle.smithy_unambiguity.proofs.Positions.{members_by_position, at_name}
+use Rattle.smithy_unambiguity.proofs.Positions.{members_by_position, apart_at}
+use Rattle.smithy_unambiguity.proofs.Singles.{find_alone}
 use Rattle.smithy_unambiguity.proofs.Settled.{fields_range, fields_keep_shape, last_field}
 use Rattle.smithy_unambiguity.proofs.WellMadeNodes.{well_made_stands}
 
@@ -37,13 +39,10 @@ pub record IsBodied (schema : Schema) (r : Resolved) : Type 0 where
   pub shaped : is_bound r.member ≡ false → is_shaped (Some r.member) r.value ≡ true
 
 are_bodied : (schema : Schema) (rs : List Resolved) → AllByRecursion (λ r. member_at schema r.position ≡ Some r.member) rs → AllByRecursion (λ r. IsTrue (is_shaped_write r)) (filter (λ r. not (is_bound r.member)) rs) → AllByRecursion (IsBodied schema) rs
-are_bodied schema [] at shaped = tt
-are_bodied schema (r ∷ rs) at shaped = go (is_bound r.member) refl shaped (λ h. are_bodied schema rs at.1 h)
-  where
-    go : (b : Bool) → is_bound r.member ≡ b → AllByRecursion (λ r. IsTrue (is_shaped_write r)) (cond (not b) (r ∷ filter (λ r. not (is_bound r.member)) rs) (filter (λ r. not (is_bound r.member)) rs))
-        → (AllByRecursion (λ r. IsTrue (is_shaped_write r)) (filter (λ r. not (is_bound r.member)) rs) → AllByRecursion (IsBodied schema) rs) → AllByRecursion (IsBodied schema) (r ∷ rs)
-    go true e h rest = (record { at = at.0; shaped = λ q. let z : true ≡ false = sym e ∙ q in absurd (cc z) }, rest h)
-    go false e h rest = (record { at = at.0; shaped = λ q. h.0 }, rest h.1)
+are_bodied schema rs at shaped =
+    all_apply (λ r. (member_at schema r.position ≡ Some r.member) × (not (is_bound r.member) ≡ true → is_shaped_write r ≡ true)) (IsBodied schema) rs
+    (λ r both. record { at = both.0; shaped = λ free. both.1 (ap not free) })
+    (both_hold (λ r. member_at schema r.position ≡ Some r.member) (λ r. not (is_bound r.member) ≡ true → is_shaped_write r ≡ true) rs at (all_passing (λ r. is_shaped_write r ≡ true) (λ r. not (is_bound r.member)) rs shaped))
 
 pub typed_bodied : (protocol : Protocol) (schema : Schema) (endpoint : List ℕ) (omit : OmitFlags) (ws : List Write) → IsTyped protocol schema endpoint omit ws → AllByRecursion (IsBodied schema) (all_resolved schema ws)
 typed_bodied protocol schema endpoint omit ws typed = are_bodied schema (all_resolved schema ws) (resolved_at schema ws) typed.unbound_shaped
@@ -56,26 +55,15 @@ body_node schema = record schema { node = record schema.node { kind = kind.Struc
 pub body_node_stands : (schema : Schema) → is_well_made schema ≡ true → Stands (body_node schema)
 body_node_stands schema well_made = let stands = well_made_stands schema well_made in record { table = stands.table; members = stands.members }
 
--- a name finds its member
-name_found : (name : List ℕ) (ms : List Schema) (j : ℕ) (m : Schema) → AreDistinct (filter_map (λ k. k.node.member_name) ms) → slice_get ms j ≡ Some m → m.node.member_name ≡ Some name → find (is_named (Some name)) ms ≡ Some m
-name_found name [] j m distinct at is = absurd (cc at)
-name_found name (x ∷ ms) zero m distinct at is =
-    let same : x ≡ m = cc at in
-    ap (λ o. cond (option_map_or (same_text name) o false) (Some x) (find (is_named (Some name)) ms)) (ap (λ (k : Schema). k.node.member_name) same ∙ is)
-    ∙ ap (λ t. cond t (Some x) (find (is_named (Some name)) ms)) (same_text_self name) ∙ ap Some same
-name_found name (x ∷ ms) (suc j) m distinct at is = go x.node.member_name distinct (λ rest. name_found name ms j m rest at is)
-  where
-    go : (o : Option (List ℕ)) → AreDistinct (cons_option o (filter_map (λ k. k.node.member_name) ms)) → (AreDistinct (filter_map (λ k. k.node.member_name) ms) → find (is_named (Some name)) ms ≡ Some m)
-        → cond (option_map_or (same_text name) o false) (Some x) (find (is_named (Some name)) ms) ≡ Some m
-    go None apart rest = rest apart
-    go (Some y) apart rest = by (same_text name y) refl
-      where
-        by : (t : Bool) → same_text name y ≡ t → cond t (Some x) (find (is_named (Some name)) ms) ≡ Some m
-        by true e = absurd (at_name (λ other. y ≢ other) (λ k. k.node.member_name) ms j m name apart.0 at is (sym (same_from_test name y (sym e))))
-        by false e = rest apart.1
+-- a member with this name
+named_is : (name : List ℕ) (o : Option (List ℕ)) → option_map_or (same_text name) o false ≡ true → o ≡ Some name
+named_is name None e = absurd (cc e)
+named_is name (Some n) e = ap Some (sym (same_from_test name n (sym e)))
 
 pub body_member : (schema : Schema) → IsCheckedInput schema → (i : ℕ) (m : Schema) (name : List ℕ) → member_at schema i ≡ Some m → m.node.member_name ≡ Some name → named_member (Some (body_node schema)) (Some name) ≡ Some m
-body_member schema checked i m name at is = name_found name (members_of schema) i m checked.names (members_by_position schema checked i ∙ at) is
+body_member schema checked i m name at is =
+    find_alone (is_named (Some name)) (members_of schema) i m (members_by_position schema checked i ∙ at) (ap (λ o. option_map_or (same_text name) o false) is ∙ same_text_self name)
+    (λ j n at_j is_n. apart_at (λ k. k.node.member_name) (members_of schema) checked.names j i n m name at_j (members_by_position schema checked i ∙ at) (named_is name n.node.member_name is_n) is)
 
 -- The writes of the structure.
 
@@ -137,14 +125,12 @@ body_field schema checked well_made i m name at is (r ∷ rs) all =
         ap (λ (o : Option (List ℕ)). if same_text (unwrap_or o []) name then Some (settled (named_member (Some (body_node schema)) o) r.value) else None) (ap (λ (k : Schema). k.node.member_name) (same_member f) ∙ is)
         ∙ ap (λ t. if t then Some (settled (named_member (Some (body_node schema)) (Some name)) r.value) else None) (same_text_self name)
         ∙ ap (λ o. Some (settled o r.value)) (body_member schema checked i m name at is)
-    own false f = ap (λ t. if t then Some (settled (named_member (Some (body_node schema)) r.member.node.member_name) r.value) else None) (unlike (same_text (name_of r.member) name) refl)
-      where
-        unlike : (s : Bool) → same_text (name_of r.member) name ≡ s → s ≡ false
-        unlike false e = refl
-        unlike true e =
-            let names : name_of r.member ≡ name_of m = same_from_test (name_of r.member) name (sym e) ∙ sym (ap (λ (o : Option (List ℕ)). unwrap_or o []) is) in
-            let z : true ≡ false = sym (eq-eqb r.position i (names_apart schema checked well_made r.position i r.member m all.0.at at names)) ∙ f in
-            z
+    own false f =
+        ap (λ t. if t then Some (settled (named_member (Some (body_node schema)) r.member.node.member_name) r.value) else None)
+        (false_from_ne_true (same_text (name_of r.member) name) (λ e.
+        let names : name_of r.member ≡ name_of m = same_from_test (name_of r.member) name (sym e) ∙ sym (ap (λ (o : Option (List ℕ)). unwrap_or o []) is) in
+        let z : true ≡ false = sym (eq-eqb r.position i (names_apart schema checked well_made r.position i r.member m all.0.at at names)) ∙ f in
+        cc z))
 
     skipped : (c t : Bool) (o : Option Resolved) → (t ≡ true → c ≡ true)
         → (if c then None else option_map (λ (r : Resolved). settled (Some m) r.value) o) ≡ (if c then None else option_map (λ (r : Resolved). settled (Some m) r.value) (option_or o (if t then Some r else None)))

@@ -1,39 +1,34 @@
 -- What stands at a name, in the query and in headers.
-use Rattle.smithy_unambiguity.proofs.Common.{◌≡◌, ◌≢◌, refl, sym, ◌∙◌, ap, subst, ℕ, Bool, true, false, not, cond, List, [], ◌∷◌, ◌++◌, map, filter, find, flat_map, Option, Some, None, option_map, option_to_list, if◌then◌else◌, AllByRecursion, option_or, found, same_text, is_one_of, Value, Resolved, entry_texts, texts, entry_pairs, has_key_outside, values_at, same_text_self}
+use Rattle.smithy_unambiguity.proofs.Common.{◌≡◌, ◌≢◌, refl, sym, ◌∙◌, ap, subst, ℕ, Bool, true, false, not, cond, List, [], ◌∷◌, ◌++◌, map, filter, find, flat_map, Option, Some, None, option_map, option_to_list, if◌then◌else◌, AllByRecursion, option_or, found, same_text, is_one_of, Value, Resolved, entry_texts, texts, entry_pairs, has_key_outside, values_at, same_text_self, cond_both, false_from_ne_true, not-true, not-false}
 use Rattle.std.specs.Cmp.Lexicographic.{same_text as same_from_test}
 use Rattle.smithy_http.specs.Headers.{without, put, put_all}
 use Rattle.smithy_unambiguity.proofs.LastTexts.{last_value, last_at}
-use Rattle.smithy_unambiguity.proofs.Queries.{values_at-append}
+use Rattle.smithy_unambiguity.proofs.Queries.{values_at-append, onto, values_at-cons}
 
 -- nothing stands at a name that none of them has
 pub nothing_at : (name : List ℕ) (ps : List (List ℕ × List ℕ)) → AllByRecursion (λ p. p.0 ≢ name) ps → values_at name ps ≡ []
 nothing_at name [] all = refl
-nothing_at name (p ∷ ps) all = go (same_text p.0 name) refl (nothing_at name ps all.1)
-  where
-    go : (t : Bool) → same_text p.0 name ≡ t → values_at name ps ≡ [] → values_at name (p ∷ ps) ≡ []
-    go true e rest = absurd (all.0 (same_from_test p.0 name (sym e)))
-    go false e rest = rw e rest
+nothing_at name (p ∷ ps) all =
+    values_at-cons name p ps ∙ ap (λ t. onto t p (values_at name ps)) (false_from_ne_true (same_text p.0 name) (λ e. all.0 (same_from_test p.0 name (sym e)))) ∙ nothing_at name ps all.1
 
 -- Headers: each name once.
 
 without_self : (name : List ℕ) (ps : List (List ℕ × List ℕ)) → values_at name (without name ps) ≡ []
 without_self name [] = refl
-without_self name (p ∷ ps) = go (same_text p.0 name) refl (without_self name ps)
-  where
-    go : (t : Bool) → same_text p.0 name ≡ t → values_at name (without name ps) ≡ [] → values_at name (cond (not t) (p ∷ without name ps) (without name ps)) ≡ []
-    go true e rest = rest
-    go false e rest = ap (λ t. map (λ q. q.1) (cond t (p ∷ filter (λ q. same_text q.0 name) (without name ps)) (filter (λ q. same_text q.0 name) (without name ps)))) e ∙ rest
+without_self name (p ∷ ps) =
+    cond_both (not (same_text p.0 name)) (p ∷ without name ps) (without name ps) (λ l. values_at name l ≡ [])
+    (λ e. values_at-cons name p (without name ps) ∙ ap (λ t. onto t p (values_at name (without name ps))) (not-true (same_text p.0 name) e) ∙ without_self name ps)
+    (λ e. without_self name ps)
 
 without_other : (name other : List ℕ) (ps : List (List ℕ × List ℕ)) → same_text other name ≡ false → values_at name (without other ps) ≡ values_at name ps
 without_other name other [] apart = refl
-without_other name other (p ∷ ps) apart = go (same_text p.0 other) (same_text p.0 name) refl refl (without_other name other ps apart)
-  where
-    go : (s t : Bool) → same_text p.0 other ≡ s → same_text p.0 name ≡ t → values_at name (without other ps) ≡ values_at name ps
-        → values_at name (cond (not s) (p ∷ without other ps) (without other ps)) ≡ map (λ q. q.1) (cond t (p ∷ filter (λ q. same_text q.0 name) ps) (filter (λ q. same_text q.0 name) ps))
-    go true true es et rest = let q : true ≡ false = sym et ∙ ap (λ n. same_text n name) (same_from_test p.0 other (sym es)) ∙ apart in absurd (cc q)
-    go true false es et rest = rest
-    go false true es et rest = ap (λ t. map (λ q. q.1) (cond t (p ∷ filter (λ q. same_text q.0 name) (without other ps)) (filter (λ q. same_text q.0 name) (without other ps)))) et ∙ ap (λ xs. p.1 ∷ xs) rest
-    go false false es et rest = ap (λ t. map (λ q. q.1) (cond t (p ∷ filter (λ q. same_text q.0 name) (without other ps)) (filter (λ q. same_text q.0 name) (without other ps)))) et ∙ rest
+without_other name other (p ∷ ps) apart =
+    let rest = without_other name other ps apart in
+    cond_both (not (same_text p.0 other)) (p ∷ without other ps) (without other ps) (λ l. values_at name l ≡ values_at name (p ∷ ps))
+    (λ e. values_at-cons name p (without other ps) ∙ ap (onto (same_text p.0 name) p) rest ∙ sym (values_at-cons name p ps))
+    (λ e.
+    let unlike = ap (λ n. same_text n name) (same_from_test p.0 other (sym (not-false (same_text p.0 other) e))) ∙ apart in
+    rest ∙ ap (λ t. onto t p (values_at name ps)) (sym unlike) ∙ sym (values_at-cons name p ps))
 
 abbrev pub front : List (List ℕ) → Option (List ℕ)
 front [] = None
@@ -105,25 +100,15 @@ values_at-flat_map name g (r ∷ rs) = values_at-append name (g r) (flat_map g r
 pub under_name : (name other : List ℕ) (t : Bool) (texts : List (List ℕ)) → same_text other name ≡ t → values_at name (map (λ x. (other, x)) texts) ≡ cond t texts []
 under_name name other true [] e = refl
 under_name name other false [] e = refl
-under_name name other t (x ∷ texts) e =
-    ap (λ s. map (λ (q : List ℕ × List ℕ). q.1) (cond s ((other, x) ∷ filter (λ (q : List ℕ × List ℕ). same_text q.0 name) (map (λ y. (other, y)) texts)) (filter (λ (q : List ℕ × List ℕ). same_text q.0 name) (map (λ y. (other, y)) texts)))) e
-    ∙ go t (under_name name other t texts e)
-  where
-    go : (s : Bool) → values_at name (map (λ y. (other, y)) texts) ≡ cond s texts []
-        → map (λ (q : List ℕ × List ℕ). q.1) (cond s ((other, x) ∷ filter (λ (q : List ℕ × List ℕ). same_text q.0 name) (map (λ y. (other, y)) texts)) (filter (λ (q : List ℕ × List ℕ). same_text q.0 name) (map (λ y. (other, y)) texts))) ≡ cond s (x ∷ texts) []
-    go true rest = ap (λ xs. x ∷ xs) rest
-    go false rest = rest
+under_name name other true (x ∷ texts) e = values_at-cons name (other, x) (map (λ y. (other, y)) texts) ∙ (λ i. onto (e i) (other, x) (under_name name other true texts e i))
+under_name name other false (x ∷ texts) e = values_at-cons name (other, x) (map (λ y. (other, y)) texts) ∙ (λ i. onto (e i) (other, x) (under_name name other false texts e i))
 
 abbrev pub no_values : List (List ℕ)
 no_values = []
 
 -- what a map's entries of other keys than these names give at a name
 pub entries_at : (name : List ℕ) (names : List (List ℕ)) (es : List (List ℕ × Value)) → values_at name (flat_map entry_pairs (filter (has_key_outside names) es)) ≡ cond (is_one_of name names) [] (values_at name (flat_map entry_pairs es))
-entries_at name names [] = go (is_one_of name names)
-  where
-    go : (t : Bool) → no_values ≡ cond t no_values no_values
-    go true = refl
-    go false = refl
+entries_at name names [] = cond_both (is_one_of name names) no_values no_values (λ vs. no_values ≡ vs) (λ e. refl) (λ e. refl)
 entries_at name names (e ∷ es) = go (same_text e.0 name) (is_one_of e.0 names) (is_one_of name names) refl refl refl (entries_at name names es)
   where
     here : (t : Bool) → same_text e.0 name ≡ t → (more : List (List ℕ × Value)) → values_at name (flat_map entry_pairs (e ∷ more)) ≡ cond t (entry_texts e.1) [] ++ values_at name (flat_map entry_pairs more)

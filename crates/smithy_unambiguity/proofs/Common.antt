@@ -2,7 +2,11 @@
 pub use Rattle.percent_encoding.specs.Percent.{percent_decode}
 unfoldable pub use Rattle.percent_encoding.specs.Percent.{percent_encode_byte}
 pub use Rattle.smithy_binding.proofs.CheckedLaws.{IsCheckedInput-from_test}
+pub use Rattle.smithy_binding.proofs.ClearLemmas.{list_all-same}
+pub use Rattle.smithy_binding.proofs.DistinctNames.{same_text-sym}
+pub use Rattle.smithy_binding.proofs.Gathers.{resolve-resolved, seen_next}
 pub use Rattle.smithy_binding.proofs.Tests.{AreDistinct-from_test, are_distinct-from_facts, same_text_back, same_text_self}
+pub use Rattle.smithy_binding.proofs.WriteSteps.{member-passes}
 pub use Rattle.smithy_binding.specs.Answer.{place, request_at}
 unfoldable pub use Rattle.smithy_binding.specs.Answer.{answer}
 pub use Rattle.smithy_binding.specs.Bindings.{entries_of, entry_texts, header_texts, inserted, inserted_at, kind_or_none, labelled_at}
@@ -44,6 +48,7 @@ pub use Rattle.smithy_document.specs.ReadsBack.{Stands}
 pub use Rattle.smithy_http.proofs.ValueLemmas.{lower_twice}
 pub use Rattle.smithy_http.specs.Facts.{facts, is_question_mark, named_piece, query_pieces, values_at}
 pub use Rattle.smithy_ids.proofs.KindLemmas.{one_format, one_kind}
+pub use Rattle.smithy_ids.proofs.NameLemmas.{after_first-joined, before_first-joined, before_first-none}
 pub use Rattle.smithy_ids.specs.Kinds.{is_scalar, same_kind}
 pub use Rattle.smithy_ids.specs.declared.shape_type.ShapeType.{ShapeType}
 pub use Rattle.smithy_ids.specs.declared.traits.TimestampFormat.{TimestampFormat}
@@ -66,7 +71,7 @@ pub use Rattle.smithy_serde.specs.Ranges.{is_document_in_range, is_in_range, is_
 pub use Rattle.smithy_serde.specs.Shaped.{are_entries_shaped, are_fields_shaped, are_shaped, are_values_shaped, fields_at, fits_at}
 pub use Rattle.smithy_serde.specs.Shaped.{has_distinct_fields, is_kind, is_named, is_shaped, named_member}
 pub use Rattle.smithy_serde.specs.StoredValues.{no_label}
-pub use Rattle.smithy_serde.specs.Values.{Label, Scalar, Value, Width, Write, Writes, keys_of, label_of, list_of, no_writes, text_of_key}
+pub use Rattle.smithy_serde.specs.Values.{Label, Scalar, Value, Write, Writes, keys_of, label_of, list_of, no_writes, text_of_key}
 pub use Rattle.smithy_serde.specs.Values.{write, writes_of}
 pub use Rattle.smithy_serde.specs.Writes.{Resolved, all_resolved, first, firsts, firsts_from, has_seen, is_of, only_if, position_in}
 pub use Rattle.smithy_serde.specs.Writes.{resolve, resolved}
@@ -89,10 +94,12 @@ pub use Rattle.std.proofs.Common.{All, Bool, Err, IsTrue, IsUtf8, List, None, Ok
 pub use Rattle.std.proofs.Common.{drop, eq-eqb, false, filter, filter_map, find, flat_map, if◌then◌else◌, inl, inr, is_none, is_some}
 pub use Rattle.std.proofs.Common.{length, ltb-false, ltb-true, map, nat_eq, nat_le, nat_lt, ne_eqb, negsuc, not, option_and_then}
 pub use Rattle.std.proofs.Common.{option_map, option_to_list, pos, refl, slice_get, subst, suc, sym, take, true, unwrap_or, zero, ℕ, ℤ}
-pub use Rattle.std.proofs.Common.{◌&&◌, ◌++◌, ◌+◌, ◌<◌, ◌==◌, ◌^◌, ◌||◌, ◌↔◌, ◌∙◌, ◌∷◌, ◌≡◌, ◌≢◌, ◌≤◌, ◌⊎◌}
-pub use Rattle.std.proofs.lemmas.Bool.{agree_below, agree_below_at, and_from, and_parts, eqb-true, leb-true, lt-ltb, not-true}
+pub use Rattle.std.proofs.Common.{⊎_elim, ◌&&◌, ◌++◌, ◌+◌, ◌<◌, ◌==◌, ◌^◌, ◌||◌, ◌∙◌, ◌∷◌, ◌≡◌, ◌≢◌, ◌≤◌, ◌⊎◌}
+pub use Rattle.std.proofs.lemmas.Bool.{agree_below, agree_below_at, and_from, and_parts, and_right, cond_both, eqb-true, false_from_ne_true}
+pub use Rattle.std.proofs.lemmas.Bool.{leb-true, lt-ltb, not-false, not-true, or_cases, or_left, or_parts, or_right}
 pub use Rattle.std.proofs.lemmas.List.{append-nil, append_assoc, append_cancel_left, append_cancel_right, length-append, map-append}
 pub use Rattle.std.proofs.lemmas.List.Folds.{flat_map-map, list_all-append, list_any-append}
+pub use Rattle.std.specs.Cmp.{both_ways}
 pub use Rattle.std.specs.Cmp.Lexicographic.{slice_cmp}
 pub use Rattle.std.specs.List.{AllByRecursion, after_first, before_first, cons_option, ends_with, enumerate_from, join_with_byte, last_or}
 pub use Rattle.std.specs.List.{list_all, list_any, onto_first, position_or_len, slice_split, starts_with}

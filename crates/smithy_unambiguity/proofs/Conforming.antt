@@ -1,7 +1,6 @@
 -- What no fault says of the writes.
-use Rattle.smithy_unambiguity.proofs.Common.{◌≡◌, refl, sym, ◌∙◌, ap, subst, ℕ, Bool, true, false, not, cond, ◌&&◌, ◌||◌, ◌==◌, List, [], ◌∷◌, ◌++◌, Option, Some, None, option_to_list, find, AllByRecursion, cons_option, option_map_or, option_or, and_parts, unless, Schema, member_at, binding_of, Write, is_in_range, are_in_range, fits_member, Resolved, resolve, resolved, all_resolved, is_of, first, has_seen, write_fault, writes_fault, resolved_fault, bound_fault, no_member, wrong_kind, is_placed_at}
-use Rattle.smithy_unambiguity.proofs.Firsts.{seen_next, seen_same}
-use Rattle.smithy_binding.proofs.Gathers.{resolve-resolved}
+use Rattle.smithy_unambiguity.proofs.Common.{◌≡◌, refl, sym, ◌∙◌, ap, subst, ℕ, Bool, true, false, not, cond, ◌&&◌, ◌||◌, ◌==◌, List, [], ◌∷◌, ◌++◌, Option, Some, None, option_to_list, find, AllByRecursion, cons_option, option_map_or, option_or, and_parts, unless, Schema, member_at, binding_of, Write, is_in_range, are_in_range, fits_member, Resolved, resolve, resolved, all_resolved, is_of, first, has_seen, write_fault, writes_fault, resolved_fault, bound_fault, no_member, wrong_kind, is_placed_at, resolve-resolved, seen_next}
+use Rattle.smithy_unambiguity.proofs.Firsts.{seen_same}
 
 pub no_first : {A : Type 0} (o p : Option A) → option_or o p ≡ None → (o ≡ None) × (p ≡ None)
 no_first None p e = (refl, e)

@@ -13,19 +13,15 @@ none_before : {A : Type 0} (o : Option Fault) (r : Result A Fault) → result_er
 none_before None r e = (refl, e)
 none_before (Some f) r e = absurd (cc e)
 
--- a target without a fault has its holes filled, and is legal
-pub record IsFilledTarget (schema : Schema) (ws : List Write) (endpoint : List ℕ) : Type 0 where
-  pub path : List ℕ
-  pub fills : fill (pieces (template_of schema endpoint)) (labels schema ws) ≡ Ok path
-  pub legal : legal_fault (with_query path (pairs schema ws)) ≡ None
-
-filled_target : (schema : Schema) (ws : List Write) (endpoint : List ℕ) → result_err (legal_or_fault (target_of schema ws endpoint)) ≡ None → IsFilledTarget schema ws endpoint
+-- so a target without a fault has its holes filled, and is legal
+filled_target : (schema : Schema) (ws : List Write) (endpoint : List ℕ) → writes_fault schema [] ws ≡ None → body_fault schema ws ≡ None → result_err (legal_or_fault (target_of schema ws endpoint)) ≡ None → IsConforming schema ws endpoint
 unfolding target_of
-filled_target schema ws endpoint e = go (fill (pieces (template_of schema endpoint)) (labels schema ws)) refl e
+filled_target schema ws endpoint writes body e = go (fill (pieces (template_of schema endpoint)) (labels schema ws)) refl e
   where
     go : (r : Result (List ℕ) (List ℕ)) → fill (pieces (template_of schema endpoint)) (labels schema ws) ≡ r
-        → result_err (legal_or_fault (then_give r λ path. with_query path (pairs schema ws))) ≡ None → IsFilledTarget schema ws endpoint
-    go (Ok path) is h = record { path = path; fills = is; legal = (none_before (legal_fault (with_query path (pairs schema ws))) (Ok (with_query path (pairs schema ws))) h).0 }
+        → result_err (legal_or_fault (then_give r λ path. with_query path (pairs schema ws))) ≡ None → IsConforming schema ws endpoint
+    go (Ok path) is h =
+        record { writes = writes; body = body; path = path; fills = is; legal = (none_before (legal_fault (with_query path (pairs schema ws))) (Ok (with_query path (pairs schema ws))) h).0 }
     go (Err hole) is h = absurd (cc h)
 
 pub conforming : (schema : Schema) (ws : List Write) (endpoint : List ℕ) → fault schema ws endpoint ≡ None → IsConforming schema ws endpoint
@@ -33,21 +29,16 @@ unfolding legal_target
 conforming schema ws endpoint e =
     let first = none_before (writes_fault schema [] ws) (behind (body_fault schema ws) (legal_or_fault (target_of schema ws endpoint))) e in
     let second = none_before (body_fault schema ws) (legal_or_fault (target_of schema ws endpoint)) first.1 in
-    let target = filled_target schema ws endpoint second.1 in
-    record { writes = first.0; body = second.0; path = target.path; fills = target.fills; legal = target.legal }
-
-target_filled : (schema : Schema) (ws : List Write) (endpoint path : List ℕ) → fill (pieces (template_of schema endpoint)) (labels schema ws) ≡ Ok path → target_of schema ws endpoint ≡ Ok (with_query path (pairs schema ws))
-unfolding target_of
-target_filled schema ws endpoint path e = ap (λ (r : Result (List ℕ) (List ℕ)). then_give r λ p. with_query p (pairs schema ws)) e
+    filled_target schema ws endpoint first.0 second.0 second.1
 
 -- such an input has its target
 pub target_of_conforming : (schema : Schema) (ws : List Write) (endpoint : List ℕ) (c : IsConforming schema ws endpoint) → legal_target schema ws endpoint ≡ Ok (with_query c.path (pairs schema ws))
-unfolding legal_target
+unfolding legal_target target_of
 target_of_conforming schema ws endpoint c =
     let target = with_query c.path (pairs schema ws) in
     ap (λ (o : Option Fault). behind o (behind (body_fault schema ws) (legal_or_fault (target_of schema ws endpoint)))) c.writes
     ∙ ap (λ (o : Option Fault). behind o (legal_or_fault (target_of schema ws endpoint))) c.body
-    ∙ ap legal_or_fault (target_filled schema ws endpoint c.path c.fills)
+    ∙ ap (λ (r : Result (List ℕ) (List ℕ)). legal_or_fault (then_give r λ p. with_query p (pairs schema ws))) c.fills
     ∙ ap (λ (o : Option Fault). behind o (Ok target)) c.legal
 
 pub from_conforming : (schema : Schema) (ws : List Write) (endpoint : List ℕ) → IsConforming schema ws endpoint → fault schema ws endpoint ≡ None

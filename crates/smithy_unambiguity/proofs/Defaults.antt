@@ -1,5 +1,5 @@
 -- A default header changes nothing at a name under which none is added.
-use Rattle.smithy_unambiguity.proofs.Common.{◌≡◌, refl, sym, ◌∙◌, ap, subst, ℕ, Bool, true, false, not, cond, ◌&&◌, ◌||◌, List, [], ◌∷◌, ◌++◌, map, length, codes, decimal, Option, Some, None, is_some, is_none, if◌then◌else◌, append-nil, found, same_text, is_one_of, values_at, Body, Protocol, OmitFlags, with_default, adds_content_type, adds_content_length, all_headers, leaves_default, default_names, same_text_back}
+use Rattle.smithy_unambiguity.proofs.Common.{◌≡◌, refl, sym, ◌∙◌, ap, subst, ℕ, Bool, true, false, not, cond, ◌&&◌, ◌||◌, List, [], ◌∷◌, ◌++◌, map, length, codes, decimal, Option, Some, None, is_some, is_none, if◌then◌else◌, append-nil, found, same_text, is_one_of, values_at, Body, Protocol, OmitFlags, with_default, adds_content_type, adds_content_length, all_headers, leaves_default, default_names, same_text_back, or_left, or_right, and_from, wants_default}
 use Rattle.std.specs.Cmp.Lexicographic.{same_text as same_from_test}
 use Rattle.smithy_unambiguity.proofs.Queries.{values_at-append}
 use Rattle.smithy_unambiguity.proofs.ByName.{front, found-front}
@@ -16,16 +16,10 @@ values_at-with_default wanted name value at pairs stands = go wanted (found name
     go true None true e h = absurd (let q = h refl refl in cc q)
     go true None false e h = values_at-append at pairs ((name, value) ∷ []) ∙ ap (λ b. values_at at pairs ++ map (λ (q : List ℕ × List ℕ). q.1) (cond b ((name, value) ∷ []) [])) e ∙ append-nil (values_at at pairs)
 
--- the test of a default, taken apart
-wanted_stands : (a b c d s : Bool) → (not ((a && b) || (c && d)) || s) ≡ true → ((a ≡ true → b ≡ true → s ≡ true) × (c ≡ true → d ≡ true → s ≡ true))
-wanted_stands a b c d true h = ((λ p q. refl), (λ p q. refl))
-wanted_stands true true c d false h = absurd (cc h)
-wanted_stands true false true true false h = absurd (cc h)
-wanted_stands true false true false false h = ((λ p q. q), (λ p q. q))
-wanted_stands true false false d false h = ((λ p q. q), (λ p q. p))
-wanted_stands false b true true false h = absurd (cc h)
-wanted_stands false b true false false h = ((λ p q. p), (λ p q. q))
-wanted_stands false b false d false h = ((λ p q. p), (λ p q. p))
+-- what is wanted stands
+then_stands : (w s : Bool) → (not w || s) ≡ true → w ≡ true → s ≡ true
+then_stands true s h e = h
+then_stands false s h e = absurd (cc e)
 
 pub all_headers_at : (protocol : Protocol) (b : Body) (omit : OmitFlags) (pairs : List (List ℕ × List ℕ)) (name : List ℕ) → leaves_default b omit pairs name ≡ true
     → values_at name (all_headers protocol b omit pairs) ≡ values_at name pairs
@@ -35,17 +29,16 @@ all_headers_at protocol b omit pairs name leaves =
     typed : List (List ℕ × List ℕ)
     typed = with_default (adds_content_type b omit) (codes "content-type") protocol.content_type pairs
 
-    parts : (same_text name (codes "content-type") ≡ true → adds_content_type b omit ≡ true → is_some (found name pairs) ≡ true)
-        × (same_text name (codes "content-length") ≡ true → adds_content_length b omit ≡ true → is_some (found name pairs) ≡ true)
-    parts = wanted_stands (same_text name (codes "content-type")) (adds_content_type b omit) (same_text name (codes "content-length")) (adds_content_length b omit) (is_some (found name pairs)) leaves
+    stands : wants_default b omit name ≡ true → is_some (found name pairs) ≡ true
+    stands wanted = then_stands (wants_default b omit name) (is_some (found name pairs)) leaves wanted
 
     kept : values_at name (with_default (adds_content_type b omit) (codes "content-type") protocol.content_type pairs) ≡ values_at name pairs
     kept = values_at-with_default (adds_content_type b omit) (codes "content-type") protocol.content_type name pairs
-        (λ same wanted. subst (λ (n : List ℕ). is_some (found n pairs) ≡ true) (sym (same_from_test (codes "content-type") name (sym same))) (parts.0 (same_text_back (codes "content-type") name same) wanted))
+        (λ same wanted. subst (λ (n : List ℕ). is_some (found n pairs) ≡ true) (sym (same_from_test (codes "content-type") name (sym same))) (stands (or_left _ _ (and_from _ _ (same_text_back (codes "content-type") name same) wanted))))
 
     long : same_text (codes "content-length") name ≡ true → adds_content_length b omit ≡ true → is_some (found (codes "content-length") typed) ≡ true
     long same wanted =
-        let here = parts.1 (same_text_back (codes "content-length") name same) wanted in
+        let here = stands (or_right _ _ (and_from _ _ (same_text_back (codes "content-length") name same) wanted)) in
         let there : is_some (found name typed) ≡ true = ap is_some (found-front name typed ∙ ap front kept ∙ sym (found-front name pairs)) ∙ here in
         subst (λ (n : List ℕ). is_some (found n typed) ≡ true) (sym (same_from_test (codes "content-length") name (sym same))) there
 

@@ -1,5 +1,5 @@
 -- Entries of texts in the order of their keys are told by what stands under each key.
-use Rattle.smithy_unambiguity.proofs.Common.{◌≡◌, refl, sym, ◌∙◌, ap, ℕ, Bool, true, false, not, cond, ◌&&◌, ◌||◌, List, [], ◌∷◌, ◌++◌, map, filter, flat_map, Option, Some, None, option_and_then, unwrap_or, is_none, if◌then◌else◌, option_map_or, option_or, str_to_ascii_lowercase, and_parts, not-true, append-nil, flat_map-map, same_text, is_one_of, are_distinct, unless, same_kind, one_kind, Schema, element_of, key_of, value_of, Label, Value, Writes, no_writes, write, Write, list_of, keys_of, text_of_key, fits, is_kind, own_label, in_key_order, settled, settled_elements, settled_entries, no_label, values_at, kind_or_none, map_entries, entries_of, entry_texts, pairs_with, entry_pairs, is_plain_string, is_plain_list, Fault, element_fault, part_fault, nested_fault, entry_fault, item_fault, key_fault, wrong_item_kind, ends_with_value, has_key_outside, own_entries, in_lower_case, has_pairs, is_empty_list, has_distinct_keys, text_form, entries_ordered, Pairs, looked, all_put, Ascends, or_none, look_ordered, known_by_names, last_ascending}
+use Rattle.smithy_unambiguity.proofs.Common.{◌≡◌, refl, sym, ◌∙◌, ap, ℕ, Bool, true, false, not, cond, ◌&&◌, ◌||◌, List, [], ◌∷◌, ◌++◌, map, filter, flat_map, Option, Some, None, option_and_then, unwrap_or, is_none, if◌then◌else◌, option_map_or, option_or, str_to_ascii_lowercase, and_parts, not-true, append-nil, flat_map-map, same_text, is_one_of, are_distinct, unless, same_kind, one_kind, Schema, element_of, key_of, value_of, Label, Value, Writes, no_writes, write, Write, list_of, keys_of, text_of_key, fits, is_kind, own_label, in_key_order, settled, settled_elements, settled_entries, no_label, values_at, kind_or_none, map_entries, entries_of, entry_texts, pairs_with, entry_pairs, is_plain_string, is_plain_list, Fault, element_fault, part_fault, nested_fault, entry_fault, item_fault, key_fault, wrong_item_kind, ends_with_value, has_key_outside, own_entries, in_lower_case, has_pairs, is_empty_list, has_distinct_keys, text_form, entries_ordered, Pairs, looked, all_put, Ascends, or_none, look_ordered, known_by_names, last_ascending, cond_both}
 use Rattle.std.specs.Cmp.Lexicographic.{same_text as same_from_test}
 use Rattle.smithy_ids.specs.declared.shape_type.ShapeType.TheVariants as kind
 use Rattle.smithy_serde.specs.Values as value
@@ -186,11 +186,7 @@ query_texts others es = filter (has_texts others) (all_put es [])
 
 own_value_empty : (here : Option Schema) (ts : List (List ℕ)) → is_empty_list (own_value here ts) ≡ has_none ts
 own_value_empty here [] = refl
-own_value_empty here (t ∷ []) = go (is_kind kind.String here)
-  where
-    go : (b : Bool) → is_empty_list (if b then as_text t else own_list here (t ∷ [])) ≡ false
-    go true = refl
-    go false = refl
+own_value_empty here (t ∷ []) = cond_both (is_kind kind.String here) (as_text t) (own_list here (t ∷ [])) (λ v. is_empty_list v ≡ false) (λ e. refl) (λ e. refl)
 own_value_empty here (t ∷ u ∷ ts) = refl
 
 pub query_entries : (here : Option Schema) (others : List (List ℕ)) (es : Pairs (List (List ℕ))) → filter (has_pairs others) (in_key_order (valued (own_value here) es)) ≡ valued (own_value here) (query_texts others es)

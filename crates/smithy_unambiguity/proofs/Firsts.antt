@@ -1,19 +1,14 @@
 -- First writes.
-use Rattle.smithy_unambiguity.proofs.Common.{◌≡◌, ◌≢◌, refl, sym, ◌∙◌, ap, subst, ℕ, Bool, true, false, cond, ◌==◌, ◌||◌, if◌then◌else◌, List, [], ◌∷◌, ◌++◌, find, flat_map, Some, eq-eqb, AllByRecursion, option_map_or, eqb-true, append-nil, list_any-append, Resolved, is_of, has_seen, firsts_from}
-
-pub seen_next : (seen : List ℕ) (p i : ℕ) → has_seen (seen ++ p ∷ []) i ≡ (has_seen seen i || ((p == i) || false))
-seen_next seen p i = list_any-append (λ k. k == i) seen (p ∷ [])
+use Rattle.smithy_unambiguity.proofs.Common.{◌≡◌, ◌≢◌, refl, sym, ◌∙◌, ap, subst, ℕ, Bool, true, false, cond, ◌==◌, ◌||◌, if◌then◌else◌, List, [], ◌∷◌, ◌++◌, find, flat_map, Some, eq-eqb, AllByRecursion, option_map_or, eqb-true, append-nil, Resolved, is_of, has_seen, firsts_from, seen_next, cond_both}
 
 pub seen_same : (seen : List ℕ) (p i : ℕ) → (p == i) ≡ true → has_seen seen p ≡ has_seen seen i
 seen_same seen p i e = ap (has_seen seen) (eqb-true p i e)
 
 all_behind : (P : Resolved → Type 0) (seen : List ℕ) (rs : List Resolved) → AllByRecursion P rs → AllByRecursion P (firsts_from seen rs)
 all_behind P seen [] all = tt
-all_behind P seen (r ∷ rs) all = go (has_seen seen r.position) (all_behind P (seen ++ r.position ∷ []) rs all.1)
-  where
-    go : (s : Bool) → AllByRecursion P (firsts_from (seen ++ r.position ∷ []) rs) → AllByRecursion P (if s then firsts_from (seen ++ r.position ∷ []) rs else r ∷ firsts_from (seen ++ r.position ∷ []) rs)
-    go true rest = rest
-    go false rest = (all.0, rest)
+all_behind P seen (r ∷ rs) all =
+    let rest = all_behind P (seen ++ r.position ∷ []) rs all.1 in
+    cond_both (has_seen seen r.position) (firsts_from (seen ++ r.position ∷ []) rs) (r ∷ firsts_from (seen ++ r.position ∷ []) rs) (AllByRecursion P) (λ e. rest) (λ e. (all.0, rest))
 
 pub all_firsts : (P : Resolved → Type 0) (rs : List Resolved) → AllByRecursion P rs → AllByRecursion P (firsts_from [] rs)
 all_firsts P rs all = all_behind P [] rs all
@@ -45,11 +40,7 @@ find_has P i (x ∷ rs) r all e = go (x.position == i) refl (find_has P i rs r a
 
 gives_behind : {X : Type 0} (g : Resolved → List X) (i : ℕ) (seen : List ℕ) (rs : List Resolved) → AllByRecursion (λ r. r.position ≢ i → g r ≡ []) rs
     → flat_map g (firsts_from seen rs) ≡ (if has_seen seen i then [] else option_map_or g (find (is_of i) rs) [])
-gives_behind {X = X} g i seen [] nothing = go (has_seen seen i)
-  where
-    go : (u : Bool) → ◌≡◌ {A = List X} [] (if u then [] else [])
-    go true = refl
-    go false = refl
+gives_behind {X = X} g i seen [] nothing = cond_both (has_seen seen i) [] [] (λ (xs : List X). [] ≡ xs) (λ e. refl) (λ e. refl)
 gives_behind g i seen (r ∷ rs) nothing =
     go (has_seen seen r.position) (r.position == i) (has_seen seen i) refl refl refl
     (gives_behind g i (seen ++ r.position ∷ []) rs nothing.1 ∙ ap (λ u. if u then [] else option_map_or g (find (is_of i) rs) []) (seen_next seen r.position i))

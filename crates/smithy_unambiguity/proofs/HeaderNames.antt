@@ -1,6 +1,7 @@
 -- Which member gives a header of a name: names in lower case tell positions apart, and no prefix begins one.
-use Rattle.smithy_unambiguity.proofs.Common.{◌≡◌, ◌≢◌, refl, sym, ◌∙◌, ap, ℕ, zero, suc, ◌≤◌, nat_eq, Bool, true, false, not, ◌&&◌, ◌||◌, ◌==◌, List, [], ◌∷◌, ◌++◌, length, map, filter, filter_map, slice_get, Option, Some, None, option_map, is_some, eq-eqb, list_all, list_any, starts_with, cons_option, str_to_ascii_lowercase, and_parts, leb-true, map-append, are_distinct, AreDistinct, is_token, Schema, member_at, members_of, query_names, IsCheckedInput, lower_header_names, prefixes, is_sound_prefix, has_sound_headers, AreDistinct-from_test}
-use Rattle.smithy_unambiguity.proofs.Positions.{members_by_position, apart_at}
+use Rattle.smithy_unambiguity.proofs.Common.{◌≡◌, ◌≢◌, refl, sym, ◌∙◌, ap, ℕ, ◌≤◌, nat_eq, true, false, not, ◌&&◌, ◌||◌, ◌==◌, List, [], ◌∷◌, ◌++◌, length, map, filter, slice_get, Option, Some, None, option_map, is_some, eq-eqb, list_all, list_any, starts_with, cons_option, str_to_ascii_lowercase, and_parts, leb-true, map-append, are_distinct, AreDistinct, is_token, Schema, member_at, members_of, query_names, IsCheckedInput, lower_header_names, prefixes, is_sound_prefix, has_sound_headers, AreDistinct-from_test, AllByRecursion, filter_map}
+use Rattle.smithy_unambiguity.proofs.Positions.{members_by_position, apart_at, at_name, any_at}
+use Rattle.smithy_unambiguity.proofs.Lists.{all_from_test}
 use Rattle.smithy_unambiguity.proofs.Singles.{single}
 use Rattle.smithy_unambiguity.proofs.SoundMaps.{sound_maps}
 
@@ -21,38 +22,6 @@ starts-self : (a b : List ℕ) → starts_with nat_eq (a ++ b) a ≡ true
 starts-self [] b = refl
 starts-self (x ∷ a) b = ap (λ t. t && starts_with nat_eq (a ++ b) a) (eq-eqb x x refl) ∙ starts-self a b
 
--- a test that holds of all names holds of a member's
-all_at : (p : List ℕ → Bool) (h : Schema → Option (List ℕ)) (ms : List Schema) (j : ℕ) (n : Schema) (name : List ℕ) → list_all p (filter_map h ms) ≡ true → slice_get ms j ≡ Some n → h n ≡ Some name → p name ≡ true
-all_at p h [] j n name all e is = absurd (cc e)
-all_at p h (x ∷ ms) zero n name all e is = let same : x ≡ n = cc e in go (h x) (ap h same ∙ is) all
-  where
-    go : (o : Option (List ℕ)) → o ≡ Some name → list_all p (cons_option o (filter_map h ms)) ≡ true → p name ≡ true
-    go None q rest = absurd (cc q)
-    go (Some y) q rest = let names : y ≡ name = cc q in ap p (sym names) ∙ (and_parts (p y) (list_all p (filter_map h ms)) rest).0
-all_at p h (x ∷ ms) (suc j) n name all e is = all_at p h ms j n name (go (h x) all) e is
-  where
-    go : (o : Option (List ℕ)) → list_all p (cons_option o (filter_map h ms)) ≡ true → list_all p (filter_map h ms) ≡ true
-    go None rest = rest
-    go (Some y) rest = (and_parts (p y) (list_all p (filter_map h ms)) rest).1
-
--- a test that some name passes
-any_at : (p : List ℕ → Bool) (h : Schema → Option (List ℕ)) (ms : List Schema) (j : ℕ) (n : Schema) (name : List ℕ) → slice_get ms j ≡ Some n → h n ≡ Some name → p name ≡ true → list_any p (filter_map h ms) ≡ true
-any_at p h [] j n name e is pass = absurd (cc e)
-any_at p h (x ∷ ms) zero n name e is pass = let same : x ≡ n = cc e in go (h x) (ap h same ∙ is)
-  where
-    go : (o : Option (List ℕ)) → o ≡ Some name → list_any p (cons_option o (filter_map h ms)) ≡ true
-    go None q = absurd (cc q)
-    go (Some y) q = let names : y ≡ name = cc q in ap (λ t. t || list_any p (filter_map h ms)) (ap p names ∙ pass)
-any_at p h (x ∷ ms) (suc j) n name e is pass = go (h x) (any_at p h ms j n name e is pass)
-  where
-    go : (o : Option (List ℕ)) → list_any p (filter_map h ms) ≡ true → list_any p (cons_option o (filter_map h ms)) ≡ true
-    go None rest = rest
-    go (Some y) rest = ap (λ t. p y || t) rest ∙ by (p y)
-      where
-        by : (t : Bool) → (t || true) ≡ true
-        by true = refl
-        by false = refl
-
 -- what a checked schema says of its headers
 pub record HasApartHeaders (schema : Schema) : Type 0 where
   pub apart : (i j : ℕ) (m n : Schema) (name : List ℕ) → member_at schema i ≡ Some m → member_at schema j ≡ Some n → lower_name m ≡ Some name → lower_name n ≡ Some name → i ≡ j
@@ -66,7 +35,7 @@ headers_apart schema checked =
     record {
       apart = λ i j m n name at_i at_j is_m is_n. apart_at lower_name (members_of schema) distinct i j m n name (at i m at_i) (at j n at_j) is_m is_n;
       unlike_prefix = λ i j m n name prefix key at_i at_j is_m is_n same.
-          let sound = all_at (is_sound_prefix schema) (λ m. m.node.traits.http_prefix_headers) (members_of schema) j n prefix sound_prefixes (at j n at_j) is_n in
+          let sound = at_name (λ p. is_sound_prefix schema p ≡ true) (λ m. m.node.traits.http_prefix_headers) (members_of schema) j n prefix sound_prefixes (at j n at_j) is_n in
           let outside = (and_parts ((length prefix == 0) || is_token prefix) (not (list_any (λ name. starts_with nat_eq name (str_to_ascii_lowercase prefix)) (lower_header_names schema))) sound).1 in
           let begins : starts_with nat_eq name (str_to_ascii_lowercase prefix) ≡ true =
           ap (λ t. starts_with nat_eq t (str_to_ascii_lowercase prefix)) (sym same ∙ map-append _ prefix key) ∙ starts-self (str_to_ascii_lowercase prefix) (str_to_ascii_lowercase key) in
@@ -81,8 +50,8 @@ headers_apart schema checked =
     tests : ((list_all is_token (lower_header_names schema) && are_distinct (lower_header_names schema)) ≡ true) × (list_all (is_sound_prefix schema) (prefixes schema) ≡ true)
     tests = and_parts (list_all is_token (lower_header_names schema) && are_distinct (lower_header_names schema)) (list_all (is_sound_prefix schema) (prefixes schema)) (and_parts (has_sound_headers schema) (are_distinct (query_names schema)) checked.unlike_names).0
 
-    sound_prefixes : list_all (is_sound_prefix schema) (prefixes schema) ≡ true
-    sound_prefixes = tests.1
+    sound_prefixes : AllByRecursion (λ p. is_sound_prefix schema p ≡ true) (prefixes schema)
+    sound_prefixes = all_from_test (is_sound_prefix schema) (prefixes schema) tests.1
 
     distinct : AreDistinct (filter_map lower_name (members_of schema))
     distinct = AreDistinct-from_test (filter_map lower_name (members_of schema)) (ap are_distinct (sym (lower_names (members_of schema))) ∙ (and_parts (list_all is_token (lower_header_names schema)) (are_distinct (lower_header_names schema)) tests.0).1)

@@ -1,5 +1,5 @@
 -- A header's text tells the value as the normal form has it.
-use Rattle.smithy_unambiguity.proofs.Common.{◌≡◌, ◌≢◌, refl, sym, ◌∙◌, ap, subst, ℕ, ◌^◌, Bool, true, false, List, [], ◌∷◌, map, Option, Some, option_map, option_and_then, IsUtf8, ℤ, AllByRecursion, is_utf8, and_parts, each, ShapeType, TimestampFormat, same_kind, one_kind, Schema, Value, Width, Label, Writes, no_writes, write, Write, list_of, label_of, is_in_range, is_signed_within, fits, settled_elements, Place, Header, wire, time_format, listed, IsTimeInRange, wire_utf8, element_text}
+use Rattle.smithy_unambiguity.proofs.Common.{◌≡◌, ◌≢◌, refl, sym, ◌∙◌, ap, subst, ℕ, ◌^◌, Bool, true, false, List, [], ◌∷◌, map, Option, Some, option_map, option_and_then, IsUtf8, ℤ, AllByRecursion, is_utf8, and_parts, each, ShapeType, TimestampFormat, same_kind, one_kind, Schema, Value, Writes, no_writes, write, Write, list_of, is_in_range, is_signed_within, fits, settled_elements, Place, Header, wire, time_format, listed, IsTimeInRange, wire_utf8, element_text}
 use Rattle.std.proofs.lemmas.Str.{IsUtf8-from_is_utf8}
 use Rattle.smithy_types.specs.Timestamps.{timestamp_text}
 use Rattle.smithy_types.specs.declared.date_time.Format.{Format}

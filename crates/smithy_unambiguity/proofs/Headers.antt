@@ -1,11 +1,12 @@
 -- What stands at a header's name is what its member's first write gives.
-use Rattle.smithy_unambiguity.proofs.Common.{◌≡◌, ◌≢◌, refl, sym, ◌∙◌, ap, ℕ, Bool, true, false, cond, List, [], ◌∷◌, ◌++◌, map, flat_map, Option, Some, None, option_map, option_to_list, is_some, AllByRecursion, option_map_or, str_to_ascii_lowercase, map-append, append_cancel_left, same_text, Schema, member_at, Binding, to_header, to_prefix, binding_of, Value, Write, text_of_key, Resolved, firsts, values_at, headers, inserted, inserted_at, texts, header_texts, map_entries, same_text_self}
+use Rattle.smithy_unambiguity.proofs.Common.{◌≡◌, ◌≢◌, refl, sym, ◌∙◌, ap, ℕ, Bool, true, false, cond, List, [], ◌∷◌, ◌++◌, map, flat_map, Option, Some, None, option_map, option_to_list, is_some, AllByRecursion, option_map_or, str_to_ascii_lowercase, map-append, append_cancel_left, same_text, Schema, member_at, Binding, to_header, to_prefix, binding_of, Value, Write, text_of_key, Resolved, firsts, values_at, headers, inserted, inserted_at, texts, header_texts, map_entries, same_text_self, false_from_ne_true}
 use Rattle.std.specs.Cmp.Lexicographic.{same_text as same_from_test}
 use Rattle.smithy_unambiguity.proofs.LastTexts.{last_value, last_at, lowered}
 use Rattle.smithy_unambiguity.proofs.ByName.{values_at-flat_map, under_name, each_once_at, nothing_at}
 use Rattle.smithy_unambiguity.proofs.ByMember.{at_member, first_value, only_member}
 use Rattle.smithy_unambiguity.proofs.HeaderNames.{lower_name, HasApartHeaders}
 use Rattle.smithy_unambiguity.proofs.PairLemmas.{valued}
+use Rattle.smithy_unambiguity.proofs.Queries.{onto, values_at-cons, same_tests}
 use Rattle.smithy_unambiguity.proofs.Traits.{trait_of}
 
 -- the entries of a prefix map, each under its name
@@ -79,11 +80,9 @@ other_named : (schema : Schema) (i : ℕ) (m : Schema) (name : List ℕ) → Has
 other_named schema i m name is at lower r at_r other = go (binding_of r.member) refl
   where
     go : (b : Binding) → binding_of r.member ≡ b → named_header name b ≡ false
-    go (to_header n) e = by (same_text (str_to_ascii_lowercase n) name) refl
-      where
-        by : (t : Bool) → same_text (str_to_ascii_lowercase n) name ≡ t → t ≡ false
-        by true et = absurd (other (is.apart r.position i r.member m name at_r at (ap (option_map str_to_ascii_lowercase) (trait_of r.member (to_header n) e) ∙ ap Some (same_from_test (str_to_ascii_lowercase n) name (sym et))) lower))
-        by false et = refl
+    go (to_header n) e =
+        false_from_ne_true (same_text (str_to_ascii_lowercase n) name)
+        (λ et. other (is.apart r.position i r.member m name at_r at (ap (option_map str_to_ascii_lowercase) (trait_of r.member (to_header n) e) ∙ ap Some (same_from_test (str_to_ascii_lowercase n) name (sym et))) lower))
     go _ e = refl
 
 -- at a header member's name stand the texts of its first write: the last, where there are several
@@ -111,35 +110,26 @@ other_prefix schema i m prefix key is at begins r at_r other =
     (λ p e. absurd (other (is.one_prefix r.position i r.member m at_r at (ap is_some (trait_of r.member (to_prefix p) e)) (ap is_some begins))))
   where
     go : (b : Binding) → binding_of r.member ≡ b → named_header (str_to_ascii_lowercase (prefix ++ key)) b ≡ false
-    go (to_header n) e = by (same_text (str_to_ascii_lowercase n) (str_to_ascii_lowercase (prefix ++ key))) refl
-      where
-        by : (t : Bool) → same_text (str_to_ascii_lowercase n) (str_to_ascii_lowercase (prefix ++ key)) ≡ t → t ≡ false
-        by true et =
-            absurd (is.unlike_prefix r.position i r.member m (str_to_ascii_lowercase n) prefix key at_r at (ap (option_map str_to_ascii_lowercase) (trait_of r.member (to_header n) e)) begins
-            (sym (same_from_test (str_to_ascii_lowercase n) (str_to_ascii_lowercase (prefix ++ key)) (sym et))))
-        by false et = refl
+    go (to_header n) e =
+        false_from_ne_true (same_text (str_to_ascii_lowercase n) (str_to_ascii_lowercase (prefix ++ key)))
+        (λ et. is.unlike_prefix r.position i r.member m (str_to_ascii_lowercase n) prefix key at_r at (ap (option_map str_to_ascii_lowercase) (trait_of r.member (to_header n) e)) begins
+        (sym (same_from_test (str_to_ascii_lowercase n) (str_to_ascii_lowercase (prefix ++ key)) (sym et))))
     go _ e = refl
 
 -- under a name with the prefix stands what stands under the key, in lower case
 pub under_front : (prefix key : List ℕ) (ps : List (List ℕ × List ℕ)) → values_at (str_to_ascii_lowercase prefix ++ key) (prefixed prefix ps) ≡ values_at key (lowered ps)
 under_front prefix key [] = refl
-under_front prefix key (p ∷ ps) = go (same_text (str_to_ascii_lowercase (prefix ++ p.0)) (str_to_ascii_lowercase prefix ++ key)) (same_text (str_to_ascii_lowercase p.0) key) refl refl (under_front prefix key ps)
+under_front prefix key (p ∷ ps) =
+    values_at-cons (str_to_ascii_lowercase prefix ++ key) (str_to_ascii_lowercase (prefix ++ p.0), p.1) (prefixed prefix ps)
+    ∙ (λ i. onto (alike i) p (under_front prefix key ps i)) ∙ sym (values_at-cons key (str_to_ascii_lowercase p.0, p.1) (lowered ps))
   where
-    go : (s t : Bool) → same_text (str_to_ascii_lowercase (prefix ++ p.0)) (str_to_ascii_lowercase prefix ++ key) ≡ s → same_text (str_to_ascii_lowercase p.0) key ≡ t
-        → values_at (str_to_ascii_lowercase prefix ++ key) (prefixed prefix ps) ≡ values_at key (lowered ps)
-        → values_at (str_to_ascii_lowercase prefix ++ key) (prefixed prefix (p ∷ ps)) ≡ values_at key (lowered (p ∷ ps))
-    go true true es et rest = rw (es, et) (ap (λ vs. p.1 ∷ vs) rest)
-    go false false es et rest = rw (es, et) rest
-    go true false es et rest =
-        let whole = sym (map-append _ prefix p.0) ∙ same_from_test (str_to_ascii_lowercase (prefix ++ p.0)) (str_to_ascii_lowercase prefix ++ key) (sym es) in
-        let keys : str_to_ascii_lowercase p.0 ≡ key = append_cancel_left (str_to_ascii_lowercase prefix) (str_to_ascii_lowercase p.0) key whole in
-        let q : true ≡ false = sym (same_text_self (str_to_ascii_lowercase p.0)) ∙ ap (same_text (str_to_ascii_lowercase p.0)) keys ∙ et in
-        absurd (cc q)
-    go false true es et rest =
-        let keys = same_from_test (str_to_ascii_lowercase p.0) key (sym et) in
-        let whole : str_to_ascii_lowercase (prefix ++ p.0) ≡ str_to_ascii_lowercase prefix ++ key = map-append _ prefix p.0 ∙ ap (λ k. str_to_ascii_lowercase prefix ++ k) keys in
-        let q : true ≡ false = sym (same_text_self (str_to_ascii_lowercase (prefix ++ p.0))) ∙ ap (same_text (str_to_ascii_lowercase (prefix ++ p.0))) whole ∙ es in
-        absurd (cc q)
+    split : str_to_ascii_lowercase (prefix ++ p.0) ≡ str_to_ascii_lowercase prefix ++ str_to_ascii_lowercase p.0
+    split = map-append _ prefix p.0
+
+    alike : same_text (str_to_ascii_lowercase (prefix ++ p.0)) (str_to_ascii_lowercase prefix ++ key) ≡ same_text (str_to_ascii_lowercase p.0) key
+    alike =
+        same_tests (str_to_ascii_lowercase (prefix ++ p.0)) (str_to_ascii_lowercase prefix ++ key) (str_to_ascii_lowercase p.0) key
+        (λ e. append_cancel_left (str_to_ascii_lowercase prefix) (str_to_ascii_lowercase p.0) key (sym split ∙ e)) (λ e. split ∙ ap (λ k. str_to_ascii_lowercase prefix ++ k) e)
 
 -- an entry's name tells its key in lower case
 pub under_prefix : (prefix key : List ℕ) (ps : List (List ℕ × List ℕ)) → values_at (str_to_ascii_lowercase (prefix ++ key)) (prefixed prefix ps) ≡ values_at (str_to_ascii_lowercase key) (lowered ps)

@@ -1,5 +1,5 @@
 -- What is seen of a request tells the normal form's part of each member in its target or headers.
-use Rattle.smithy_unambiguity.proofs.Common.{◌≡◌, refl, sym, ◌∙◌, ap, ℕ, nat_eq, codes, length, ◌==◌, Bool, true, false, ◌&&◌, ◌||◌, List, [], ◌∷◌, Option, Some, None, option_map, option_and_then, option_to_list, is_some, is_none, if◌then◌else◌, starts_with, option_map_or, str_to_ascii_lowercase, and_parts, is_token, Schema, Http, member_at, members_of, Binding, to_header, binding_of, is_outside_body, Value, Write, Header, values_at, headers, header_texts, query_names, place_at, member_text, body, is_clear, IsCheckedInput, is_header_kind, has_element, has_bound_kind, has_header_kind, has_query_kind, has_label_kind, is_placed_at, Protocol, OmitFlags, template_of, all_headers, IsTyped, writes_default, has_clear_template, member_view, bound_view_at, IsCheckedInput-from_test, SeesSame}
+use Rattle.smithy_unambiguity.proofs.Common.{◌≡◌, refl, sym, ◌∙◌, ap, ℕ, nat_eq, codes, length, ◌==◌, Bool, true, false, ◌&&◌, ◌||◌, List, [], ◌∷◌, Option, Some, None, option_map, option_and_then, option_to_list, is_some, is_none, if◌then◌else◌, starts_with, option_map_or, str_to_ascii_lowercase, and_parts, is_token, Schema, Http, member_at, Binding, to_header, binding_of, is_outside_body, Value, Write, Header, values_at, headers, header_texts, query_names, place_at, member_text, body, is_clear, IsCheckedInput, is_header_kind, has_element, has_bound_kind, has_header_kind, has_query_kind, has_label_kind, is_placed_at, Protocol, OmitFlags, template_of, all_headers, IsTyped, writes_default, has_clear_template, member_view, bound_view_at, IsCheckedInput-from_test, SeesSame, member-passes}
 use Rattle.smithy_unambiguity.proofs.LastTexts.{last_value}
 use Rattle.smithy_unambiguity.proofs.Setting.{IsSetting}
 use Rattle.smithy_unambiguity.proofs.ByMember.{first_value}
@@ -9,8 +9,7 @@ use Rattle.smithy_unambiguity.proofs.HeaderNames.{headers_apart}
 use Rattle.smithy_unambiguity.proofs.Conformity.{conforming}
 use Rattle.smithy_unambiguity.proofs.Headers.{header_values, headers_of_member}
 use Rattle.smithy_unambiguity.proofs.MemberTexts.{header_told, bound_list, list_of_element}
-use Rattle.smithy_unambiguity.proofs.Placed.{HasTypedWrites, IsPlacedValue, placed_value, bound_view_of, member_has}
-use Rattle.smithy_unambiguity.proofs.Positions.{members_by_position}
+use Rattle.smithy_unambiguity.proofs.Placed.{HasTypedWrites, IsPlacedValue, placed_value, bound_view_of}
 use Rattle.smithy_unambiguity.proofs.Requests.{IsPlacedRequest, placed_request, SeeSame, see_same}
 use Rattle.smithy_unambiguity.proofs.Traits.{trait_of}
 use Rattle.smithy_unambiguity.proofs.Values.{flat_value, flat_texts, flat_header}
@@ -74,6 +73,14 @@ header_kinds m name is kinds =
     let h = (and_parts (has_label_kind m && has_query_kind m) (has_header_kind m) kinds).1 in
     ap (λ (o : Option (List ℕ)). is_none o || is_header_kind m.node.kind || has_element is_header_kind m) (sym is) ∙ h
 
+-- the one text of a flat value
+pub one_text : (m : Schema) (v : Value) → is_flat m.node.kind ≡ true → (is : IsPlacedValue m v) → (t : List ℕ) × (is.ts ≡ t ∷ [])
+one_text m v flat is = by (member_text (place_at (binding_of m)) m v) (sym (flat_texts m v (flat_value m.node.kind v flat is.value.fits)) ∙ is.texts)
+  where
+    by : (o : Option (List ℕ)) → option_map (λ (t : List ℕ). t ∷ []) o ≡ Some is.ts → (t : List ℕ) × (is.ts ≡ t ∷ [])
+    by None e = absurd (cc e)
+    by (Some t) e = let same : t ∷ [] ≡ is.ts = cc e in (t, sym same)
+
 -- a header member's value gives one text
 pub one_header_value : (m : Schema) (v : Value) → (is_flat m.node.kind || has_element is_header_kind m) ≡ true → IsPlacedValue m v → (t : List ℕ) × (header_values m v ≡ t ∷ [])
 one_header_value m v kinds is = go (is_flat m.node.kind) refl kinds
@@ -83,12 +90,7 @@ one_header_value m v kinds is = go (is_flat m.node.kind) refl kinds
 
     go : (b : Bool) → is_flat m.node.kind ≡ b → (b || has_element is_header_kind m) ≡ true → (t : List ℕ) × (header_values m v ≡ t ∷ [])
     go true flat h =
-        let flat_v = flat_value m.node.kind v flat is.value.fits in
-        by (member_text (place_at (binding_of m)) m v) (sym (flat_texts m v flat_v) ∙ is.texts) (there ∙ flat_header m v is.ts flat_v)
-      where
-        by : (o : Option (List ℕ)) → option_map (λ (t : List ℕ). t ∷ []) o ≡ Some is.ts → header_values m v ≡ is.ts → (t : List ℕ) × (header_values m v ≡ t ∷ [])
-        by None e q = absurd (cc e)
-        by (Some t) e q = let same : t ∷ [] ≡ is.ts = cc e in (t, q ∙ sym same)
+        let x = one_text m v flat is in (x.0, there ∙ flat_header m v is.ts (flat_value m.node.kind v flat is.value.fits) ∙ x.1)
     go false flat h =
         let l = list_of_element is_header_kind m h in
         let a = bound_list is_header_kind m l v is.value in
@@ -117,7 +119,7 @@ pub header_leaves : (protocol : Protocol) (schema : Schema) (endpoint : List ℕ
 header_leaves protocol schema endpoint omit ws i m name checked typed at header =
     all_headers_at protocol (body protocol.text_of schema ws) omit (headers schema ws) (str_to_ascii_lowercase name)
     (ap (writes_default (body protocol.text_of schema ws) omit (headers schema ws)) (sym header)
-    ∙ member_has (λ m. writes_default (body protocol.text_of schema ws) omit (headers schema ws) (binding_of m)) (members_of schema) i m typed.defaults (members_by_position schema checked i ∙ at))
+    ∙ member-passes (λ m. writes_default (body protocol.text_of schema ws) omit (headers schema ws) (binding_of m)) schema i m typed.defaults at)
 
 pub header_member_told : (protocol : Protocol) (schema : Schema) (endpoint : List ℕ) (omit : OmitFlags) (v w : List Write) → AreSeenSame protocol schema endpoint omit v w → (i : ℕ) (m : Schema) (name : List ℕ)
     → member_at schema i ≡ Some m → has_bound_kind m ≡ true → binding_of m ≡ to_header name → member_view schema v i m ≡ member_view schema w i m

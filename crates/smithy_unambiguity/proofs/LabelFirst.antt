@@ -1,5 +1,5 @@
 -- The texts of a label are those of its member's first write.
-use Rattle.smithy_unambiguity.proofs.Common.{◌≡◌, ◌≢◌, refl, sym, ◌∙◌, ap, ℕ, Bool, true, false, cond, ◌&&◌, List, [], flat_map, Option, Some, None, unwrap_or, option_map_or, same_text, Schema, member_at, name_of, Binding, to_label, binding_of, Value, Write, Resolved, firsts, values_at, labels, labelled_at, texts, labelled, same_text_self}
+use Rattle.smithy_unambiguity.proofs.Common.{◌≡◌, ◌≢◌, refl, sym, ◌∙◌, ap, ℕ, Bool, false, cond, ◌&&◌, List, [], flat_map, Option, Some, None, unwrap_or, option_map_or, same_text, Schema, member_at, name_of, Binding, to_label, binding_of, Value, Write, Resolved, firsts, values_at, labels, labelled_at, texts, labelled, same_text_self, and_right, false_from_ne_true}
 use Rattle.std.specs.Cmp.Lexicographic.{same_text as same_from_test}
 use Rattle.smithy_unambiguity.proofs.ByMember.{at_member, first_value, first_texts, only_member, none_given}
 use Rattle.smithy_unambiguity.proofs.ByName.{values_at-flat_map, under_name}
@@ -35,12 +35,10 @@ pub label_of_first : (schema : Schema) → HasApartNames schema → (ws : List W
 label_of_first schema apart ws i m at label = labels_at_name schema ws (name_of m) ∙ only_member (spoken (name_of m)) schema ws i m at others ∙ go (first_value schema ws i)
   where
     others : (r : Resolved) → member_at schema r.position ≡ Some r.member → r.position ≢ i → spoken (name_of m) r ≡ []
-    others r at_r other = nothing_spoken (name_of m) r (by (stands_at to_label (binding_of r.member)) (same_text (name_of r.member) (name_of m)) refl)
-      where
-        by : (b t : Bool) → same_text (name_of r.member) (name_of m) ≡ t → (b && t) ≡ false
-        by b true e = absurd (other (apart r.position i r.member m at_r at (same_from_test (name_of r.member) (name_of m) (sym e))))
-        by true false e = refl
-        by false false e = refl
+    others r at_r other =
+        nothing_spoken (name_of m) r
+        (and_right (stands_at to_label (binding_of r.member)) (same_text (name_of r.member) (name_of m))
+        (false_from_ne_true (same_text (name_of r.member) (name_of m)) (λ e. other (apart r.position i r.member m at_r at (same_from_test (name_of r.member) (name_of m) (sym e))))))
 
     go : (o : Option Value) → option_map_or (λ v. spoken (name_of m) (at_member i m v)) o [] ≡ first_texts m o
     go None = refl

@@ -1,5 +1,5 @@
 -- A filled path tells the text of each label member.
-use Rattle.smithy_unambiguity.proofs.Common.{◌≡◌, refl, sym, ◌∙◌, ap, subst, ℕ, Bool, true, false, not, cond, ◌==◌, ◌&&◌, List, [], ◌∷◌, ◌++◌, length, map, filter, filter_map, Option, Some, None, Result, Ok, Err, is_some, unwrap_or, AllByRecursion, list_all, cons_option, and_parts, not-true, append_cancel_left, found, same_text, has_byte, then_give, Schema, name_of, Hole, Piece, Template, pieces, holes_of, fill, fill_rest, is_clear, label_members, holes_named, ends_segment, begins_segment, are_whole_segments, is_greedy_last, before_query, texts}
+use Rattle.smithy_unambiguity.proofs.Common.{◌≡◌, refl, sym, ◌∙◌, ap, subst, ℕ, Bool, true, false, not, cond, ◌==◌, ◌&&◌, List, [], ◌∷◌, ◌++◌, length, map, filter, filter_map, Option, Some, None, Result, Ok, Err, is_some, unwrap_or, AllByRecursion, list_all, cons_option, and_parts, not-true, append_cancel_left, found, same_text, has_byte, then_give, Schema, name_of, Piece, Template, pieces, holes_of, fill, fill_rest, is_clear, label_members, holes_named, ends_segment, begins_segment, are_whole_segments, is_greedy_last, before_query, texts}
 use Rattle.std.specs.Cmp.Lexicographic.{same_text as same_from_test}
 use Rattle.smithy_unambiguity.proofs.Cuts.{before, before_first-before}
 use Rattle.smithy_unambiguity.proofs.Paths.{holes_told, before-behind, HasNo-from_has_byte, HaveBytes}
@@ -9,9 +9,6 @@ hole_found : (Q : List ℕ → Type 0) (n : List ℕ) (ps : List Piece) → AllB
 hole_found Q n [] all e = absurd (cc e)
 hole_found Q n (p ∷ ps) all e = go (same_text p.hole.name n) refl e (hole_found Q n ps all.1)
   where
-    later : List Hole
-    later = filter (λ h. same_text h.name n) (map (λ x. x.hole) ps)
-
     go : (t : Bool) → same_text p.hole.name n ≡ t → (length (cond t (p.hole ∷ filter (λ h. same_text h.name n) (map (λ x. x.hole) ps)) (filter (λ h. same_text h.name n) (map (λ x. x.hole) ps))) == 1) ≡ true
         → ((length (filter (λ h. same_text h.name n) (map (λ x. x.hole) ps)) == 1) ≡ true → Q n) → Q n
     go true is h rest = subst Q (same_from_test p.hole.name n (sym is)) all.0
@@ -22,9 +19,6 @@ pub all_named : (Q : List ℕ → Type 0) (ps : List Piece) (ms : List Schema) �
 all_named Q ps [] all named e = tt
 all_named Q ps (m ∷ ms) all named e = go m.node.member_name refl named.0 e (all_named Q ps ms all named.1)
   where
-    once : List ℕ → Bool
-    once name = length (filter (λ h. same_text h.name name) (map (λ p. p.hole) ps)) == 1
-
     go : (o : Option (List ℕ)) → m.node.member_name ≡ o → is_some o ≡ true
         → list_all (λ name. length (filter (λ h. same_text h.name name) (map (λ p. p.hole) ps)) == 1) (cons_option o (filter_map (λ x. x.node.member_name) ms)) ≡ true
         → (list_all (λ name. length (filter (λ h. same_text h.name name) (map (λ p. p.hole) ps)) == 1) (filter_map (λ x. x.node.member_name) ms) ≡ true → AllByRecursion (λ x. Q (name_of x)) ms)
@@ -81,3 +75,8 @@ path_tells_labels schema template texts others path other bytes_t bytes_o named 
     all_named (λ n. found n texts ≡ found n others) t.rest (label_members schema)
     (template_told t texts others path other bytes_t bytes_o d.1 a.1 fills fills' (sym (before_first-before 63 path) ∙ e ∙ before_first-before 63 other))
     named c.0
+
+-- Labels that are found alike fill a template alike.
+
+pub fill_same : (a b : List (List ℕ × List ℕ)) (t : Template) → ((name : List ℕ) → found name a ≡ found name b) → fill t a ≡ fill t b
+fill_same a b t same = λ i. then_give (fill_rest (λ name. same name i) t.rest) λ rest. t.first ++ rest

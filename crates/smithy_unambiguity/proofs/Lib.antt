@@ -34,7 +34,7 @@ pub mod Reserved
 mod Setting
 pub mod Settled
 mod Singles
-mod Sound
+pub mod Sound
 mod SoundMaps
 pub mod TargetTold
 pub mod TemplateQuery
@@ -52,7 +52,7 @@ mod ViewTarget
 mod ViewTold
 pub mod ViewTyped
 mod ViewValues
-mod ViewWrites
+pub mod ViewWrites
 pub mod Viewed
 mod ViewedMaps
 pub mod ViewedMembers

@@ -1,5 +1,5 @@
 -- Pairs of a name and a value: in the order of the names, with other values, those that pass a test, and each name once.
-use Rattle.smithy_unambiguity.proofs.Common.{◌≡◌, refl, sym, ◌∙◌, ap, subst, ℕ, Bool, true, false, not, cond, ◌||◌, List, [], ◌∷◌, map, filter, Option, Some, None, option_and_then, if◌then◌else◌, AllByRecursion, option_or, slice_cmp, and_from, same_text, is_one_of, are_distinct, same_text_self, Pairs, looked, all_put, Behind, Ascends, all_ascend, absent, up_tail}
+use Rattle.smithy_unambiguity.proofs.Common.{◌≡◌, refl, sym, ◌∙◌, ap, subst, ℕ, Bool, true, false, not, cond, ◌||◌, List, [], ◌∷◌, map, filter, Option, Some, None, option_and_then, if◌then◌else◌, AllByRecursion, option_or, slice_cmp, and_from, same_text, is_one_of, are_distinct, Pairs, looked, all_put, Behind, Ascends, all_ascend, absent, up_tail, cond_both, same_text-sym}
 use Rattle.std.specs.Ordering.{nat_cmp, match_ordering}
 use Rattle.std.specs.declared.cmp.Ordering.{Ordering}
 use Rattle.std.specs.declared.cmp.Ordering.TheVariants.{Less, Equal, Greater}
@@ -75,19 +75,15 @@ behind_lower low k (p ∷ ps) less behind = (nat_list_cmp_total.trans low k p.0 
 
 filter_behind : {X : Type 0} (test : List ℕ × X → Bool) (low : List ℕ) (ps : Pairs X) → Behind low ps → Behind low (filter test ps)
 filter_behind test low [] behind = tt
-filter_behind {X = X} test low (p ∷ ps) behind = go (test p) (filter_behind test p.0 ps behind.1)
-  where
-    go : (t : Bool) → Behind p.0 (filter test ps) → Behind low (cond t (p ∷ filter test ps) (filter test ps))
-    go true rest = (behind.0, rest)
-    go false rest = behind_lower low p.0 (filter test ps) behind.0 rest
+filter_behind test low (p ∷ ps) behind =
+    let rest = filter_behind test p.0 ps behind.1 in
+    cond_both (test p) (p ∷ filter test ps) (filter test ps) (Behind low) (λ e. (behind.0, rest)) (λ e. behind_lower low p.0 (filter test ps) behind.0 rest)
 
 pub filter_ascends : {X : Type 0} (test : List ℕ × X → Bool) (ps : Pairs X) → Ascends ps → Ascends (filter test ps)
 filter_ascends test [] up = tt
-filter_ascends {X = X} test (p ∷ ps) up = go (test p) (filter_behind test p.0 ps up)
-  where
-    go : (t : Bool) → Behind p.0 (filter test ps) → Ascends (cond t (p ∷ filter test ps) (filter test ps))
-    go true rest = rest
-    go false rest = up_tail p.0 (filter test ps) rest
+filter_ascends test (p ∷ ps) up =
+    let rest = filter_behind test p.0 ps up in
+    cond_both (test p) (p ∷ filter test ps) (filter test ps) Ascends (λ e. rest) (λ e. up_tail p.0 (filter test ps) rest)
 
 -- a value under a name, if they pass
 abbrev pub passing : {X : Type 0} → (List ℕ × X → Bool) → List ℕ → Option X → Option X
@@ -118,14 +114,6 @@ pub names-valued : {X Y : Type 0} (g : X → Y) (ps : Pairs X) → names (valued
 names-valued g [] = refl
 names-valued g (p ∷ ps) = ap (λ ns. p.0 ∷ ns) (names-valued g ps)
 
--- a test of two texts that fails the other way round too
-unlike_back : (a b : List ℕ) → same_text a b ≡ false → same_text b a ≡ false
-unlike_back a b e = go (same_text b a) refl
-  where
-    go : (t : Bool) → same_text b a ≡ t → t ≡ false
-    go true h = absurd (let same : b ≡ a = same_from_test b a (sym h) in let q : true ≡ false = sym (same_text_self a) ∙ ap (same_text a) (sym same) ∙ e in cc q)
-    go false h = refl
-
 -- nothing stands under a name that is none of the names
 pub unnamed : {X : Type 0} (name : List ℕ) (ps : Pairs X) → is_one_of name (names ps) ≡ false → last_of name ps ≡ None
 unnamed name [] e = refl
@@ -134,7 +122,7 @@ unnamed {X = X} name (p ∷ ps) e = go (same_text name p.0) refl e (λ h. unname
     go : (t : Bool) → same_text name p.0 ≡ t → (t || is_one_of name (names ps)) ≡ false → (is_one_of name (names ps) ≡ false → last_of name ps ≡ None)
         → option_or (last_of name ps) (cond (same_text p.0 name) (Some p.1) None) ≡ None
     go true is h rest = absurd (cc h)
-    go false is h rest = rw (unlike_back name p.0 is) (ap (λ o. option_or o None) (rest h))
+    go false is h rest = rw (same_text-sym p.0 name ∙ is) (ap (λ o. option_or o None) (rest h))
 
 not_looked : {X : Type 0} (name : List ℕ) (ps : Pairs X) → looked name ps ≡ None → is_one_of name (names ps) ≡ false
 not_looked name [] e = refl
@@ -143,7 +131,7 @@ not_looked {X = X} name (p ∷ ps) e = go (same_text p.0 name) refl e (λ h. not
     go : (t : Bool) → same_text p.0 name ≡ t → cond t (Some p.1) (looked name ps) ≡ None → (looked name ps ≡ None → is_one_of name (names ps) ≡ false)
         → (same_text name p.0 || is_one_of name (names ps)) ≡ false
     go true is h rest = absurd (cc h)
-    go false is h rest = ap (λ t. t || is_one_of name (names ps)) (unlike_back p.0 name is) ∙ rest h
+    go false is h rest = ap (λ t. t || is_one_of name (names ps)) (same_text-sym name p.0 ∙ is) ∙ rest h
 
 pub ascending_distinct : {X : Type 0} (ps : Pairs X) → Ascends ps → are_distinct (names ps) ≡ true
 ascending_distinct [] up = refl

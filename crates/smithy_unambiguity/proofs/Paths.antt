@@ -1,5 +1,5 @@
 -- A filled path gives the texts of its holes.
-use Rattle.smithy_unambiguity.proofs.Common.{◌≡◌, refl, sym, ◌∙◌, ap, subst, ℕ, arith, Bool, true, false, not, cond, ◌==◌, ◌&&◌, ◌||◌, List, [], ◌∷◌, ◌++◌, length, map, Option, Some, None, Result, Ok, Err, codes, nat_eq, eq-eqb, ne_eqb, find, option_map, AllByRecursion, starts_with, ends_with, eqb-true, and_parts, not-true, append_assoc, append_cancel_left, append_cancel_right, found, has_byte, same_text, then_try, then_give, Hole, Piece, escape, AreBytes, hole_text, filled_hole, fill_rest, keep_slashes, ends_segment, begins_segment, are_whole_segments, is_greedy_last, escape-injective}
+use Rattle.smithy_unambiguity.proofs.Common.{◌≡◌, refl, sym, ◌∙◌, ap, subst, ℕ, arith, Bool, true, false, not, cond, ◌==◌, ◌&&◌, ◌||◌, List, [], ◌∷◌, ◌++◌, length, map, Option, Some, None, Result, Ok, Err, codes, nat_eq, eq-eqb, ne_eqb, find, option_map, AllByRecursion, starts_with, ends_with, eqb-true, and_parts, not-true, append_assoc, append_cancel_left, append_cancel_right, found, has_byte, same_text, then_try, then_give, Hole, Piece, escape, AreBytes, hole_text, filled_hole, fill_rest, keep_slashes, ends_segment, begins_segment, are_whole_segments, is_greedy_last, escape-injective, or_parts}
 use Rattle.smithy_unambiguity.proofs.Cuts.{HasNo, before, cut}
 use Rattle.smithy_unambiguity.proofs.Holes.{hole_text-injective}
 use Rattle.smithy_unambiguity.proofs.Reserved.{slash, question, HasNo-escape, HasNo-hole_text}
@@ -50,11 +50,9 @@ pub record IsBetween (literal : List ℕ) : Type 0 where
 
 pub HasNo-from_has_byte : (c : ℕ) (text : List ℕ) → has_byte c text ≡ false → HasNo c text
 HasNo-from_has_byte c [] e = tt
-HasNo-from_has_byte c (b ∷ text) e = go (b == c) refl (HasNo-from_has_byte c text) e
-  where
-    go : (t : Bool) → (b == c) ≡ t → (has_byte c text ≡ false → HasNo c text) → (t || has_byte c text) ≡ false → HasNo c (b ∷ text)
-    go true u rest h = absurd (cc h)
-    go false u rest h = ((λ same. let q : true ≡ false = sym (eq-eqb b c same) ∙ u in cc q), rest h)
+HasNo-from_has_byte c (b ∷ text) e =
+    let parts = or_parts (b == c) (has_byte c text) e in
+    ((λ same. let q : true ≡ false = sym (eq-eqb b c same) ∙ parts.0 in cc q), HasNo-from_has_byte c text parts.1)
 
 pub between : (literal : List ℕ) → begins_segment literal ≡ true → ends_segment literal ≡ true → IsBetween literal
 between [] begins ends = absurd (cc ends)

@@ -1,5 +1,5 @@
 -- The body of a payload tells its normal form.
-use Rattle.smithy_unambiguity.proofs.Common.{◌≡◌, refl, sym, ◌∙◌, ap, ℕ, ◌≤◌, nat_le, ◌⊎◌, inl, inr, Bool, true, false, not, ◌&&◌, ◌||◌, ◌==◌, List, [], length, filter, find, Result, Ok, Option, Some, None, option_map, option_and_then, unwrap_or, if◌then◌else◌, eq-eqb, result_ok, and_parts, eqb-true, leb-true, Document, nesting, ShapeType, Schema, member_at, members_of, Binding, to_payload, binding_of, is_outside_body, is_bound, Value, Write, fits, is_null, Held, IsLawfulText, is_sound, max_nesting, DocumentFault, document_of, doc_of, is_shaped, settled, Resolved, all_resolved, firsts, is_of, is_payload, is_codec_kind, payload_kind, has_unbound_member, is_raw_kind, form_at, form_in, body_parts, body, document_value, document_by, raw_bytes, text_of_document, bytes_by, IsCheckedInput, has_at_most_one, is_sound_payload, is_well_made, Protocol, OmitFlags, IsTyped, is_codec_payload, is_shaped_write, is_shallow, member_view, unless_empty, Stands, text_form}
+use Rattle.smithy_unambiguity.proofs.Common.{◌≡◌, refl, sym, ◌∙◌, ap, ℕ, ◌≤◌, nat_le, ◌⊎◌, inl, inr, Bool, true, false, not, ◌&&◌, ◌||◌, ◌==◌, List, [], length, filter, find, Result, Ok, Option, Some, None, option_map, option_and_then, unwrap_or, if◌then◌else◌, eq-eqb, result_ok, and_parts, eqb-true, leb-true, Document, nesting, ShapeType, Schema, member_at, members_of, Binding, to_payload, binding_of, is_outside_body, is_bound, Value, Write, fits, is_null, Held, IsLawfulText, is_sound, max_nesting, DocumentFault, document_of, doc_of, is_shaped, settled, Resolved, all_resolved, firsts, is_of, is_payload, is_codec_kind, payload_kind, has_unbound_member, is_raw_kind, form_at, form_in, body_parts, body, document_value, document_by, raw_bytes, text_of_document, bytes_by, IsCheckedInput, has_at_most_one, is_sound_payload, is_well_made, Protocol, OmitFlags, IsTyped, is_codec_payload, is_shaped_write, is_shallow, member_view, unless_empty, Stands, text_form, both_ways}
 use Rattle.smithy_ids.specs.declared.shape_type.ShapeType.TheVariants as kind
 use Rattle.smithy_serde.specs.Values as value
 use Rattle.smithy_binding.specs.declared.body_form.BodyForm.{BodyForm}
@@ -16,7 +16,7 @@ use Rattle.smithy_unambiguity.proofs.Traits.{trait_of}
 use Rattle.smithy_unambiguity.proofs.Members.{member_in_place}
 use Rattle.smithy_unambiguity.proofs.Placed.{HasTypedWrites, bound_fits, first_fitting, first_has}
 use Rattle.smithy_unambiguity.proofs.Positions.{members_by_position}
-use Rattle.smithy_unambiguity.proofs.Singles.{single, find_single, find_same}
+use Rattle.smithy_unambiguity.proofs.Singles.{single, find_same, find_alone}
 use Rattle.smithy_unambiguity.proofs.Sound.{sound}
 
 pub payload_is : (b : Binding) → is_payload b ≡ true → b ≡ to_payload
@@ -34,7 +34,9 @@ one_payload schema checked =
 -- the payload member is the one that is found
 pub payload_kind_is : (schema : Schema) → IsCheckedInput schema → (i : ℕ) (m : Schema) → member_at schema i ≡ Some m → binding_of m ≡ to_payload → payload_kind schema ≡ Some m.node.kind
 payload_kind_is schema checked i m at payload =
-    ap (option_map (λ n. n.node.kind)) (find_single (λ n. is_payload (binding_of n)) (λ n. n.node.traits.http_payload) (members_of schema) (λ n e. payload_of n e) (one_payload schema checked) i m (members_by_position schema checked i ∙ at) (ap is_payload payload))
+    ap (option_map (λ n. n.node.kind))
+    (find_alone (λ n. is_payload (binding_of n)) (members_of schema) i m (members_by_position schema checked i ∙ at) (ap is_payload payload)
+    (λ j n at_j is. single (λ n. n.node.traits.http_payload) (members_of schema) (one_payload schema checked) j i n m at_j (members_by_position schema checked i ∙ at) (payload_of n is) (payload_of m (ap is_payload payload))))
 
 -- and its first write is the payload
 pub payload_value : (schema : Schema) → IsCheckedInput schema → (ws : List Write) (i : ℕ) (m : Schema) → member_at schema i ≡ Some m → binding_of m ≡ to_payload
@@ -46,21 +48,14 @@ payload_value schema checked ws i m at payload =
     ∙ first_finds i (all_resolved schema ws))
   where
     same_test : (r : Resolved) → member_at schema r.position ≡ Some r.member → is_payload (binding_of r.member) ≡ is_of i r
-    same_test r at_r = go (r.position == i) (is_payload (binding_of r.member)) refl refl
-      where
-        go : (t s : Bool) → (r.position == i) ≡ t → is_payload (binding_of r.member) ≡ s → s ≡ t
-        go true true e is = refl
-        go false false e is = refl
-        go true false e is =
-            let members : Some r.member ≡ Some m = sym at_r ∙ ap (member_at schema) (eqb-true r.position i e) ∙ at in
-            let same : r.member ≡ m = cc members in
-            let q : false ≡ true = sym is ∙ ap (λ n. is_payload (binding_of n)) same ∙ ap is_payload payload in
-            q
-        go false true e is =
-            let position = single (λ n. n.node.traits.http_payload) (members_of schema) (one_payload schema checked) r.position i r.member m (members_by_position schema checked r.position ∙ at_r) (members_by_position schema checked i ∙ at)
-            (payload_of r.member is) (payload_of m (ap is_payload payload)) in
-            let q : true ≡ false = sym (eq-eqb r.position i position) ∙ e in
-            q
+    same_test r at_r =
+        both_ways (is_payload (binding_of r.member)) (r.position == i)
+        (λ is. eq-eqb r.position i (single (λ n. n.node.traits.http_payload) (members_of schema) (one_payload schema checked) r.position i r.member m (members_by_position schema checked r.position ∙ at_r) (members_by_position schema checked i ∙ at)
+        (payload_of r.member is) (payload_of m (ap is_payload payload))))
+        (λ e.
+        let members : Some r.member ≡ Some m = sym at_r ∙ ap (member_at schema) (eqb-true r.position i e) ∙ at in
+        let same : r.member ≡ m = cc members in
+        ap (λ n. is_payload (binding_of n)) same ∙ ap is_payload payload)
 
 -- the bytes of the body, by its form
 pub body_bytes : (text_of : Document → List ℕ) (schema : Schema) (ws : List Write) → (body text_of schema ws).bytes ≡ bytes_by (form_in schema) text_of (body_parts schema ws)
@@ -68,17 +63,6 @@ unfolding body
 body_bytes text_of schema ws = refl
 
 -- Raw payloads.
-
-raw_text : (o p : Option Value) → ((v : Value) → o ≡ Some v → fits kind.String v ≡ true) → ((v : Value) → p ≡ Some v → fits kind.String v ≡ true)
-    → unwrap_or (option_map raw_bytes o) [] ≡ unwrap_or (option_map raw_bytes p) [] → option_and_then unless_empty o ≡ option_and_then unless_empty p
-raw_text o p is_o is_p e = shown o is_o ∙ ap view_of e ∙ sym (shown p is_p)
-  where
-    view_of : List ℕ → Option Value
-    view_of t = unless_empty (value.scalar (value.text t))
-
-    shown : (o : Option Value) → ((v : Value) → o ≡ Some v → fits kind.String v ≡ true) → option_and_then unless_empty o ≡ unless_empty (value.scalar (value.text (unwrap_or (option_map raw_bytes o) [])))
-    shown None is = refl
-    shown (Some v) is = let x = text_form v (is v refl) in ap unless_empty x.1 ∙ ap (λ u. unless_empty (value.scalar (value.text (raw_bytes u)))) (sym x.1)
 
 pub blob_form : (v : Value) → fits kind.Blob v ≡ true → (b : List ℕ) × (v ≡ value.scalar (value.blob b))
 blob_form (value.scalar (value.blob b)) e = (b, refl)
@@ -88,13 +72,21 @@ blob_form (value.scalar (value.whole value.integer z)) e = absurd (cc e)
 blob_form (value.scalar (value.whole value.long z)) e = absurd (cc e)
 blob_form _ e = absurd (cc e)
 
-raw_blob : (o p : Option Value) → ((v : Value) → o ≡ Some v → fits kind.Blob v ≡ true) → ((v : Value) → p ≡ Some v → fits kind.Blob v ≡ true)
+-- a raw value is what is made of its bytes
+raw_told : (k : ShapeType) (make : List ℕ → Value) → ((v : Value) → fits k v ≡ true → v ≡ make (raw_bytes v)) → unless_empty (make []) ≡ None
+    → (o p : Option Value) → ((v : Value) → o ≡ Some v → fits k v ≡ true) → ((v : Value) → p ≡ Some v → fits k v ≡ true)
     → unwrap_or (option_map raw_bytes o) [] ≡ unwrap_or (option_map raw_bytes p) [] → option_and_then unless_empty o ≡ option_and_then unless_empty p
-raw_blob o p is_o is_p e = shown o is_o ∙ ap (λ t. unless_empty (value.scalar (value.blob t))) e ∙ sym (shown p is_p)
+raw_told k make back none o p is_o is_p e = shown o is_o ∙ ap (λ t. unless_empty (make t)) e ∙ sym (shown p is_p)
   where
-    shown : (o : Option Value) → ((v : Value) → o ≡ Some v → fits kind.Blob v ≡ true) → option_and_then unless_empty o ≡ unless_empty (value.scalar (value.blob (unwrap_or (option_map raw_bytes o) [])))
-    shown None is = refl
-    shown (Some v) is = let x = blob_form v (is v refl) in ap unless_empty x.1 ∙ ap (λ u. unless_empty (value.scalar (value.blob (raw_bytes u)))) (sym x.1)
+    shown : (o : Option Value) → ((v : Value) → o ≡ Some v → fits k v ≡ true) → option_and_then unless_empty o ≡ unless_empty (make (unwrap_or (option_map raw_bytes o) []))
+    shown None is = sym none
+    shown (Some v) is = ap unless_empty (back v (is v refl))
+
+blob_back : (v : Value) → fits kind.Blob v ≡ true → v ≡ value.scalar (value.blob (raw_bytes v))
+blob_back v fit = let x = blob_form v fit in x.1 ∙ ap (λ u. value.scalar (value.blob (raw_bytes u))) (sym x.1)
+
+text_back : (v : Value) → fits kind.String v ≡ true → v ≡ value.scalar (value.text (raw_bytes v))
+text_back v fit = let x = text_form v fit in x.1 ∙ ap (λ u. value.scalar (value.text (raw_bytes u))) (sym x.1)
 
 -- Payloads that the codec writes.
 
@@ -214,11 +206,11 @@ payload_member_told protocol schema endpoint omit v w are i m at payload =
         → option_and_then (payload_view m) (first_value schema v i) ≡ option_and_then (payload_view m) (first_value schema w i)
     go (inl e) =
         raw_view m (first_value schema v i) (ap is_codec_kind e)
-        ∙ raw_blob (first_value schema v i) (first_value schema w i) (fitting v are.writes_v kind.Blob e) (fitting w are.writes_w kind.Blob e) (raw (form_is kind.Blob e))
+        ∙ raw_told kind.Blob (λ b. value.scalar (value.blob b)) blob_back refl (first_value schema v i) (first_value schema w i) (fitting v are.writes_v kind.Blob e) (fitting w are.writes_w kind.Blob e) (raw (form_is kind.Blob e))
         ∙ sym (raw_view m (first_value schema w i) (ap is_codec_kind e))
     go (inr (inl e)) =
         raw_view m (first_value schema v i) (ap is_codec_kind e)
-        ∙ raw_text (first_value schema v i) (first_value schema w i) (fitting v are.writes_v kind.String e) (fitting w are.writes_w kind.String e) (raw (form_is kind.String e))
+        ∙ raw_told kind.String (λ t. value.scalar (value.text t)) text_back refl (first_value schema v i) (first_value schema w i) (fitting v are.writes_v kind.String e) (fitting w are.writes_w kind.String e) (raw (form_is kind.String e))
         ∙ sym (raw_view m (first_value schema w i) (ap is_codec_kind e))
     go (inr (inr codec)) =
         let is = form_is m.node.kind refl ∙ codec_form m.node.kind (has_unbound_member schema) codec in

@@ -1,10 +1,10 @@
 -- What is known of the first write of a member in a typed input.
-use Rattle.smithy_unambiguity.proofs.Common.{◌≡◌, refl, sym, ◌∙◌, ap, subst, ℕ, zero, suc, Bool, true, false, not, cond, ◌&&◌, ◌||◌, List, [], ◌∷◌, filter, slice_get, Option, Some, None, option_map, option_and_then, is_some, IsTrue, AllByRecursion, list_all, and_parts, unless, first_of_all, Schema, member_at, members_of, Binding, to_body, binding_of, is_outside_body, is_bound, Value, Write, are_in_range, fits, is_null, Resolved, all_resolved, first, firsts, texts, inserted_at, query_names, IsCheckedInput, has_bound_kind, Fault, writes_fault, bound_fault, value_fault, item_fault, key_fault, year_fault, pairs_fault, is_placed_at, has_distinct_keys, has_own_formats, is_placed_typed, bound_view, bound_view_at, member_view, last_of, settled}
+use Rattle.smithy_unambiguity.proofs.Common.{◌≡◌, refl, sym, ◌∙◌, ap, ℕ, Bool, true, false, not, cond, ◌&&◌, ◌||◌, List, [], ◌∷◌, filter, slice_get, Option, Some, None, option_map, option_and_then, is_some, IsTrue, AllByRecursion, and_parts, unless, first_of_all, Schema, member_at, members_of, Binding, to_body, binding_of, is_outside_body, is_bound, Value, Write, are_in_range, fits, is_null, Resolved, all_resolved, first, firsts, texts, inserted_at, query_names, IsCheckedInput, has_bound_kind, Fault, writes_fault, bound_fault, value_fault, item_fault, key_fault, year_fault, pairs_fault, is_placed_at, has_distinct_keys, has_own_formats, is_placed_typed, bound_view, bound_view_at, member_view, last_of, settled, member-passes}
 use Rattle.std.proofs.lemmas.List.Sums.{list_all-from_AllPass}
 use Rattle.smithy_unambiguity.proofs.ByMember.{at_member, first_value, first_at}
 use Rattle.smithy_unambiguity.proofs.Conforming.{no_first, conforming_bound, IsFittingWrite, fitting_writes}
 use Rattle.smithy_unambiguity.proofs.Firsts.{first_finds, find_has}
-use Rattle.smithy_unambiguity.proofs.Positions.{members_by_position}
+use Rattle.smithy_unambiguity.proofs.Lists.{all_get, all_passing}
 use Rattle.smithy_unambiguity.proofs.MemberTexts.{IsBoundValue}
 
 -- What the fields of a typed input say of its writes.
@@ -84,25 +84,9 @@ bound_view_of schema ws i m b at is bound =
     go None = refl
     go (Some v) = refl
 
--- a test of all members holds of each
-pub member_has : (test : Schema → Bool) (ms : List Schema) (i : ℕ) (m : Schema) → list_all test ms ≡ true → slice_get ms i ≡ Some m → test m ≡ true
-member_has test [] i m all e = absurd (cc e)
-member_has test (x ∷ ms) zero m all e = let same : x ≡ m = cc e in ap test (sym same) ∙ (and_parts (test x) (list_all test ms) all).0
-member_has test (x ∷ ms) (suc i) m all e = member_has test ms i m (and_parts (test x) (list_all test ms) all).1 e
-
 pub member_among : (P : Schema → Type 0) (test : Schema → Bool) (ms : List Schema) (i : ℕ) (m : Schema) → AllByRecursion P (filter test ms) → slice_get ms i ≡ Some m → test m ≡ true → P m
-member_among P test [] i m all e pass = absurd (cc e)
-member_among P test (x ∷ ms) zero m all e pass = let same : x ≡ m = cc e in go (test x) (ap test same ∙ pass) all same
-  where
-    go : (t : Bool) → t ≡ true → AllByRecursion P (cond t (x ∷ filter test ms) (filter test ms)) → x ≡ m → P m
-    go false q h same = absurd (cc q)
-    go true q h same = subst P same h.0
-member_among P test (x ∷ ms) (suc i) m all e pass = member_among P test ms i m (go (test x) all) e pass
-  where
-    go : (t : Bool) → AllByRecursion P (cond t (x ∷ filter test ms) (filter test ms)) → AllByRecursion P (filter test ms)
-    go false h = h
-    go true h = h.1
+member_among P test ms i m all e pass = all_get (λ m. test m ≡ true → P m) ms i m (all_passing P test ms all) e pass
 
 -- a member's kind may stand at its binding
 pub kinds_at : (schema : Schema) → IsCheckedInput schema → (i : ℕ) (m : Schema) → member_at schema i ≡ Some m → has_bound_kind m ≡ true
-kinds_at schema checked i m at = member_has has_bound_kind (members_of schema) i m (list_all-from_AllPass has_bound_kind (members_of schema) checked.kinds) (members_by_position schema checked i ∙ at)
+kinds_at schema checked i m at = member-passes has_bound_kind schema i m (list_all-from_AllPass has_bound_kind (members_of schema) checked.kinds) at

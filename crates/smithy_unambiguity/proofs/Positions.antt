@@ -1,5 +1,6 @@
 -- Members by position, and names that tell positions apart.
-use Rattle.smithy_unambiguity.proofs.Common.{◌≡◌, ◌≢◌, refl, ◌∙◌, ap, subst, ℕ, zero, suc, Bool, true, false, ◌||◌, List, [], ◌∷◌, filter_map, slice_get, Option, Some, None, option_and_then, is_some, AllByRecursion, list_all, cons_option, and_parts, same_text, is_one_of, are_distinct, AreDistinct, Schema, at_place, members_of, member_at, query_names, AreDistinct-from_test, same_text_self, IsCheckedInput}
+use Rattle.smithy_unambiguity.proofs.Common.{◌≡◌, ◌≢◌, refl, ◌∙◌, ap, subst, ℕ, zero, suc, Bool, List, [], ◌∷◌, filter_map, slice_get, Option, Some, None, option_and_then, is_some, AllByRecursion, list_all, cons_option, and_parts, same_text, are_distinct, AreDistinct, Schema, at_place, members_of, member_at, query_names, AreDistinct-from_test, same_text_self, IsCheckedInput, list_any, enumerate_from, arith, or_right, true, is_one_of, ◌||◌, sym, ◌+◌}
+use Rattle.smithy_unambiguity.proofs.Lists.{all_placed}
 
 -- two members with one query name are one
 abbrev pub HasApartQueries : Schema → Type 0
@@ -24,6 +25,12 @@ pub members_by_position : (schema : Schema) → IsCheckedInput schema → (i : �
 members_by_position schema checked i =
     slice_get-filter_map (at_place schema.table) schema.node.members i (and_parts (list_all (λ p. is_some (at_place schema.table p)) schema.node.members) _ checked.cited).0
 
+-- each member stands at its place
+pub members_placed : (schema : Schema) → IsCheckedInput schema → AllByRecursion (λ p. member_at schema p.0 ≡ Some p.1) (enumerate_from 0 (members_of schema))
+members_placed schema checked =
+    all_placed (λ p. member_at schema p.0 ≡ Some p.1) 0 (members_of schema)
+    (λ j m at. let none_more : 0 + j ≡ j = omega arith in ap (member_at schema) none_more ∙ sym (members_by_position schema checked j) ∙ at)
+
 -- what holds of each name holds of a member's
 pub at_name : (P : List ℕ → Type 0) (h : Schema → Option (List ℕ)) (ms : List Schema) (j : ℕ) (n : Schema) (name : List ℕ) → AllByRecursion P (filter_map h ms) → slice_get ms j ≡ Some n → h n ≡ Some name → P name
 at_name P h [] j n name all e is = absurd (cc e)
@@ -38,21 +45,19 @@ at_name P h (x ∷ ms) (suc j) n name all e is = at_name P h ms j n name (go (h 
     go None rest = rest
     go (Some y) rest = rest.1
 
+-- a later member has another name
+unlike_later : (h : Schema → Option (List ℕ)) (ms : List Schema) (x : Schema) (j : ℕ) (n : Schema) (name : List ℕ) → AreDistinct (cons_option (h x) (filter_map h ms))
+    → h x ≡ Some name → slice_get ms j ≡ Some n → h n ≡ Some name → ⊥
+unlike_later h ms x j n name distinct is at is_n =
+    let apart : AreDistinct (name ∷ filter_map h ms) = subst (λ o. AreDistinct (cons_option o (filter_map h ms))) is distinct in at_name (λ other. name ≢ other) h ms j n name apart.0 at is_n refl
+
 -- names that are distinct tell positions apart: of members, headers and queries alike
 pub apart_at : (h : Schema → Option (List ℕ)) (ms : List Schema) → AreDistinct (filter_map h ms) → (i j : ℕ) (m n : Schema) (name : List ℕ)
     → slice_get ms i ≡ Some m → slice_get ms j ≡ Some n → h m ≡ Some name → h n ≡ Some name → i ≡ j
 apart_at h [] distinct i j m n name at_i at_j is_m is_n = absurd (cc at_i)
 apart_at h (x ∷ ms) distinct zero zero m n name at_i at_j is_m is_n = refl
-apart_at h (x ∷ ms) distinct zero (suc j) m n name at_i at_j is_m is_n = let same : x ≡ m = cc at_i in absurd (go (h x) (ap h same ∙ is_m) distinct)
-  where
-    go : (o : Option (List ℕ)) → o ≡ Some name → AreDistinct (cons_option o (filter_map h ms)) → ⊥
-    go None q rest = cc q
-    go (Some y) q rest = let names : y ≡ name = cc q in at_name (λ other. y ≢ other) h ms j n name rest.0 at_j is_n names
-apart_at h (x ∷ ms) distinct (suc i) zero m n name at_i at_j is_m is_n = let same : x ≡ n = cc at_j in absurd (go (h x) (ap h same ∙ is_n) distinct)
-  where
-    go : (o : Option (List ℕ)) → o ≡ Some name → AreDistinct (cons_option o (filter_map h ms)) → ⊥
-    go None q rest = cc q
-    go (Some y) q rest = let names : y ≡ name = cc q in at_name (λ other. y ≢ other) h ms i m name rest.0 at_i is_m names
+apart_at h (x ∷ ms) distinct zero (suc j) m n name at_i at_j is_m is_n = let same : x ≡ m = cc at_i in absurd (unlike_later h ms x j n name distinct (ap h same ∙ is_m) at_j is_n)
+apart_at h (x ∷ ms) distinct (suc i) zero m n name at_i at_j is_m is_n = let same : x ≡ n = cc at_j in absurd (unlike_later h ms x i m name distinct (ap h same ∙ is_n) at_i is_m)
 apart_at h (x ∷ ms) distinct (suc i) (suc j) m n name at_i at_j is_m is_n = ap suc (apart_at h ms (go (h x) distinct) i j m n name at_i at_j is_m is_n)
   where
     go : (o : Option (List ℕ)) → AreDistinct (cons_option o (filter_map h ms)) → AreDistinct (filter_map h ms)
@@ -65,23 +70,17 @@ queries_apart schema checked i j m n name at_i at_j is_m is_n =
     apart_at (λ k. k.node.traits.http_query) (members_of schema) distinct i j m n name
     (members_by_position schema checked i ∙ at_i) (members_by_position schema checked j ∙ at_j) is_m is_n
 
-one_of_at : (h : Schema → Option (List ℕ)) (ms : List Schema) (j : ℕ) (n : Schema) (name : List ℕ) → slice_get ms j ≡ Some n → h n ≡ Some name → is_one_of name (filter_map h ms) ≡ true
-one_of_at h [] j n name e is = absurd (cc e)
-one_of_at h (x ∷ ms) zero n name e is = let same : x ≡ n = cc e in go (h x) (ap h same ∙ is)
+-- a test that a member's name passes
+pub any_at : (p : List ℕ → Bool) (h : Schema → Option (List ℕ)) (ms : List Schema) (j : ℕ) (n : Schema) (name : List ℕ) → slice_get ms j ≡ Some n → h n ≡ Some name → p name ≡ true → list_any p (filter_map h ms) ≡ true
+any_at p h [] j n name e is pass = absurd (cc e)
+any_at p h (x ∷ ms) zero n name e is pass =
+    let same : x ≡ n = cc e in ap (λ o. list_any p (cons_option o (filter_map h ms))) (ap h same ∙ is) ∙ ap (λ t. t || list_any p (filter_map h ms)) pass
+any_at p h (x ∷ ms) (suc j) n name e is pass = go (h x) (any_at p h ms j n name e is pass)
   where
-    go : (o : Option (List ℕ)) → o ≡ Some name → is_one_of name (cons_option o (filter_map h ms)) ≡ true
-    go None q = absurd (cc q)
-    go (Some y) q = let names : y ≡ name = cc q in ap (λ t. t || is_one_of name (filter_map h ms)) (ap (same_text name) names ∙ same_text_self name)
-one_of_at h (x ∷ ms) (suc j) n name e is = go (h x) (one_of_at h ms j n name e is)
-  where
-    go : (o : Option (List ℕ)) → is_one_of name (filter_map h ms) ≡ true → is_one_of name (cons_option o (filter_map h ms)) ≡ true
+    go : (o : Option (List ℕ)) → list_any p (filter_map h ms) ≡ true → list_any p (cons_option o (filter_map h ms)) ≡ true
     go None rest = rest
-    go (Some y) rest = ap (λ t. same_text name y || t) rest ∙ by (same_text name y)
-      where
-        by : (t : Bool) → (t || true) ≡ true
-        by true = refl
-        by false = refl
+    go (Some y) rest = or_right (p y) (list_any p (filter_map h ms)) rest
 
 pub query_name_found : (schema : Schema) → IsCheckedInput schema → (i : ℕ) (m : Schema) (name : List ℕ) → member_at schema i ≡ Some m → m.node.traits.http_query ≡ Some name → is_one_of name (query_names schema) ≡ true
 query_name_found schema checked i m name at is =
-    one_of_at (λ k. k.node.traits.http_query) (members_of schema) i m name (members_by_position schema checked i ∙ at) is
+    any_at (same_text name) (λ k. k.node.traits.http_query) (members_of schema) i m name (members_by_position schema checked i ∙ at) is (same_text_self name)

@@ -1,25 +1,21 @@
 -- The pieces of the query give the texts at each name.
-use Rattle.smithy_unambiguity.proofs.Common.{◌≡◌, ◌≢◌, refl, sym, ◌∙◌, ap, ℕ, suc, ◌+◌, arith, Bool, true, false, not, cond, ◌==◌, ◌||◌, List, [], ◌∷◌, ◌++◌, map, filter, eq-eqb, ne_eqb, codes, drop, AllByRecursion, slice_split, onto_first, join_with_byte, after_first, position_or_len, append_assoc, append-nil, append_cancel_left, map-append, same_text, has_byte, query_pieces, values_at, named_piece, escape, AreBytes, escape-injective, pair_text, with_query, same_text_self}
+use Rattle.smithy_unambiguity.proofs.Common.{◌≡◌, ◌≢◌, refl, sym, ◌∙◌, ap, ℕ, suc, ◌+◌, arith, Bool, true, false, not, cond, ◌==◌, ◌||◌, List, [], ◌∷◌, ◌++◌, map, filter, eq-eqb, ne_eqb, codes, drop, AllByRecursion, slice_split, onto_first, join_with_byte, after_first, position_or_len, append_assoc, append-nil, append_cancel_left, map-append, same_text, has_byte, query_pieces, values_at, named_piece, escape, AreBytes, escape-injective, pair_text, with_query, same_text_self, both_ways, list_any-append, or_right, after_first-joined, cond_both, subst, length}
 use Rattle.std.specs.Cmp.Lexicographic.{same_text as same_from_test}
 use Rattle.std.proofs.lemmas.List.Elements.{filter-append}
+use Rattle.std.proofs.lemmas.List.Splits.{length-slice_split}
 use Rattle.smithy_unambiguity.proofs.Cuts.{HasNo, HasNo-append, before, before-cut, before_first-before}
+use Rattle.smithy_unambiguity.proofs.Lists.{all_apply}
 use Rattle.smithy_unambiguity.proofs.Reserved.{ampersand, equals, HasNo-escape}
 
 onto-append : (x : ℕ) (parts tail : List (List ℕ)) → parts ≢ [] → onto_first x (parts ++ tail) ≡ onto_first x parts ++ tail
 onto-append x [] tail some = absurd (some refl)
 onto-append x (part ∷ parts) tail some = refl
 
-onto_some : (x : ℕ) (parts : List (List ℕ)) → onto_first x parts ≢ []
-onto_some x [] e = cc e
-onto_some x (part ∷ parts) e = cc e
-
 split_some : (c : ℕ) (text : List ℕ) → slice_split (λ b. b == c) text ≢ []
-split_some c [] e = cc e
-split_some c (b ∷ text) e = go (b == c) e
-  where
-    go : (t : Bool) → cond t ([] ∷ slice_split (λ x. x == c) text) (onto_first b (slice_split (λ x. x == c) text)) ≢ []
-    go true e = cc e
-    go false e = onto_some b _ e
+split_some c text e =
+    let count = length-slice_split (λ b. b == c) text in
+    let none : length (slice_split (λ b. b == c) text) ≡ 0 = ap length e in
+    omega (arith, count, none)
 
 -- the parts of two texts with the byte between them
 split-append : (c : ℕ) (xs ys : List ℕ) → slice_split (λ b. b == c) (xs ++ c ∷ ys) ≡ slice_split (λ b. b == c) xs ++ slice_split (λ b. b == c) ys
@@ -68,12 +64,7 @@ after_first-after (b ∷ xs) = go (b == 63) (after_first-after xs)
     go false rest = let same : 1 + position_or_len (λ x. x == 63) xs + 1 ≡ suc (position_or_len (λ x. x == 63) xs + 1) = omega arith in ap (λ n. drop n (b ∷ xs)) same ∙ rest
 
 has-append : (xs ys : List ℕ) → has_byte 63 (xs ++ 63 ∷ ys) ≡ true
-has-append [] ys = refl
-has-append (x ∷ xs) ys = ap (λ t. (x == 63) || t) (has-append xs ys) ∙ go (x == 63)
-  where
-    go : (t : Bool) → (t || true) ≡ true
-    go true = refl
-    go false = refl
+has-append xs ys = list_any-append (λ b. b == 63) xs (63 ∷ ys) ∙ or_right (has_byte 63 xs) (has_byte 63 (63 ∷ ys)) refl
 
 pub after-append : (xs ys : List ℕ) → has_byte 63 xs ≡ true → after (xs ++ ys) ≡ after xs ++ ys
 after-append [] ys has = absurd (cc has)
@@ -84,20 +75,10 @@ after-append (x ∷ xs) ys has = go (x == 63) (after-append xs ys) has
     go false rest h = rest h
 
 pub after-cut : (xs ys : List ℕ) → has_byte 63 xs ≡ false → after (xs ++ 63 ∷ ys) ≡ ys
-after-cut [] ys none = refl
-after-cut (x ∷ xs) ys none = go (x == 63) (after-cut xs ys) none
-  where
-    go : (t : Bool) → (has_byte 63 xs ≡ false → after (xs ++ 63 ∷ ys) ≡ ys) → (t || has_byte 63 xs) ≡ false → cond t (xs ++ 63 ∷ ys) (after (xs ++ 63 ∷ ys)) ≡ ys
-    go true rest h = absurd (cc h)
-    go false rest h = rest h
+after-cut xs ys none = sym (after_first-after (xs ++ 63 ∷ ys)) ∙ after_first-joined 63 xs ys none
 
 has-more : (xs ys : List ℕ) → has_byte 63 xs ≡ true → has_byte 63 (xs ++ ys) ≡ true
-has-more [] ys has = absurd (cc has)
-has-more (x ∷ xs) ys has = go (x == 63) (has-more xs ys) has
-  where
-    go : (t : Bool) → (has_byte 63 xs ≡ true → has_byte 63 (xs ++ ys) ≡ true) → (t || has_byte 63 xs) ≡ true → (t || has_byte 63 (xs ++ ys)) ≡ true
-    go true rest h = refl
-    go false rest h = rest h
+has-more xs ys has = list_any-append (λ b. b == 63) xs ys ∙ ap (λ t. t || has_byte 63 ys) has
 
 -- the pieces of a target with and without a `?`
 pieces_with : (target rest : List ℕ) → has_byte 63 target ≡ true → after target ≡ rest → query_pieces target ≡ slice_split (λ b. b == 38) rest
@@ -129,21 +110,33 @@ pieces_of_query path (p ∷ ps) = go (has_byte 63 path) refl
         ∙ split-join 38 (pair_text p) (map pair_text ps) (HasNo-pairs (p ∷ ps))
         ∙ ap (λ xs. xs ++ map pair_text (p ∷ ps)) (sym (pieces_without path e))
 
+-- the values at a name behind a pair that has it or not
+abbrev pub onto : Bool → List ℕ × List ℕ → List (List ℕ) → List (List ℕ)
+onto t p xs = cond t (p.1 ∷ xs) xs
+
+pub values_at-cons : (name : List ℕ) (p : List ℕ × List ℕ) (ps : List (List ℕ × List ℕ)) → values_at name (p ∷ ps) ≡ onto (same_text p.0 name) p (values_at name ps)
+values_at-cons name p ps = go (same_text p.0 name)
+  where
+    go : (t : Bool) → map (λ (q : List ℕ × List ℕ). q.1) (cond t (p ∷ filter (λ (q : List ℕ × List ℕ). same_text q.0 name) ps) (filter (λ (q : List ℕ × List ℕ). same_text q.0 name) ps)) ≡ onto t p (values_at name ps)
+    go true = refl
+    go false = refl
+
 -- a pair's piece has the escaped name
 pub name_of_pair : (p : List ℕ × List ℕ) → named_piece (pair_text p) ≡ (escape p.0, pair_text p)
 name_of_pair p =
     let name = before_first-before 61 (pair_text p) ∙ ap (before 61) (append_assoc (escape p.0) (61 ∷ []) (escape p.1)) ∙ before-cut 61 (escape p.0) (escape p.1) (HasNo-escape 61 equals p.0) in
     λ i. (name i, pair_text p)
 
+-- texts that are one together are tested alike
+pub same_tests : (a b c d : List ℕ) → (a ≡ b → c ≡ d) → (c ≡ d → a ≡ b) → same_text a b ≡ same_text c d
+same_tests a b c d f g = both_ways (same_text a b) (same_text c d) (λ e. told c d (f (same_from_test a b (sym e)))) (λ e. told a b (g (same_from_test c d (sym e))))
+  where
+    told : (x y : List ℕ) → x ≡ y → same_text x y ≡ true
+    told x y e = ap (same_text x) (sym e) ∙ same_text_self x
+
 -- names are the same where their escapes are
 same_escape : (a b : List ℕ) → AreBytes a → AreBytes b → same_text (escape a) (escape b) ≡ same_text a b
-same_escape a b bytes_a bytes_b = go (same_text (escape a) (escape b)) (same_text a b) refl refl
-  where
-    go : (s t : Bool) → same_text (escape a) (escape b) ≡ s → same_text a b ≡ t → s ≡ t
-    go true true es et = refl
-    go false false es et = refl
-    go true false es et = let same = escape-injective a b bytes_a bytes_b (same_from_test (escape a) (escape b) (sym es)) in sym (same_text_self a) ∙ ap (same_text a) same ∙ et
-    go false true es et = sym es ∙ ap (same_text (escape a)) (ap escape (sym (same_from_test a b (sym et)))) ∙ same_text_self (escape a)
+same_escape a b bytes_a bytes_b = same_tests (escape a) (escape b) a b (escape-injective a b bytes_a bytes_b) (ap escape)
 
 -- of the pairs' pieces those with a name are those of the pairs with that name
 pub pieces_of_pairs : (name : List ℕ) (ps : List (List ℕ × List ℕ)) → AreBytes name → AllByRecursion (λ p. AreBytes p.0) ps
@@ -185,16 +178,13 @@ texts_told name (t ∷ ts) (u ∷ us) bytes_t bytes_u e =
     λ i. text i ∷ texts_told name ts us bytes_t.1 bytes_u.1 tails i
 
 names_of : (ps : List (List ℕ × List ℕ)) → AllByRecursion (λ p. AreBytes p.0 × AreBytes p.1) ps → AllByRecursion (λ p. AreBytes p.0) ps
-names_of [] all = tt
-names_of (p ∷ ps) all = (all.0.0, names_of ps all.1)
+names_of ps all = all_apply (λ p. AreBytes p.0 × AreBytes p.1) (λ p. AreBytes p.0) ps (λ p bytes. bytes.0) all
 
 bytes_at : (name : List ℕ) (ps : List (List ℕ × List ℕ)) → AllByRecursion (λ p. AreBytes p.0 × AreBytes p.1) ps → AllByRecursion AreBytes (values_at name ps)
 bytes_at name [] all = tt
-bytes_at name (p ∷ ps) all = go (same_text p.0 name) (bytes_at name ps all.1)
-  where
-    go : (t : Bool) → AllByRecursion AreBytes (values_at name ps) → AllByRecursion AreBytes (map (λ q. q.1) (cond t (p ∷ filter (λ q. same_text q.0 name) ps) (filter (λ q. same_text q.0 name) ps)))
-    go true rest = (all.0.1, rest)
-    go false rest = rest
+bytes_at name (p ∷ ps) all =
+    let rest = bytes_at name ps all.1 in
+    subst (AllByRecursion AreBytes) (sym (values_at-cons name p ps)) (cond_both (same_text p.0 name) (p.1 ∷ values_at name ps) (values_at name ps) (AllByRecursion AreBytes) (λ e. (all.0.1, rest)) (λ e. rest))
 
 -- so equal queries over one path have the same texts at each name
 pub query_tells_texts : (path other name : List ℕ) (ps qs : List (List ℕ × List ℕ)) → AreBytes name

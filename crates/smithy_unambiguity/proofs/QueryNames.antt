@@ -1,5 +1,5 @@
 -- What stands in the query at a name: the texts of the member with that name, or those of the query map.
-use Rattle.smithy_unambiguity.proofs.Common.{◌≡◌, ◌≢◌, refl, sym, ◌∙◌, ap, ℕ, ◌≤◌, Bool, true, false, cond, List, [], length, filter, flat_map, Option, Some, None, unwrap_or, option_map_or, leb-true, same_text, is_one_of, Schema, member_at, members_of, Binding, to_query, to_query_map, binding_of, Value, Write, Resolved, firsts, values_at, pairs, pairs_at, query_names, texts, pairs_of, IsCheckedInput, same_text_self}
+use Rattle.smithy_unambiguity.proofs.Common.{◌≡◌, ◌≢◌, refl, sym, ◌∙◌, ap, ℕ, ◌≤◌, Bool, true, false, cond, List, [], length, filter, flat_map, Option, Some, None, unwrap_or, option_map_or, leb-true, same_text, is_one_of, Schema, member_at, members_of, Binding, to_query, to_query_map, binding_of, Value, Write, Resolved, firsts, values_at, pairs, pairs_at, query_names, texts, pairs_of, IsCheckedInput, same_text_self, cond_both, false_from_ne_true}
 use Rattle.std.specs.Cmp.Lexicographic.{same_text as same_from_test}
 use Rattle.smithy_unambiguity.proofs.ByName.{values_at-flat_map, under_name, no_values}
 use Rattle.smithy_unambiguity.proofs.ByMember.{at_member, first_value, first_texts, only_member, none_given}
@@ -41,11 +41,9 @@ pairs_of_member schema checked ws i m name at query = pairs_at_name schema ws na
     others r at_r other = asked_is (query_names schema) name (binding_of r.member) r.member r.value ∙ nothing (binding_of r.member) refl
       where
         nothing : (b : Binding) → binding_of r.member ≡ b → asked_at (query_names schema) name b r.member r.value ≡ []
-        nothing (to_query n) e = by (same_text n name) refl
-          where
-            by : (t : Bool) → same_text n name ≡ t → cond t (unwrap_or (texts r.member r.value) []) [] ≡ []
-            by true h = absurd (other (queries_apart schema checked r.position i r.member m name at_r at (trait_of r.member (to_query n) e ∙ ap Some (same_from_test n name (sym h))) (trait_of m (to_query name) query)))
-            by false h = refl
+        nothing (to_query n) e =
+            cond_both (same_text n name) (unwrap_or (texts r.member r.value) []) [] (λ ts. ts ≡ [])
+            (λ h. absurd (other (queries_apart schema checked r.position i r.member m name at_r at (trait_of r.member (to_query n) e ∙ ap Some (same_from_test n name (sym h))) (trait_of m (to_query name) query)))) (λ h. refl)
         nothing to_query_map e = ap (λ t. cond t [] (values_at name (flat_map text_pairs (key_texts r.value)))) (query_name_found schema checked i m name at (trait_of m (to_query name) query))
         nothing _ e = refl
 
@@ -72,13 +70,9 @@ pub unnamed_outside : (schema : Schema) → IsCheckedInput schema → (name : Li
 unnamed_outside schema checked name outside i m at = go (binding_of m) refl
   where
     go : (b : Binding) → binding_of m ≡ b → named_query name b ≡ false
-    go (to_query n) e = by (same_text n name) refl
-      where
-        by : (t : Bool) → same_text n name ≡ t → t ≡ false
-        by false h = refl
-        by true h =
-            let q : true ≡ false = sym (query_name_found schema checked i m n at (trait_of m (to_query n) e)) ∙ ap (λ k. is_one_of k (query_names schema)) (same_from_test n name (sym h)) ∙ outside in
-            absurd (cc q)
+    go (to_query n) e =
+        false_from_ne_true (same_text n name)
+        (λ h. let q : true ≡ false = sym (query_name_found schema checked i m n at (trait_of m (to_query n) e)) ∙ ap (λ k. is_one_of k (query_names schema)) (same_from_test n name (sym h)) ∙ outside in cc q)
     go _ e = refl
 
 pub no_pairs : (schema : Schema) (ws : List Write) (name : List ℕ) → IsUnnamed schema name → ((i : ℕ) (m : Schema) → member_at schema i ≡ Some m → stands_at to_query_map (binding_of m) ≡ false) → values_at name (pairs schema ws) ≡ []
@@ -94,18 +88,12 @@ pairs_of_map schema checked ws i m name at query_map unnamed = pairs_at_name sch
     one = leb-true (length (filter (λ m. m.node.traits.http_query_params) (members_of schema))) 1 (sound_maps schema checked).one_query_map
 
     others : (r : Resolved) → member_at schema r.position ≡ Some r.member → r.position ≢ i → asked schema name r ≡ []
-    others r at_r other = nothing_asked schema name r (unnamed r.position r.member at_r) (no_map (stands_at to_query_map (binding_of r.member)) refl)
-      where
-        no_map : (t : Bool) → stands_at to_query_map (binding_of r.member) ≡ t → t ≡ false
-        no_map false e = refl
-        no_map true e =
-            absurd (other (single (λ m. m.node.traits.http_query_params) (members_of schema) one r.position i r.member m (members_by_position schema checked r.position ∙ at_r) (members_by_position schema checked i ∙ at)
-            (trait_of r.member to_query_map (stands_there to_query_map (binding_of r.member) e)) (trait_of m to_query_map query_map)))
+    others r at_r other =
+        nothing_asked schema name r (unnamed r.position r.member at_r)
+        (false_from_ne_true (stands_at to_query_map (binding_of r.member)) (λ e.
+        other (single (λ m. m.node.traits.http_query_params) (members_of schema) one r.position i r.member m (members_by_position schema checked r.position ∙ at_r) (members_by_position schema checked i ∙ at)
+        (trait_of r.member to_query_map (stands_there to_query_map (binding_of r.member) e)) (trait_of m to_query_map query_map))))
 
     go : (o : Option Value) → option_map_or (λ v. asked schema name (at_member i m v)) o [] ≡ cond (is_one_of name (query_names schema)) [] (values_at name (flat_map text_pairs (written_texts o)))
-    go None = none (is_one_of name (query_names schema))
-      where
-        none : (t : Bool) → no_values ≡ cond t no_values no_values
-        none true = refl
-        none false = refl
+    go None = cond_both (is_one_of name (query_names schema)) no_values no_values (λ vs. no_values ≡ vs) (λ e. refl) (λ e. refl)
     go (Some v) = ap (λ b. values_at name (pairs_at b (query_names schema) m v)) query_map ∙ asked_is (query_names schema) name to_query_map m v

@@ -1,5 +1,5 @@
 -- What is seen of a request tells the normal form's part of each label and query member.
-use Rattle.smithy_unambiguity.proofs.Common.{◌≡◌, refl, sym, ◌∙◌, ap, ℕ, Bool, true, false, not, ◌&&◌, ◌||◌, List, [], ◌∷◌, Option, Some, None, option_map, option_and_then, unwrap_or, is_none, if◌then◌else◌, and_parts, found, same_kind, is_scalar, one_kind, Schema, member_at, members_of, name_of, to_query, to_label, binding_of, Value, Write, no_writes, escape, AreBytes, values_at, pairs, labels, texts, query_names, place_at, member_text, has_element, has_bound_kind, has_header_kind, has_query_kind, has_label_kind, is_placed_at, has_utf8, Protocol, OmitFlags, template_of, member_view, bound_view_at, with_own_elements, unless_empty}
+use Rattle.smithy_unambiguity.proofs.Common.{◌≡◌, refl, sym, ◌∙◌, ap, ℕ, Bool, true, false, not, ◌&&◌, ◌||◌, List, [], ◌∷◌, Option, Some, None, option_and_then, unwrap_or, is_none, if◌then◌else◌, and_parts, found, same_kind, is_scalar, one_kind, Schema, member_at, members_of, name_of, to_query, to_label, binding_of, Value, Write, escape, AreBytes, values_at, pairs, labels, texts, query_names, place_at, has_element, has_bound_kind, has_header_kind, has_query_kind, has_label_kind, is_placed_at, has_utf8, Protocol, OmitFlags, template_of, member_view, bound_view_at, with_own_elements, unless_empty}
 use Rattle.smithy_ids.specs.declared.shape_type.ShapeType.TheVariants as kind
 use Rattle.smithy_serde.specs.Values as value
 use Rattle.smithy_strings.proofs.Bytes.{AreBytes-from_utf8}
@@ -7,7 +7,7 @@ use Rattle.smithy_unambiguity.proofs.ByMember.{first_value, first_texts}
 use Rattle.smithy_unambiguity.proofs.ByName.{found-front, front}
 use Rattle.smithy_unambiguity.proofs.Fits.{is_flat}
 use Rattle.smithy_unambiguity.proofs.HeaderTexts.{none_written}
-use Rattle.smithy_unambiguity.proofs.HeadersTold.{AreSeenSame, bound_told, clear_template}
+use Rattle.smithy_unambiguity.proofs.HeadersTold.{AreSeenSame, bound_told, clear_template, one_text}
 use Rattle.smithy_unambiguity.proofs.LabelFirst.{label_of_first}
 use Rattle.smithy_unambiguity.proofs.Labels.{path_tells_labels}
 use Rattle.smithy_unambiguity.proofs.MemberTexts.{query_told, query_list_told, bound_list, list_of_element}
@@ -19,20 +19,11 @@ use Rattle.smithy_unambiguity.proofs.QueryNames.{pairs_of_member}
 use Rattle.smithy_unambiguity.proofs.TemplateQuery.{pieces_of_template, query_leaves_path}
 use Rattle.smithy_unambiguity.proofs.Traits.{trait_of}
 use Rattle.smithy_unambiguity.proofs.TextsBytes.{labels_are_bytes, pairs_are_bytes}
-use Rattle.smithy_unambiguity.proofs.Values.{flat_value, flat_texts}
 
 there : (m : Schema) (v : Value) (is : IsPlacedValue m v) → unwrap_or (texts m v) [] ≡ is.ts
 there m v is = ap (λ (o : Option (List (List ℕ))). unwrap_or o []) is.texts
 
 -- Labels.
-
--- the one text of a flat value
-one_text : (m : Schema) (v : Value) → is_flat m.node.kind ≡ true → (is : IsPlacedValue m v) → (t : List ℕ) × (is.ts ≡ t ∷ [])
-one_text m v flat is = by (member_text (place_at (binding_of m)) m v) (sym (flat_texts m v (flat_value m.node.kind v flat is.value.fits)) ∙ is.texts)
-  where
-    by : (o : Option (List ℕ)) → option_map (λ (t : List ℕ). t ∷ []) o ≡ Some is.ts → (t : List ℕ) × (is.ts ≡ t ∷ [])
-    by None e = absurd (cc e)
-    by (Some t) e = let same : t ∷ [] ≡ is.ts = cc e in (t, sym same)
 
 -- values of a flat kind are told by the first of their texts
 flat_part : (m : Schema) (o p : Option Value) → is_flat m.node.kind ≡ true → ((v : Value) → o ≡ Some v → IsPlacedValue m v) → ((v : Value) → p ≡ Some v → IsPlacedValue m v)
@@ -121,9 +112,6 @@ query_part : (m : Schema) (names : List (List ℕ)) (name : List ℕ) (o p : Opt
     → first_texts m o ≡ first_texts m p → option_and_then (bound_view_at (to_query name) names m) o ≡ option_and_then (bound_view_at (to_query name) names m) p
 query_part m names name o p kinds is_o is_p e = go (same_kind m.node.kind kind.List) (is_scalar m.node.kind) refl refl kinds
   where
-    cases : Bool → Value → Option Value
-    cases t v = if t then unless_empty (with_own_elements m v) else Some v
-
     go : (t s : Bool) → same_kind m.node.kind kind.List ≡ t → is_scalar m.node.kind ≡ s → (s || has_element is_scalar m) ≡ true
         → option_and_then (λ v. if same_kind m.node.kind kind.List then unless_empty (with_own_elements m v) else Some v) o ≡ option_and_then (λ v. if same_kind m.node.kind kind.List then unless_empty (with_own_elements m v) else Some v) p
     go true true is_list scalar h =

@@ -1,5 +1,5 @@
 -- Values of flat kinds: each is a scalar or bytes, and its texts are bytes.
-use Rattle.smithy_unambiguity.proofs.Common.{◌≡◌, refl, sym, ◌∙◌, ap, ℕ, Bool, true, false, List, [], ◌∷◌, Option, Some, None, option_map, option_and_then, list_all, option_or, and_parts, and_from, each, unless, ShapeType, TimestampFormat, one_format, Schema, binding_of, Value, Label, Writes, no_writes, write, Write, list_of, label_of, is_in_range, are_writes_in_range, fits, fits_in_range, scalar_kind, settled, settled_elements, Place, wire, texts, header_texts, place_at, member_text, element_text, element_fault, wrong_item_kind, same_format, with_own_elements}
+use Rattle.smithy_unambiguity.proofs.Common.{◌≡◌, refl, sym, ◌∙◌, ap, ℕ, Bool, true, false, List, [], ◌∷◌, Option, Some, None, option_map, option_and_then, list_all, option_or, and_parts, and_from, each, unless, ShapeType, TimestampFormat, one_format, Schema, binding_of, Value, Writes, no_writes, write, Write, list_of, label_of, is_in_range, are_writes_in_range, fits, fits_in_range, scalar_kind, settled, settled_elements, Place, wire, texts, header_texts, place_at, member_text, element_text, element_fault, wrong_item_kind, same_format, with_own_elements}
 use Rattle.smithy_ids.specs.declared.shape_type.ShapeType.TheVariants as kind
 use Rattle.smithy_serde.specs.Values as value
 use Rattle.smithy_strings.specs.Unwired.{unwired}

@@ -1,5 +1,5 @@
 -- The normal form has the same body.
-use Rattle.smithy_unambiguity.proofs.Common.{◌≡◌, refl, sym, ◌∙◌, ap, subst, ℕ, suc, ◌+◌, arith, ◌⊎◌, inl, inr, Bool, true, false, not, cond, List, [], ◌∷◌, map, filter, find, filter_map, slice_get, Option, Some, None, option_map, option_and_then, unwrap_or, if◌then◌else◌, AllByRecursion, enumerate_from, cons_option, result_ok, Document, Schema, member_at, members_of as nodes_of, to_payload, binding_of, is_bound, is_well_made, Value, Write, no_writes, writes_of, label_of, document_of, doc_of, is_kind, settled, last_named, field_of, Resolved, all_resolved, firsts, is_payload, is_codec_kind, form_in, body_parts, body, document_value, document_by, raw_bytes, text_of_document, bytes_by, IsCheckedInput, view, member_view, unless_empty, Protocol, OmitFlags, IsTyped}
+use Rattle.smithy_unambiguity.proofs.Common.{◌≡◌, refl, sym, ◌∙◌, ap, subst, ℕ, ◌+◌, ◌⊎◌, inl, inr, Bool, true, false, not, cond, List, [], ◌∷◌, map, filter, find, filter_map, Option, Some, None, option_map, option_and_then, unwrap_or, if◌then◌else◌, AllByRecursion, enumerate_from, cons_option, result_ok, Document, Schema, member_at, members_of as nodes_of, to_payload, binding_of, is_bound, is_well_made, Value, Write, no_writes, writes_of, label_of, document_of, doc_of, is_kind, settled, last_named, field_of, Resolved, all_resolved, firsts, is_payload, is_codec_kind, form_in, body_parts, body, document_value, document_by, raw_bytes, text_of_document, bytes_by, IsCheckedInput, view, member_view, unless_empty, Protocol, OmitFlags, IsTyped, cond_both}
 use Rattle.smithy_types.specs.Documents as doc
 use Rattle.smithy_ids.specs.declared.shape_type.ShapeType.TheVariants as kind
 use Rattle.smithy_serde.specs.Values as value
@@ -10,40 +10,24 @@ use Rattle.smithy_unambiguity.proofs.BodyObject.{IsBodied, typed_bodied, body_no
 use Rattle.smithy_unambiguity.proofs.ByMember.{at_member, first_value}
 use Rattle.smithy_unambiguity.proofs.Conforming.{resolved_at}
 use Rattle.smithy_unambiguity.proofs.Firsts.{all_firsts}
-use Rattle.smithy_unambiguity.proofs.Lists.{all_apply}
+use Rattle.smithy_unambiguity.proofs.Lists.{all_apply, all_made}
 use Rattle.smithy_unambiguity.proofs.Members.{member_in_place}
 use Rattle.smithy_unambiguity.proofs.PayloadTold.{body_bytes, document_value_is, payload_is, payload_value, payload_own_text, payload_view, codec_view, codec_payload, HasOwnText}
 use Rattle.smithy_unambiguity.proofs.Placed.{bound_view_of}
-use Rattle.smithy_unambiguity.proofs.Positions.{members_by_position}
+use Rattle.smithy_unambiguity.proofs.Positions.{members_placed}
 use Rattle.smithy_unambiguity.proofs.UnboundTold.{body_value, unbound_own_text}
-use Rattle.smithy_unambiguity.proofs.ViewParts.{member_or}
+use Rattle.smithy_unambiguity.proofs.ViewParts.{member_or, SomeOrNone}
 use Rattle.smithy_unambiguity.proofs.ViewWrites.{own_resolved, resolved_view, first_value_of_view}
 
 -- What holds of each member's part holds of each write of the normal form.
-
-own_behind : (P : Resolved → Type 0) (schema : Schema) (ws : List Write) (k : ℕ) (ms : List Schema)
-    → ((j : ℕ) (m : Schema) (u : Value) → slice_get ms j ≡ Some m → member_view schema ws (k + j) m ≡ Some u → P (at_member (k + j) m u)) → AllByRecursion P (filter_map (own_resolved schema ws) (enumerate_from k ms))
-own_behind P schema ws k [] has = tt
-own_behind P schema ws k (m ∷ ms) has =
-    go (member_view schema ws k m) refl
-    (own_behind P schema ws (k + 1) ms (λ j n u at e.
-    let one_more : k + 1 + j ≡ k + suc j = omega arith in
-    subst (λ i. P (at_member i n u)) (sym one_more) (has (suc j) n u at (ap (λ i. member_view schema ws i n) (sym one_more) ∙ e))))
-  where
-    go : (o : Option Value) → member_view schema ws k m ≡ o → AllByRecursion P (filter_map (own_resolved schema ws) (enumerate_from (k + 1) ms))
-        → AllByRecursion P (cons_option (option_map (at_member k m) o) (filter_map (own_resolved schema ws) (enumerate_from (k + 1) ms)))
-    go None e rest = rest
-    go (Some u) e rest =
-        let none_more : k + 0 ≡ k = omega arith in
-        (subst (λ i. P (at_member i m u)) none_more (has 0 m u refl (ap (λ i. member_view schema ws i m) none_more ∙ e)), rest)
 
 pub all_of_view : (P : Resolved → Type 0) (schema : Schema) (ws : List Write) → IsCheckedInput schema → is_well_made schema ≡ true
     → ((i : ℕ) (m : Schema) (u : Value) → member_at schema i ≡ Some m → member_view schema ws i m ≡ Some u → P (at_member i m u)) → AllByRecursion P (all_resolved schema (view schema ws))
 all_of_view P schema ws checked well_made has =
     subst (AllByRecursion P) (sym (resolved_view schema ws checked well_made))
-    (own_behind P schema ws 0 (nodes_of schema) (λ j m u at e.
-    let none_more : j ≡ 0 + j = omega arith in
-    subst (λ i. P (at_member i m u)) none_more (has j m u (sym (members_by_position schema checked j) ∙ at) (ap (λ i. member_view schema ws i m) none_more ∙ e))))
+    (all_made P (λ p. at_member p.0 p.1) (λ p. member_view schema ws p.0 p.1) (enumerate_from 0 (nodes_of schema))
+    (all_apply (λ p. member_at schema p.0 ≡ Some p.1) (λ p. (u : Value) → member_view schema ws p.0 p.1 ≡ Some u → P (at_member p.0 p.1 u)) (enumerate_from 0 (nodes_of schema))
+    (λ p at u e. has p.0 p.1 u at e) (members_placed schema checked)))
 
 -- Payloads.
 
@@ -63,21 +47,17 @@ raw_left _ = refl
 pub bodied_view : (schema : Schema) (ws : List Write) → IsCheckedInput schema → is_well_made schema ≡ true → AllByRecursion (IsBodied schema) (all_resolved schema ws) → AllByRecursion (IsBodied schema) (all_resolved schema (view schema ws))
 bodied_view schema ws checked well_made bodied = all_of_view (IsBodied schema) schema ws checked well_made (λ i m u at e. record { at = at; shaped = λ free. free_view_shaped schema ws i m u checked well_made bodied at free e })
 
+-- the write of an unbound member
+abbrev own_field : Schema → List Write → ℕ × Schema → Option Write
+own_field schema ws p = option_map (λ v. record { label = label_of p.1; value = v }) (if is_bound p.1 then None else member_view schema ws p.0 p.1)
+
 -- the writes of a normal form's structure are those of the normal form of the structure
-view_writes : (schema : Schema) (ws : List Write) (fields : List (List ℕ × Value)) (k : ℕ) (ms : List Schema)
-    → ((j : ℕ) (m : Schema) → slice_get ms j ≡ Some m → field_of fields m ≡ option_map (λ v. record { label = label_of m; value = v }) (if is_bound m then None else member_view schema ws (k + j) m))
+view_writes : (schema : Schema) (ws : List Write) (fields : List (List ℕ × Value)) (k : ℕ) (ms : List Schema) → AllByRecursion (λ p. field_of fields p.1 ≡ own_field schema ws p) (enumerate_from k ms)
     → map (λ (r : Resolved). record { label = label_of r.member; value = r.value }) (filter (λ (r : Resolved). not (is_bound r.member)) (filter_map (own_resolved schema ws) (enumerate_from k ms))) ≡ filter_map (field_of fields) ms
 view_writes schema ws fields k [] each = refl
 view_writes schema ws fields k (m ∷ ms) each =
-    go (is_bound m) (member_view schema ws k m) refl
-    (view_writes schema ws fields (k + 1) ms (λ j n e.
-    let one_more : k + suc j ≡ k + 1 + j = omega arith in
-    each (suc j) n e ∙ ap (λ i. option_map (λ v. record { label = label_of n; value = v }) (if is_bound n then None else member_view schema ws i n)) one_more))
-    ∙ ap (λ o. cons_option o (filter_map (field_of fields) ms)) (sym here)
+    go (is_bound m) (member_view schema ws k m) refl (view_writes schema ws fields (k + 1) ms each.1) ∙ ap (λ o. cons_option o (filter_map (field_of fields) ms)) (sym each.0)
   where
-    here : field_of fields m ≡ option_map (λ v. record { label = label_of m; value = v }) (if is_bound m then None else member_view schema ws k m)
-    here = let none_more : k + 0 ≡ k = omega arith in each 0 m refl ∙ ap (λ i. option_map (λ v. record { label = label_of m; value = v }) (if is_bound m then None else member_view schema ws i m)) none_more
-
     go : (b : Bool) (o : Option Value) → is_bound m ≡ b
         → map (λ (r : Resolved). record { label = label_of r.member; value = r.value }) (filter (λ (r : Resolved). not (is_bound r.member)) (filter_map (own_resolved schema ws) (enumerate_from (k + 1) ms))) ≡ filter_map (field_of fields) ms
         → map (λ (r : Resolved). record { label = label_of r.member; value = r.value }) (filter (λ (r : Resolved). not (is_bound r.member)) (cons_option (option_map (at_member k m) o) (filter_map (own_resolved schema ws) (enumerate_from (k + 1) ms))))
@@ -90,20 +70,18 @@ view_writes schema ws fields k (m ∷ ms) each =
 view_settles_body : (schema : Schema) (ws : List Write) → IsCheckedInput schema → is_well_made schema ≡ true → AllByRecursion (IsBodied schema) (all_resolved schema ws) → body_value schema (view schema ws) ≡ settled (Some (body_node schema)) (body_value schema ws)
 view_settles_body schema ws checked well_made bodied =
     ap (λ rs. value.structure (bodied_writes rs)) (resolved_view schema ws checked well_made)
-    ∙ ap (λ us. value.structure (writes_of us)) (view_writes schema ws (body_fields schema (all_resolved schema ws)) 0 (nodes_of schema) each)
+    ∙ ap (λ us. value.structure (writes_of us)) (view_writes schema ws (body_fields schema (all_resolved schema ws)) 0 (nodes_of schema)
+    (all_apply (λ p. member_at schema p.0 ≡ Some p.1) (λ p. field_of (body_fields schema (all_resolved schema ws)) p.1 ≡ own_field schema ws p) (enumerate_from 0 (nodes_of schema)) (λ p at. each p.0 p.1 at) (members_placed schema checked)))
   where
     left : (b : Bool) (x o : Option Value) → (if b then None else o) ≡ (if b then None else if b then x else o)
     left true x o = refl
     left false x o = refl
 
-    each : (j : ℕ) (m : Schema) → slice_get (nodes_of schema) j ≡ Some m → field_of (body_fields schema (all_resolved schema ws)) m ≡ option_map (λ v. record { label = label_of m; value = v }) (if is_bound m then None else member_view schema ws (0 + j) m)
-    each j m e =
-        let none_more : j ≡ 0 + j = omega arith in
-        let at : member_at schema j ≡ Some m = sym (members_by_position schema checked j) ∙ e in
+    each : (j : ℕ) (m : Schema) → member_at schema j ≡ Some m → field_of (body_fields schema (all_resolved schema ws)) m ≡ own_field schema ws (j, m)
+    each j m at =
         let member = member_in_place schema j m well_made at in
         ap (λ o. option_map (λ v. record { label = label_of m; value = v }) (option_and_then (λ n. last_named n (body_fields schema (all_resolved schema ws))) o)) member.name
         ∙ ap (option_map (λ v. record { label = label_of m; value = v })) (body_field schema checked well_made j m member.own_name at member.name (all_resolved schema ws) bodied ∙ left (is_bound m) _ _)
-        ∙ ap (λ i. option_map (λ v. record { label = label_of m; value = v }) (if is_bound m then None else member_view schema ws i m)) none_more
 
 -- The body, by its form.
 
@@ -128,7 +106,7 @@ payload_of_view schema ws checked well_made = go (member_or schema checked (λ m
         (none_found (firsts schema us) (all_firsts (λ r. is_payload (binding_of r.member) ≡ false) (all_resolved schema us)
         (all_apply (λ r. member_at schema r.position ≡ Some r.member) (λ r. is_payload (binding_of r.member) ≡ false) (all_resolved schema us) (λ r at. none r.position r.member at) (resolved_at schema us))))
 
-    go : ((i : ℕ) × (m : Schema) × (member_at schema i ≡ Some m) × (is_payload (binding_of m) ≡ true)) ⊎ ((i : ℕ) (m : Schema) → member_at schema i ≡ Some m → is_payload (binding_of m) ≡ false) → PayloadOf schema ws
+    go : SomeOrNone (member_at schema) (λ m. is_payload (binding_of m)) → PayloadOf schema ws
     go (inr none) = inr (no_payload none (view schema ws), no_payload none ws)
     go (inl x) =
         let payload = payload_is (binding_of x.1) x.3 in
@@ -147,11 +125,7 @@ unfolding body
 same_body protocol schema v w e = λ i. record { bytes = e i; form = form_in schema }
 
 raw_settled : (here : Option Schema) (v : Value) → raw_bytes (settled here v) ≡ raw_bytes v
-raw_settled here (value.scalar value.null) = go (is_kind kind.Document here)
-  where
-    go : (t : Bool) → raw_bytes (if t then value.scalar (value.document doc.null) else (value.scalar value.null)) ≡ []
-    go true = refl
-    go false = refl
+raw_settled here (value.scalar value.null) = cond_both (is_kind kind.Document here) (value.scalar (value.document doc.null)) (value.scalar value.null) (λ v. raw_bytes v ≡ []) (λ e. refl) (λ e. refl)
 raw_settled here _ = refl
 
 -- the payload's bytes are those of the normal form's

@@ -13,7 +13,7 @@ use Rattle.smithy_unambiguity.proofs.PairLemmas.{AllPairs, ordered_all}
 use Rattle.smithy_unambiguity.proofs.Placed.{HasTypedWrites, IsPlacedValue, placed_value, kinds_at}
 use Rattle.smithy_unambiguity.proofs.Queries.{values_at-append}
 use Rattle.smithy_unambiguity.proofs.Traits.{trait_of}
-use Rattle.smithy_unambiguity.proofs.ViewParts.{member_or, bound_part}
+use Rattle.smithy_unambiguity.proofs.ViewParts.{member_or, bound_part, SomeOrNone}
 use Rattle.smithy_unambiguity.proofs.ViewValues.{header_kept, map_left, ordered_last}
 
 -- Header members.
@@ -95,8 +95,7 @@ headers_of_view schema ws checked well_made typed name = go (member_or schema ch
     apart : HasApartHeaders schema
     apart = headers_apart schema checked
 
-    go : ((i : ℕ) × (m : Schema) × (member_at schema i ≡ Some m) × (named_header name (binding_of m) ≡ true)) ⊎ ((i : ℕ) (m : Schema) → member_at schema i ≡ Some m → named_header name (binding_of m) ≡ false)
-        → ((i : ℕ) × (m : Schema) × (member_at schema i ≡ Some m) × (is_prefix (binding_of m) ≡ true)) ⊎ ((i : ℕ) (m : Schema) → member_at schema i ≡ Some m → is_prefix (binding_of m) ≡ false)
+    go : SomeOrNone (member_at schema) (λ m. named_header name (binding_of m)) → SomeOrNone (member_at schema) (λ m. is_prefix (binding_of m))
         → values_at name (headers schema (view schema ws)) ≡ values_at name (headers schema ws)
     go (inl x) other =
         let m = x.1 in

@@ -1,5 +1,5 @@
 -- The normal form gives the same pairs, labels and headers at each name.
-use Rattle.smithy_unambiguity.proofs.Common.{◌≡◌, refl, sym, ◌∙◌, ap, ℕ, zero, suc, ◌⊎◌, inl, inr, Bool, true, false, cond, ◌||◌, List, [], ◌∷◌, flat_map, slice_get, Option, Some, None, option_and_then, unwrap_or, if◌then◌else◌, and_parts, found, same_text, is_one_of, ShapeType, same_kind, is_scalar, Schema, element_of, value_of, member_at, members_of, name_of, Binding, to_query, to_query_map, to_label, binding_of, is_outside_body, Value, Writes, no_writes, write, Write, settled_elements, values_at, pairs, labels, query_names, texts, entry_texts, IsCheckedInput, has_element, is_query_map, is_placed_at, is_well_made, view, bound_view_at, unless_empty, with_own_elements}
+use Rattle.smithy_unambiguity.proofs.Common.{◌≡◌, refl, sym, ◌∙◌, ap, ℕ, zero, suc, ◌⊎◌, inl, inr, Bool, true, false, cond, ◌||◌, List, [], ◌∷◌, flat_map, slice_get, Option, Some, None, option_and_then, unwrap_or, if◌then◌else◌, and_parts, found, same_text, is_one_of, ShapeType, same_kind, is_scalar, Schema, element_of, value_of, member_at, members_of, name_of, Binding, to_query, to_query_map, to_label, binding_of, is_outside_body, Value, Writes, no_writes, write, Write, settled_elements, values_at, pairs, labels, query_names, texts, entry_texts, IsCheckedInput, has_element, is_query_map, is_placed_at, is_well_made, view, bound_view_at, unless_empty, with_own_elements, subst}
 use Rattle.std.specs.Cmp.Lexicographic.{same_text as same_from_test}
 use Rattle.smithy_ids.specs.declared.shape_type.ShapeType.TheVariants as kind
 use Rattle.smithy_serde.specs.Values as value
@@ -13,20 +13,22 @@ use Rattle.smithy_unambiguity.proofs.MemberTexts.{list_of_element, bound_list}
 use Rattle.smithy_unambiguity.proofs.Members.{names_apart, HasApartNames}
 use Rattle.smithy_unambiguity.proofs.Placed.{HasTypedWrites, IsPlacedValue, placed_value, bound_view_of, kinds_at}
 use Rattle.smithy_unambiguity.proofs.Positions.{members_by_position}
-use Rattle.smithy_unambiguity.proofs.QueryNames.{named_query, IsUnnamed, no_pairs, pairs_of_member, pairs_of_map}
+use Rattle.smithy_unambiguity.proofs.QueryNames.{named_query, no_pairs, pairs_of_member, pairs_of_map}
 use Rattle.smithy_unambiguity.proofs.TargetTold.{query_kinds}
 use Rattle.smithy_unambiguity.proofs.Traits.{trait_of, stands_at, stands_there}
 use Rattle.smithy_unambiguity.proofs.ViewValues.{list_texts_kept, map_left, own_texts}
 use Rattle.smithy_unambiguity.proofs.ViewWrites.{first_value_of_view}
 
--- A member passes a test, or none does.
+-- A member passes a test, of those that stand at positions, or none does.
 
-some_or : (t : Schema → Bool) (ms : List Schema) → ((j : ℕ) × (m : Schema) × (slice_get ms j ≡ Some m) × (t m ≡ true)) ⊎ ((j : ℕ) (m : Schema) → slice_get ms j ≡ Some m → t m ≡ false)
+abbrev pub SomeOrNone : (ℕ → Option Schema) → (Schema → Bool) → Type 0
+SomeOrNone at t = ((i : ℕ) × (m : Schema) × (at i ≡ Some m) × (t m ≡ true)) ⊎ ((i : ℕ) (m : Schema) → at i ≡ Some m → t m ≡ false)
+
+some_or : (t : Schema → Bool) (ms : List Schema) → SomeOrNone (slice_get ms) t
 some_or t [] = inr (λ j m e. absurd (cc e))
 some_or t (x ∷ ms) = go (t x) refl (some_or t ms)
   where
-    go : (b : Bool) → t x ≡ b → ((j : ℕ) × (m : Schema) × (slice_get ms j ≡ Some m) × (t m ≡ true)) ⊎ ((j : ℕ) (m : Schema) → slice_get ms j ≡ Some m → t m ≡ false)
-        → ((j : ℕ) × (m : Schema) × (slice_get (x ∷ ms) j ≡ Some m) × (t m ≡ true)) ⊎ ((j : ℕ) (m : Schema) → slice_get (x ∷ ms) j ≡ Some m → t m ≡ false)
+    go : (b : Bool) → t x ≡ b → SomeOrNone (slice_get ms) t → SomeOrNone (slice_get (x ∷ ms)) t
     go true e rest = inl (0, x, refl, e)
     go false e (inl found) = inl (suc found.0, found.1, found.2, found.3)
     go false e (inr none) = inr all
@@ -35,14 +37,8 @@ some_or t (x ∷ ms) = go (t x) refl (some_or t ms)
         all zero m at = let same : x ≡ m = cc at in ap t (sym same) ∙ e
         all (suc j) m at = none j m at
 
-pub member_or : (schema : Schema) → IsCheckedInput schema → (t : Schema → Bool)
-    → ((i : ℕ) × (m : Schema) × (member_at schema i ≡ Some m) × (t m ≡ true)) ⊎ ((i : ℕ) (m : Schema) → member_at schema i ≡ Some m → t m ≡ false)
-member_or schema checked t = go (some_or t (members_of schema))
-  where
-    go : ((j : ℕ) × (m : Schema) × (slice_get (members_of schema) j ≡ Some m) × (t m ≡ true)) ⊎ ((j : ℕ) (m : Schema) → slice_get (members_of schema) j ≡ Some m → t m ≡ false)
-        → ((i : ℕ) × (m : Schema) × (member_at schema i ≡ Some m) × (t m ≡ true)) ⊎ ((i : ℕ) (m : Schema) → member_at schema i ≡ Some m → t m ≡ false)
-    go (inl found) = inl (found.0, found.1, sym (members_by_position schema checked found.0) ∙ found.2, found.3)
-    go (inr none) = inr (λ i m at. none i m (members_by_position schema checked i ∙ at))
+pub member_or : (schema : Schema) → IsCheckedInput schema → (t : Schema → Bool) → SomeOrNone (member_at schema) t
+member_or schema checked t = subst (λ at. SomeOrNone at t) (λ k i. members_by_position schema checked i k) (some_or t (members_of schema))
 
 -- The parts of the normal form that a bound member's first write leaves.
 
@@ -104,8 +100,7 @@ query_named name _ e = absurd (cc e)
 pub pairs_of_view : (schema : Schema) (ws : List Write) → IsCheckedInput schema → is_well_made schema ≡ true → HasTypedWrites schema ws → (name : List ℕ) → values_at name (pairs schema (view schema ws)) ≡ values_at name (pairs schema ws)
 pairs_of_view schema ws checked well_made typed name = go (member_or schema checked (λ m. named_query name (binding_of m))) (member_or schema checked (λ m. stands_at to_query_map (binding_of m)))
   where
-    go : ((i : ℕ) × (m : Schema) × (member_at schema i ≡ Some m) × (named_query name (binding_of m) ≡ true)) ⊎ IsUnnamed schema name
-        → ((i : ℕ) × (m : Schema) × (member_at schema i ≡ Some m) × (stands_at to_query_map (binding_of m) ≡ true)) ⊎ ((i : ℕ) (m : Schema) → member_at schema i ≡ Some m → stands_at to_query_map (binding_of m) ≡ false)
+    go : SomeOrNone (member_at schema) (λ m. named_query name (binding_of m)) → SomeOrNone (member_at schema) (λ m. stands_at to_query_map (binding_of m))
         → values_at name (pairs schema (view schema ws)) ≡ values_at name (pairs schema ws)
     go (inl x) other =
         let i = x.0 in
@@ -134,8 +129,7 @@ labels_of_view schema ws checked well_made name = found-front name (labels schem
     apart : HasApartNames schema
     apart = names_apart schema checked well_made
 
-    go : ((i : ℕ) × (m : Schema) × (member_at schema i ≡ Some m) × (is_label_named name m ≡ true)) ⊎ ((i : ℕ) (m : Schema) → member_at schema i ≡ Some m → is_label_named name m ≡ false)
-        → values_at name (labels schema (view schema ws)) ≡ values_at name (labels schema ws)
+    go : SomeOrNone (member_at schema) (is_label_named name) → values_at name (labels schema (view schema ws)) ≡ values_at name (labels schema ws)
     go (inr none) = no_labels schema (view schema ws) name none ∙ sym (no_labels schema ws name none)
     go (inl x) =
         let m = x.1 in

@@ -1,29 +1,19 @@
 -- The request of the normal form has the facts of the input's request.
-use Rattle.smithy_unambiguity.proofs.Common.{◌≡◌, refl, sym, ◌∙◌, ap, ℕ, ◌⊎◌, inl, inr, Bool, true, false, cond, List, [], ◌∷◌, ◌++◌, map, filter, length, codes, decimal, Result, Ok, Some, option_map, AllByRecursion, map-append, found, same_text, before_query, then_try, then_give, Piece, Template, pieces, facts, values_at, named_piece, query_pieces, escape, AreBytes, headers, pairs, labels, body, IsCheckedInput, fill, fill_rest, filled_hole, view, request_at, template_of, with_query, pair_text, all_headers, with_default, adds_content_type, adds_content_length, IsTyped, Write, IsCheckedInput-from_test}
+use Rattle.smithy_unambiguity.proofs.Common.{◌≡◌, refl, sym, ◌∙◌, ap, ℕ, ◌⊎◌, inl, inr, Bool, true, false, cond, List, [], ◌∷◌, ◌++◌, map, filter, length, codes, decimal, Ok, Some, option_map, AllByRecursion, map-append, same_text, before_query, pieces, facts, values_at, named_piece, query_pieces, escape, AreBytes, headers, pairs, labels, body, IsCheckedInput, view, request_at, template_of, with_query, pair_text, all_headers, with_default, adds_content_type, adds_content_length, IsTyped, Write, IsCheckedInput-from_test, Protocol, OmitFlags, SeesSame, Schema}
 use Rattle.std.specs.Cmp.Lexicographic.{same_text as same_from_test}
-use Rattle.smithy_unambiguity.proofs.Setting.{SeenOfView, ViewTyped}
+use Rattle.smithy_unambiguity.proofs.Setting.{IsSetting}
 use Rattle.smithy_unambiguity.proofs.HeadersTold.{typed_writes}
+use Rattle.smithy_unambiguity.proofs.Labels.{fill_same}
 use Rattle.smithy_unambiguity.proofs.Placed.{HasTypedWrites}
 use Rattle.smithy_unambiguity.proofs.Queries.{pieces_of_query, pieces_of_pairs, name_of_pair, values_at-append}
 use Rattle.smithy_unambiguity.proofs.Requests.{IsPlacedRequest, placed_request}
 use Rattle.smithy_unambiguity.proofs.TemplateQuery.{query_leaves_path}
 use Rattle.smithy_unambiguity.proofs.ViewBody.{body_of_view}
+use Rattle.smithy_unambiguity.proofs.ViewDocument.{view_typed}
 use Rattle.smithy_unambiguity.proofs.ViewHeaders.{headers_of_view, values_at-with_default_same}
 use Rattle.smithy_unambiguity.proofs.ViewParts.{pairs_of_view, labels_of_view}
 use Rattle.smithy_unambiguity.proofs.Lists.{all_apply}
 use Rattle.smithy_unambiguity.proofs.TextsBytes.{IsBytePair, pairs_are_bytes}
-
--- Labels that are found alike fill a template alike.
-
-fill_rest_same : (a b : List (List ℕ × List ℕ)) (ps : List Piece) → ((name : List ℕ) → found name a ≡ found name b) → fill_rest (λ name. found name a) ps ≡ fill_rest (λ name. found name b) ps
-fill_rest_same a b [] same = refl
-fill_rest_same a b (p ∷ ps) same =
-    let here = same p.hole.name in
-    let rest = fill_rest_same a b ps same in
-    λ i. then_try (filled_hole p.hole (here i)) λ text. then_give (rest i) λ more. text ++ p.literal ++ more
-
-pub fill_same : (a b : List (List ℕ × List ℕ)) (t : Template) → ((name : List ℕ) → found name a ≡ found name b) → fill t a ≡ fill t b
-fill_same a b t same = ap (λ (r : Result (List ℕ) (List ℕ)). then_give r λ rest. t.first ++ rest) (fill_rest_same a b t.rest same)
 
 -- Pairs with the same texts at each name have the same pieces at each name.
 
@@ -63,8 +53,9 @@ query_at_name path name ps =
     ap (λ xs. values_at name (map named_piece xs)) (pieces_of_query path ps) ∙ ap (values_at name) (map-append named_piece (query_pieces path) (map pair_text ps))
     ∙ values_at-append name (map named_piece (query_pieces path)) (pieces_for ps)
 
-pub seen_of_view : ViewTyped → SeenOfView
-seen_of_view view_typed protocol schema endpoint omit ws setting typed =
+pub seen_of_view : (protocol : Protocol) (schema : Schema) (endpoint : List ℕ) (omit : OmitFlags) (ws : List Write) → IsSetting protocol schema
+    → IsTyped protocol schema endpoint omit ws → SeesSame protocol schema endpoint omit (view schema ws) ws
+seen_of_view protocol schema endpoint omit ws setting typed =
     ap (option_map facts) (y.is ∙ ap (λ p. Some (request_at protocol schema (view schema ws) omit (with_query p (pairs schema (view schema ws))))) one_path)
     ∙ ap Some same ∙ sym (ap (option_map facts) x.is)
   where

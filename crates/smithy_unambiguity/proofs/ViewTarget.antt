@@ -1,16 +1,11 @@
 -- The target of the normal form is as long and as legal as the input's.
 use Rattle.std.proofs.Common.{append_assoc}
-use Rattle.smithy_unambiguity.proofs.Common.{◌≡◌, refl, sym, ◌∙◌, ap, ℕ, nat_le, suc, ◌+◌, arith, Bool, true, false, cond, ◌==◌, List, [], ◌∷◌, ◌++◌, map, filter, length, codes, None, Option, AllByRecursion, list_all, join_with_byte, after_first, option_or, and_parts, and_from, agree_below, agree_below_at, length-append, list_all-append, percent_encode_byte, has_byte, same_text, is_query_byte, is_stem, is_target, is_short_target, max_target_len, before_query, unless, values_at, escape, escape_byte, AreBytes, pairs, legal_fault, too_long, not_legal, view, pair_text, with_query, Protocol, IsCheckedInput-from_test, same_text_self, FactsDecideView, ViewSettles, ViewIsTyped, Held, IsLawfulText}
-use Rattle.smithy_unambiguity.proofs.Setting.{TargetOfView, ViewTyped, SeenOfView}
-use Rattle.smithy_unambiguity.proofs.Join.{facts_decide_by, settles_by}
-use Rattle.smithy_unambiguity.proofs.ViewSeen.{seen_of_view}
-use Rattle.smithy_unambiguity.proofs.ViewTold.{seen_tells_view}
+use Rattle.smithy_unambiguity.proofs.Common.{◌≡◌, refl, sym, ◌∙◌, ap, ℕ, nat_le, suc, ◌+◌, arith, Bool, true, false, cond, ◌==◌, List, [], ◌∷◌, ◌++◌, map, filter, length, codes, None, AllByRecursion, list_all, join_with_byte, after_first, option_or, and_parts, and_from, agree_below, agree_below_at, length-append, list_all-append, percent_encode_byte, has_byte, same_text, is_query_byte, is_stem, is_target, is_short_target, max_target_len, before_query, unless, values_at, escape, escape_byte, AreBytes, pairs, legal_fault, too_long, not_legal, view, pair_text, with_query, Protocol, same_text_self, IsCheckedInput, is_well_made, Schema, Write, OmitFlags, IsTyped}
 use Rattle.smithy_unambiguity.proofs.HeadersTold.{typed_writes}
 use Rattle.smithy_unambiguity.proofs.Queries.{after, after_first-after, after-append, after-cut}
 use Rattle.smithy_unambiguity.proofs.TemplateQuery.{query_leaves_path}
 use Rattle.smithy_unambiguity.proofs.TextsBytes.{IsBytePair, pairs_are_bytes}
 use Rattle.smithy_unambiguity.proofs.Totals.{total, total_of_values}
-use Rattle.smithy_unambiguity.proofs.ViewDocument.{view_typed}
 use Rattle.smithy_unambiguity.proofs.ViewParts.{pairs_of_view}
 use Rattle.smithy_unambiguity.proofs.ViewTyped.{view_writes_conform, view_in_range}
 use Rattle.smithy_unambiguity.proofs.Viewed.{has_viewed}
@@ -117,32 +112,9 @@ legal_again path (p ∷ ps) (q ∷ qs) all same e =
     ap (λ t. option_or (unless t too_long) (unless (is_target (with_query path (q ∷ qs))) not_legal)) short
     ∙ ap (λ t. unless t not_legal) legal
 
-pub target_of_view : TargetOfView
-target_of_view protocol schema endpoint omit ws setting typed path legal =
-    let checked = IsCheckedInput-from_test schema setting.checked in
-    let writes = typed_writes protocol schema endpoint omit ws typed in
-    let viewed = has_viewed protocol schema endpoint omit ws checked setting.well_made typed in
-    legal_again path (pairs schema ws) (pairs schema (view schema ws)) (pairs_are_bytes schema (view schema ws) setting.well_made (view_writes_conform schema ws checked setting.well_made viewed) (view_in_range schema ws checked viewed))
-    (pairs_of_view schema ws checked setting.well_made writes) legal
-
--- the view of a typed input is typed, and is seen the same
-is_typed : ViewTyped
-is_typed = view_typed target_of_view
-
-is_seen : SeenOfView
-is_seen = seen_of_view is_typed
-
--- Of a protocol with a lawful codec, facts are the same exactly if the normal forms are.
-pub facts_decide : (protocol : Protocol) (holds : List ℕ → Option Held) → IsLawfulText protocol.text_of holds → FactsDecideView protocol
-facts_decide protocol holds lawful schema endpoint omit v w checked well_made =
-    facts_decide_by seen_tells_view is_seen protocol schema endpoint omit v w (record { holds = holds; lawful = lawful; checked = checked; well_made = well_made })
-
--- The normal form of a normal form is itself,
-pub settles : (protocol : Protocol) (holds : List ℕ → Option Held) → IsLawfulText protocol.text_of holds → ViewSettles protocol
-settles protocol holds lawful schema endpoint omit ws checked well_made =
-    settles_by seen_tells_view is_typed is_seen protocol schema endpoint omit ws (record { holds = holds; lawful = lawful; checked = checked; well_made = well_made })
-
--- and is typed.
-pub normal_form_typed : (protocol : Protocol) (holds : List ℕ → Option Held) → IsLawfulText protocol.text_of holds → ViewIsTyped protocol
-normal_form_typed protocol holds lawful schema endpoint omit ws checked well_made =
-    is_typed protocol schema endpoint omit ws (record { holds = holds; lawful = lawful; checked = checked; well_made = well_made })
+pub target_of_view : (protocol : Protocol) (schema : Schema) (endpoint : List ℕ) (omit : OmitFlags) (ws : List Write) → IsCheckedInput schema → is_well_made schema ≡ true → IsTyped protocol schema endpoint omit ws
+    → (path : List ℕ) → legal_fault (with_query path (pairs schema ws)) ≡ None → legal_fault (with_query path (pairs schema (view schema ws))) ≡ None
+target_of_view protocol schema endpoint omit ws checked well_made typed path legal =
+    let viewed = has_viewed protocol schema endpoint omit ws checked well_made typed in
+    legal_again path (pairs schema ws) (pairs schema (view schema ws)) (pairs_are_bytes schema (view schema ws) well_made (view_writes_conform schema ws checked well_made viewed) (view_in_range schema ws checked viewed))
+    (pairs_of_view schema ws checked well_made (typed_writes protocol schema endpoint omit ws typed)) legal

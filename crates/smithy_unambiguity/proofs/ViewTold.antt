@@ -1,11 +1,12 @@
 -- The facts of a request tell the normal form of its input.
-use Rattle.smithy_unambiguity.proofs.Common.{◌≡◌, refl, sym, ◌∙◌, ap, ℕ, suc, ◌+◌, arith, true, List, [], ◌∷◌, filter_map, slice_get, Option, Some, option_map, IsTrue, enumerate_from, cons_option, Schema, members_of, Binding, to_header, to_prefix, to_query, to_query_map, to_label, to_payload, to_body, binding_of, member_at, Value, Write, label_of, has_bound_kind, checked_input, view, member_view, IsCheckedInput-from_test, IsTyped, OmitFlags, Protocol, SeesSame}
-use Rattle.smithy_unambiguity.proofs.Setting.{SeenTellsView, IsSetting}
+use Rattle.smithy_unambiguity.proofs.Common.{◌≡◌, refl, ap, ℕ, true, List, Option, Some, option_map, IsTrue, enumerate_from, Schema, members_of, Binding, to_header, to_prefix, to_query, to_query_map, to_label, to_payload, to_body, binding_of, member_at, Write, label_of, has_bound_kind, checked_input, view, member_view, IsCheckedInput-from_test, IsTyped, OmitFlags, Protocol, SeesSame}
+use Rattle.smithy_unambiguity.proofs.Setting.{IsSetting}
+use Rattle.smithy_unambiguity.proofs.Lists.{all_apply, filter_map_same}
 use Rattle.smithy_unambiguity.proofs.HeadersTold.{AreSeenSame, seen_same, header_member_told}
 use Rattle.smithy_unambiguity.proofs.MapsTold.{prefix_member_told, query_map_told, all_pairs_told}
 use Rattle.smithy_unambiguity.proofs.PayloadTold.{payload_member_told}
 use Rattle.smithy_unambiguity.proofs.Placed.{kinds_at}
-use Rattle.smithy_unambiguity.proofs.Positions.{members_by_position}
+use Rattle.smithy_unambiguity.proofs.Positions.{members_placed}
 use Rattle.smithy_unambiguity.proofs.TargetTold.{label_member_told, query_member_told}
 use Rattle.smithy_unambiguity.proofs.UnboundTold.{unbound_member_told}
 
@@ -34,30 +35,16 @@ member_told protocol schema endpoint omit v w setting typed_v typed_w same i m a
 abbrev pub own_write : Schema → List Write → ℕ × Schema → Option Write
 own_write schema ws p = option_map (λ u. record { label = label_of p.1; value = u }) (member_view schema ws p.0 p.1)
 
--- the writes of the normal form, member by member
-view_behind : (schema : Schema) (v w : List Write) (k : ℕ) (ms : List Schema) → ((j : ℕ) (m : Schema) → slice_get ms j ≡ Some m → member_view schema v (k + j) m ≡ member_view schema w (k + j) m)
-    → filter_map (own_write schema v) (enumerate_from k ms)
-    ≡ filter_map (own_write schema w) (enumerate_from k ms)
-view_behind schema v w k [] same = refl
-view_behind schema v w k (m ∷ ms) same =
-    let here : member_view schema v k m ≡ member_view schema w k m =
-    let zero_more : k ≡ k + 0 = omega arith in ap (λ j. member_view schema v j m) zero_more ∙ same 0 m refl ∙ ap (λ j. member_view schema w j m) (sym zero_more) in
-    let rest = view_behind schema v w (k + 1) ms (λ j n at.
-    let one_more : k + 1 + j ≡ k + suc j = omega arith in ap (λ l. member_view schema v l n) one_more ∙ same (suc j) n at ∙ ap (λ l. member_view schema w l n) (sym one_more)) in
-    λ i. cons_option (option_map (own m) (here i)) (rest i)
-  where
-    own : Schema → Value → Write
-    own m u = record { label = label_of m; value = u }
-
 -- and the view is these parts
 pub view_from_members : (schema : Schema) (v w : List Write) → IsTrue (checked_input schema)
     → ((i : ℕ) (m : Schema) → member_at schema i ≡ Some m → member_view schema v i m ≡ member_view schema w i m) → view schema v ≡ view schema w
 unfolding view
 view_from_members schema v w checked same =
-    view_behind schema v w 0 (members_of schema) (λ j m at.
-    let none_more : 0 + j ≡ j = omega arith in
-    ap (λ l. member_view schema v l m) none_more ∙ same j m (sym (members_by_position schema (IsCheckedInput-from_test schema checked) j) ∙ at) ∙ ap (λ l. member_view schema w l m) (sym none_more))
+    filter_map_same (own_write schema v) (own_write schema w) (enumerate_from 0 (members_of schema))
+    (all_apply (λ p. member_at schema p.0 ≡ Some p.1) (λ p. own_write schema v p ≡ own_write schema w p) (enumerate_from 0 (members_of schema))
+    (λ p at. ap (option_map (λ u. record { label = label_of p.1; value = u })) (same p.0 p.1 at)) (members_placed schema (IsCheckedInput-from_test schema checked)))
 
-pub seen_tells_view : SeenTellsView
+pub seen_tells_view : (protocol : Protocol) (schema : Schema) (endpoint : List ℕ) (omit : OmitFlags) (v w : List Write) → IsSetting protocol schema
+    → IsTyped protocol schema endpoint omit v → IsTyped protocol schema endpoint omit w → SeesSame protocol schema endpoint omit v w → view schema v ≡ view schema w
 seen_tells_view protocol schema endpoint omit v w setting typed_v typed_w same =
     view_from_members schema v w setting.checked (λ i m at. member_told protocol schema endpoint omit v w setting typed_v typed_w same i m at)

@@ -1,12 +1,12 @@
 -- The normal form is typed, from what is known of each of its writes and of its target.
-use Rattle.smithy_unambiguity.proofs.Common.{◌≡◌, refl, sym, ◌∙◌, ap, ℕ, suc, ◌+◌, arith, Bool, true, false, not, cond, ◌&&◌, ◌||◌, ◌==◌, List, [], ◌∷◌, ◌++◌, filter, filter_map, slice_get, Option, Some, None, option_map, option_to_list, is_some, IsTrue, if◌then◌else◌, AllByRecursion, list_all, list_any, enumerate_from, cons_option, option_map_or, option_or, str_to_ascii_lowercase, values_at, and_from, unless, Schema, member_at, members_of, Binding, to_header, binding_of, is_bound, Value, Write, label_of, is_in_range, are_in_range, fits_member, Resolved, resolve, all_resolved, firsts, has_seen, headers, inserted_at, Body, body, IsCheckedInput, no_member, wrong_kind, resolved_fault, write_fault, writes_fault, bound_fault, value_fault, pairs_fault, is_placed_at, is_well_made, view, member_view, Protocol, OmitFlags, has_distinct_keys, has_own_formats, is_placed_typed, has_no_default_name, wants_default, writes_default, is_shaped_write, is_codec_payload, is_shaped_payload, is_shaped}
+use Rattle.smithy_unambiguity.proofs.Common.{◌≡◌, refl, sym, ◌∙◌, ap, ℕ, Bool, true, false, not, ◌&&◌, ◌||◌, ◌==◌, List, [], ◌∷◌, ◌++◌, filter, Some, None, option_to_list, is_some, IsTrue, if◌then◌else◌, AllByRecursion, list_all, list_any, enumerate_from, option_map_or, option_or, str_to_ascii_lowercase, values_at, unless, Schema, member_at, members_of, Binding, to_header, binding_of, is_bound, Value, Write, label_of, is_in_range, are_in_range, fits_member, Resolved, resolve, all_resolved, firsts, has_seen, headers, inserted_at, Body, body, IsCheckedInput, no_member, wrong_kind, resolved_fault, write_fault, writes_fault, bound_fault, value_fault, pairs_fault, is_placed_at, is_well_made, view, member_view, Protocol, OmitFlags, has_distinct_keys, has_own_formats, is_placed_typed, has_no_default_name, wants_default, writes_default, is_shaped_write, is_codec_payload, is_shaped_payload, is_shaped, list_all-same, not-true}
 use Rattle.smithy_unambiguity.proofs.ByMember.{at_member}
 use Rattle.smithy_unambiguity.proofs.ByName.{found-front, front}
 use Rattle.smithy_unambiguity.proofs.Firsts.{all_firsts}
-use Rattle.smithy_unambiguity.proofs.Positions.{members_by_position}
+use Rattle.smithy_unambiguity.proofs.Lists.{all_apply, all_kept, all_made, test_from_all}
+use Rattle.smithy_unambiguity.proofs.Positions.{members_placed}
 use Rattle.smithy_unambiguity.proofs.BodyObject.{IsBodied}
 use Rattle.smithy_unambiguity.proofs.ViewBody.{all_of_view}
-use Rattle.smithy_unambiguity.proofs.ViewTold.{own_write}
 use Rattle.smithy_unambiguity.proofs.ViewWrites.{own_is_resolved}
 
 -- What the normal form has for a member: what is asked of a write of it, but for the document.
@@ -24,23 +24,13 @@ HasViewed schema ws = (i : ℕ) (m : Schema) (u : Value) → member_at schema i 
 
 -- The writes of the normal form have no fault.
 
-writes_behind : (P : Write → Type 0) (schema : Schema) (ws : List Write) (k : ℕ) (ms : List Schema)
-    → ((j : ℕ) (m : Schema) (u : Value) → slice_get ms j ≡ Some m → member_view schema ws (k + j) m ≡ Some u → P (record { label = label_of m; value = u })) → AllByRecursion P (filter_map (own_write schema ws) (enumerate_from k ms))
-writes_behind P schema ws k [] has = tt
-writes_behind P schema ws k (m ∷ ms) has =
-    go (member_view schema ws k m) refl
-    (writes_behind P schema ws (k + 1) ms (λ j n u at e. let one_more : k + 1 + j ≡ k + suc j = omega arith in has (suc j) n u at (ap (λ i. member_view schema ws i n) (sym one_more) ∙ e)))
-  where
-    go : (o : Option Value) → member_view schema ws k m ≡ o → AllByRecursion P (filter_map (own_write schema ws) (enumerate_from (k + 1) ms))
-        → AllByRecursion P (cons_option (option_map (λ u. record { label = label_of m; value = u }) o) (filter_map (own_write schema ws) (enumerate_from (k + 1) ms)))
-    go None e rest = rest
-    go (Some u) e rest = let none_more : k + 0 ≡ k = omega arith in (has 0 m u refl (ap (λ i. member_view schema ws i m) none_more ∙ e), rest)
-
 pub writes_of_view : (P : Write → Type 0) (schema : Schema) (ws : List Write) → IsCheckedInput schema
     → ((i : ℕ) (m : Schema) (u : Value) → member_at schema i ≡ Some m → member_view schema ws i m ≡ Some u → P (record { label = label_of m; value = u })) → AllByRecursion P (view schema ws)
 unfolding view
 writes_of_view P schema ws checked has =
-    writes_behind P schema ws 0 (members_of schema) (λ j m u at e. let none_more : 0 + j ≡ j = omega arith in has j m u (sym (members_by_position schema checked j) ∙ at) (ap (λ i. member_view schema ws i m) (sym none_more) ∙ e))
+    all_made P (λ p u. record { label = label_of p.1; value = u }) (λ p. member_view schema ws p.0 p.1) (enumerate_from 0 (members_of schema))
+    (all_apply (λ p. member_at schema p.0 ≡ Some p.1) (λ p. (u : Value) → member_view schema ws p.0 p.1 ≡ Some u → P (record { label = label_of p.1; value = u })) (enumerate_from 0 (members_of schema))
+    (λ p at u e. has p.0 p.1 u at e) (members_placed schema checked))
 
 no_write_fault : (schema : Schema) (ws : List Write) → AllByRecursion (λ w. (seen : List ℕ) → write_fault schema seen w ≡ None) ws → (seen : List ℕ) → writes_fault schema seen ws ≡ None
 unfolding writes_fault
@@ -67,11 +57,8 @@ view_writes_conform schema ws checked well_made viewed =
     no_write_fault schema (view schema ws) (writes_of_view (λ w. (seen : List ℕ) → write_fault schema seen w ≡ None) schema ws checked (λ i m u at e. viewed_fault schema i m u well_made at (viewed i m u at e))) []
 
 pub view_in_range : (schema : Schema) (ws : List Write) → IsCheckedInput schema → HasViewed schema ws → are_in_range (view schema ws) ≡ true
-view_in_range schema ws checked viewed = all (view schema ws) (writes_of_view (λ w. is_in_range w.value ≡ true) schema ws checked (λ i m u at e. (viewed i m u at e).in_range))
-  where
-    all : (us : List Write) → AllByRecursion (λ w. is_in_range w.value ≡ true) us → are_in_range us ≡ true
-    all [] h = refl
-    all (w ∷ us) h = and_from (is_in_range w.value) (are_in_range us) h.0 (all us h.1)
+view_in_range schema ws checked viewed =
+    test_from_all (λ w. is_in_range w.value) (view schema ws) (writes_of_view (λ w. is_in_range w.value ≡ true) schema ws checked (λ i m u at e. (viewed i m u at e).in_range))
 
 -- The tests of first writes.
 
@@ -93,24 +80,14 @@ view_prefixed schema ws checked well_made viewed =
 
 pub view_payload_shaped : (schema : Schema) (ws : List Write) → IsCheckedInput schema → is_well_made schema ≡ true → HasViewed schema ws → is_shaped_payload schema (view schema ws) ≡ true
 view_payload_shaped schema ws checked well_made viewed =
-    all (firsts schema (view schema ws))
+    test_from_all (λ r. not (is_codec_payload r.member) || is_shaped_write r) (firsts schema (view schema ws))
     (all_firsts (λ r. (not (is_codec_payload r.member) || is_shaped_write r) ≡ true) (all_resolved schema (view schema ws))
     (all_of_view (λ r. (not (is_codec_payload r.member) || is_shaped_write r) ≡ true) schema ws checked well_made (λ i m u at e. (viewed i m u at e).codec)))
-  where
-    all : (rs : List Resolved) → AllByRecursion (λ r. (not (is_codec_payload r.member) || is_shaped_write r) ≡ true) rs → list_all (λ r. not (is_codec_payload r.member) || is_shaped_write r) rs ≡ true
-    all [] h = refl
-    all (r ∷ rs) h = and_from (not (is_codec_payload r.member) || is_shaped_write r) (list_all (λ r. not (is_codec_payload r.member) || is_shaped_write r) rs) h.0 (all rs h.1)
 
 -- The fields that speak of the whole input.
 
 pub unbound_are_shaped : (schema : Schema) (rs : List Resolved) → AllByRecursion (IsBodied schema) rs → AllByRecursion (λ r. IsTrue (is_shaped_write r)) (filter (λ r. not (is_bound r.member)) rs)
-unbound_are_shaped schema [] all = tt
-unbound_are_shaped schema (r ∷ rs) all = go (is_bound r.member) refl (unbound_are_shaped schema rs all.1)
-  where
-    go : (b : Bool) → is_bound r.member ≡ b → AllByRecursion (λ r. IsTrue (is_shaped_write r)) (filter (λ r. not (is_bound r.member)) rs)
-        → AllByRecursion (λ r. IsTrue (is_shaped_write r)) (cond (not b) (r ∷ filter (λ r. not (is_bound r.member)) rs) (filter (λ r. not (is_bound r.member)) rs))
-    go true e rest = rest
-    go false e rest = (all.0.shaped e, rest)
+unbound_are_shaped schema rs all = all_kept (IsBodied schema) (λ r. IsTrue (is_shaped_write r)) (λ r. not (is_bound r.member)) rs (λ r free bodied. bodied.shaped (not-true (is_bound r.member) free)) all
 
 -- a default is left out beside the same body and the same headers
 writes_default_same : (b : Body) (omit : OmitFlags) (ps qs : List (List ℕ × List ℕ)) (c : Binding) → ((name : List ℕ) → values_at name ps ≡ values_at name qs) → writes_default b omit ps c ≡ writes_default b omit qs c
@@ -123,11 +100,7 @@ pub view_defaults : (protocol : Protocol) (schema : Schema) (omit : OmitFlags) (
     → list_all (λ m. writes_default (body protocol.text_of schema ws) omit (headers schema ws) (binding_of m)) (members_of schema) ≡ true
     → list_all (λ m. writes_default (body protocol.text_of schema (view schema ws)) omit (headers schema (view schema ws)) (binding_of m)) (members_of schema) ≡ true
 view_defaults protocol schema omit ws bodies same e =
-    ap (λ b. list_all (λ m. writes_default b omit (headers schema (view schema ws)) (binding_of m)) (members_of schema)) bodies ∙ all (members_of schema) ∙ e
-  where
-    b : Body
-    b = body protocol.text_of schema ws
-
-    all : (ms : List Schema) → list_all (λ m. writes_default (body protocol.text_of schema ws) omit (headers schema (view schema ws)) (binding_of m)) ms ≡ list_all (λ m. writes_default (body protocol.text_of schema ws) omit (headers schema ws) (binding_of m)) ms
-    all [] = refl
-    all (m ∷ ms) = λ i. writes_default_same (body protocol.text_of schema ws) omit (headers schema (view schema ws)) (headers schema ws) (binding_of m) same i && all ms i
+    ap (λ b. list_all (λ m. writes_default b omit (headers schema (view schema ws)) (binding_of m)) (members_of schema)) bodies
+    ∙ list_all-same (λ m. writes_default (body protocol.text_of schema ws) omit (headers schema (view schema ws)) (binding_of m)) (λ m. writes_default (body protocol.text_of schema ws) omit (headers schema ws) (binding_of m))
+    (λ m. writes_default_same (body protocol.text_of schema ws) omit (headers schema (view schema ws)) (headers schema ws) (binding_of m) same) (members_of schema)
+    ∙ e

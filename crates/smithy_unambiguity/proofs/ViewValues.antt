@@ -1,5 +1,5 @@
 -- The normal form of a bound value gives what the value gives.
-use Rattle.smithy_unambiguity.proofs.Common.{◌≡◌, refl, sym, ◌∙◌, ap, ℕ, Bool, true, false, ◌||◌, List, [], ◌∷◌, map, Option, Some, option_map, option_and_then, if◌then◌else◌, option_map_or, and_parts, each, ShapeType, Schema, element_of, key_of, value_of, binding_of, Label, Value, Writes, no_writes, write, Write, list_of, text_of_key, is_in_range, fits, own_label, settled, settled_elements, entry_writes, map_value, is_kind, no_label, Place, Header, wire, listed, values_at, kind_or_none, map_entries, entries_of, entry_texts, texts, place_at, element_text, is_header_kind, has_element, unless_empty, with_own_elements, Pairs, all_put, look_ordered, last_ascending}
+use Rattle.smithy_unambiguity.proofs.Common.{◌≡◌, refl, sym, ◌∙◌, ap, ℕ, Bool, true, false, ◌||◌, List, [], ◌∷◌, map, Option, Some, option_map, option_and_then, option_map_or, and_parts, each, ShapeType, Schema, element_of, key_of, value_of, binding_of, Label, Value, Writes, no_writes, write, Write, list_of, text_of_key, is_in_range, fits, own_label, settled, settled_elements, entry_writes, map_value, is_kind, no_label, Place, Header, wire, listed, values_at, kind_or_none, map_entries, entries_of, entry_texts, texts, place_at, element_text, is_header_kind, has_element, unless_empty, with_own_elements, Pairs, all_put, look_ordered, last_ascending, cond_both}
 use Rattle.smithy_ids.specs.declared.shape_type.ShapeType.TheVariants as kind
 use Rattle.smithy_unambiguity.proofs.LastTexts.{last_value}
 use Rattle.smithy_unambiguity.proofs.EntriesTold.{text_writes, own_list, own_value, as_text, last_of-texts}
@@ -60,11 +60,7 @@ texts_written l (t ∷ ts) = ap (λ us. t ∷ us) (texts_written l ts)
 
 pub own_texts : (here : Option Schema) (ts : List (List ℕ)) → entry_texts (own_value here ts) ≡ ts
 own_texts here [] = refl
-own_texts here (t ∷ []) = go (is_kind kind.String here)
-  where
-    go : (b : Bool) → entry_texts (if b then as_text t else own_list here (t ∷ [])) ≡ t ∷ []
-    go true = refl
-    go false = refl
+own_texts here (t ∷ []) = cond_both (is_kind kind.String here) (as_text t) (own_list here (t ∷ [])) (λ v. entry_texts v ≡ t ∷ []) (λ e. refl) (λ e. refl)
 own_texts here (t ∷ u ∷ ts) = texts_written (own_label (option_and_then element_of here) no_label) (t ∷ u ∷ ts)
 
 pub ordered_last : (name : List ℕ) (ps : Pairs (List ℕ)) → last_value (values_at name (all_put ps [])) ≡ last_value (values_at name ps)

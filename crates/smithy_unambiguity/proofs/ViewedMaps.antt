@@ -1,5 +1,5 @@
 -- What the normal form has for the prefix map and the query map is what a typed input may write to them.
-use Rattle.smithy_unambiguity.proofs.Common.{◌≡◌, refl, sym, ◌∙◌, ap, subst, ℕ, ◌<◌, arith, nat_le, length, Bool, true, false, not, ◌&&◌, ◌||◌, ◌==◌, List, [], ◌∷◌, ◌++◌, Option, Some, None, option_and_then, is_none, IsTrue, codes, if◌then◌else◌, AllByRecursion, list_all, option_or, str_to_ascii_lowercase, is_utf8, and_parts, and_from, eqb-true, not-true, lt-ltb, leb-true, list_all-append, map-append, is_one_of, are_distinct, has_byte, is_token, is_token_byte, is_between, is_header_value, unless, lower_twice, same_kind, one_kind, Schema, member_at, element_of, key_of, value_of, to_prefix, to_query_map, binding_of, Label, Value, Writes, no_writes, write, Write, text_of_key, is_in_range, are_writes_in_range, fits, is_kind, map_value, entry_writes, own_label, no_label, firsts, inserted_at, map_entries, entries_of, entry_texts, query_names, IsCheckedInput, is_plain_string, is_plain_list, member_view, element_fault, nested_fault, part_fault, entry_fault, item_fault, wrong_item_kind, unmatched_key, ends_with_value, pairs_fault, pair_fault, wrong_header, is_placed_at, has_no_default_name, default_names, Pairs, all_put, is_low, are_low, utf8_from_low}
+use Rattle.smithy_unambiguity.proofs.Common.{◌≡◌, refl, sym, ◌∙◌, ap, subst, ℕ, ◌<◌, arith, nat_le, length, Bool, true, false, not, ◌&&◌, ◌||◌, ◌==◌, List, [], ◌∷◌, ◌++◌, Option, Some, None, option_and_then, is_none, IsTrue, codes, if◌then◌else◌, AllByRecursion, list_all, option_or, str_to_ascii_lowercase, is_utf8, and_parts, and_from, eqb-true, not-true, lt-ltb, leb-true, list_all-append, map-append, is_one_of, are_distinct, has_byte, is_token, is_token_byte, is_between, is_header_value, unless, lower_twice, same_kind, one_kind, Schema, member_at, element_of, key_of, value_of, to_prefix, to_query_map, binding_of, Label, Value, Writes, no_writes, write, Write, text_of_key, is_in_range, are_writes_in_range, fits, is_kind, map_value, entry_writes, own_label, no_label, firsts, inserted_at, map_entries, entries_of, entry_texts, query_names, IsCheckedInput, is_plain_string, is_plain_list, member_view, element_fault, nested_fault, part_fault, entry_fault, item_fault, wrong_item_kind, unmatched_key, ends_with_value, pairs_fault, pair_fault, wrong_header, is_placed_at, has_no_default_name, default_names, Pairs, all_put, is_low, are_low, utf8_from_low, or_cases, ⊎_elim, cond_both}
 use Rattle.smithy_ids.specs.declared.shape_type.ShapeType.TheVariants as kind
 use Rattle.smithy_serde.specs.Values as value
 use Rattle.smithy_unambiguity.proofs.LastTexts.{lowered}
@@ -80,11 +80,8 @@ text_writes_in_range l (t ∷ ts) utf8 = and_from (is_utf8 t) (are_writes_in_ran
 
 own_value_in_range : (here : Option Schema) (ts : List (List ℕ)) → AreUtf8 ts → is_in_range (own_value here ts) ≡ true
 own_value_in_range here [] utf8 = refl
-own_value_in_range here (t ∷ []) utf8 = go (is_kind kind.String here)
-  where
-    go : (b : Bool) → is_in_range (if b then as_text t else own_list here (t ∷ [])) ≡ true
-    go true = utf8.0
-    go false = text_writes_in_range (own_label (option_and_then element_of here) no_label) (t ∷ []) utf8
+own_value_in_range here (t ∷ []) utf8 =
+    cond_both (is_kind kind.String here) (as_text t) (own_list here (t ∷ [])) (λ v. is_in_range v ≡ true) (λ e. utf8.0) (λ e. text_writes_in_range (own_label (option_and_then element_of here) no_label) (t ∷ []) utf8)
 own_value_in_range here (t ∷ u ∷ ts) utf8 = text_writes_in_range (own_label (option_and_then element_of here) no_label) (t ∷ u ∷ ts) utf8
 
 texts_fit : (m : Schema) (l : Label) (ts : List (List ℕ)) → element_fault m kind.String (text_writes l ts) ≡ None
@@ -185,23 +182,19 @@ prefix_keeps m prefix (q ∷ qs) all =
 
 any_low : (b : ℕ) (cs : List ℕ) → has_byte b cs ≡ true → are_low cs ≡ true → is_low b ≡ true
 any_low b [] e low = absurd (cc e)
-any_low b (c ∷ cs) e low = go (c == b) refl e (λ h. any_low b cs h (and_parts (is_low c) (are_low cs) low).1)
-  where
-    go : (t : Bool) → (c == b) ≡ t → (t || has_byte b cs) ≡ true → (has_byte b cs ≡ true → is_low b ≡ true) → is_low b ≡ true
-    go true q h rest = ap is_low (sym (eqb-true c b q)) ∙ (and_parts (is_low c) (are_low cs) low).0
-    go false q h rest = rest h
+any_low b (c ∷ cs) e low =
+    let lows = and_parts (is_low c) (are_low cs) low in
+    ⊎_elim (λ q. ap is_low (sym (eqb-true c b q)) ∙ lows.0) (λ h. any_low b cs h lows.1) (or_cases (c == b) (has_byte b cs) e)
 
 between_low : (low high b : ℕ) → high < 128 → is_between low high b ≡ true → is_low b ≡ true
 between_low low high b small e = let h = leb-true b high (and_parts (nat_le low b) (nat_le b high) e).1 in lt-ltb b 128 (omega (arith, small, h))
 
 token_byte_low : (b : ℕ) → is_token_byte b ≡ true → is_low b ≡ true
-token_byte_low b e = go (is_between 48 57 b) (is_between 65 90 b) (is_between 97 122 b) refl refl refl e
-  where
-    go : (x y z : Bool) → is_between 48 57 b ≡ x → is_between 65 90 b ≡ y → is_between 97 122 b ≡ z → (((x || y) || z) || has_byte b (codes "!#$%&'*+-.^_`|~")) ≡ true → is_low b ≡ true
-    go true y z p q r h = between_low 48 57 b (omega arith) p
-    go false true z p q r h = between_low 65 90 b (omega arith) q
-    go false false true p q r h = between_low 97 122 b (omega arith) r
-    go false false false p q r h = any_low b (codes "!#$%&'*+-.^_`|~") h refl
+token_byte_low b e =
+    ⊎_elim
+    (λ q. ⊎_elim (λ r. ⊎_elim (between_low 48 57 b (omega arith)) (between_low 65 90 b (omega arith)) (or_cases (is_between 48 57 b) (is_between 65 90 b) r))
+    (between_low 97 122 b (omega arith)) (or_cases (is_between 48 57 b || is_between 65 90 b) (is_between 97 122 b) q))
+    (λ h. any_low b (codes "!#$%&'*+-.^_`|~") h refl) (or_cases ((is_between 48 57 b || is_between 65 90 b) || is_between 97 122 b) (has_byte b (codes "!#$%&'*+-.^_`|~")) e)
 
 token_bytes_low : (name : List ℕ) → list_all is_token_byte name ≡ true → are_low name ≡ true
 token_bytes_low [] e = refl

@@ -1,5 +1,5 @@
 -- What the normal form has for each member is what a typed input may write to it.
-use Rattle.smithy_unambiguity.proofs.Common.{◌≡◌, refl, sym, ◌∙◌, ap, subst, ℕ, ◌⊎◌, inl, inr, Bool, true, false, not, ◌&&◌, ◌||◌, List, [], ◌∷◌, Option, Some, None, option_and_then, is_some, if◌then◌else◌, eq-eqb, list_all, option_or, str_to_ascii_lowercase, and_parts, and_from, unless, first_of_all, TimestampFormat, same_kind, is_scalar, Schema, element_of, member_at, Binding, to_header, to_query, to_label, to_payload, to_body, binding_of, is_outside_body, is_bound, ShapeType, Value, Writes, no_writes, write, Write, list_of, fits, fits_member, is_null, is_in_range, are_writes_in_range, is_shaped, fits_at, settled, settled_elements, inserted_at, texts, query_names, kind_or_none, pairs_with, place_at, is_payload, is_codec_kind, has_bound_kind, has_element, is_header_kind, same_format, no_year, item_fault, element_fault, wrong_item_kind, key_fault, year_fault, pairs_fault, is_placed_at, member_view, bound_view_at, unless_empty, is_empty_value, with_own_elements, is_one_of, has_distinct_keys, has_own_formats, has_no_default_name, default_names}
+use Rattle.smithy_unambiguity.proofs.Common.{◌≡◌, refl, sym, ◌∙◌, ap, subst, ℕ, Bool, true, false, not, ◌&&◌, ◌||◌, List, [], ◌∷◌, Option, Some, None, option_and_then, is_some, if◌then◌else◌, eq-eqb, list_all, option_or, str_to_ascii_lowercase, and_parts, and_from, unless, first_of_all, TimestampFormat, same_kind, is_scalar, Schema, element_of, member_at, Binding, to_header, to_query, to_label, to_payload, to_body, binding_of, is_outside_body, is_bound, ShapeType, Value, Writes, no_writes, write, Write, list_of, fits, fits_member, is_null, is_in_range, are_writes_in_range, is_shaped, settled, settled_elements, inserted_at, texts, query_names, kind_or_none, pairs_with, place_at, is_payload, is_codec_kind, has_bound_kind, has_element, is_header_kind, same_format, no_year, item_fault, element_fault, wrong_item_kind, key_fault, year_fault, pairs_fault, is_placed_at, member_view, bound_view_at, unless_empty, is_empty_value, with_own_elements, is_one_of, has_distinct_keys, has_own_formats, has_no_default_name, default_names, ⊎_elim}
 use Rattle.smithy_serde.specs.Values as value
 use Rattle.smithy_ids.specs.declared.shape_type.ShapeType.TheVariants as kind
 use Rattle.smithy_unambiguity.proofs.ByMember.{at_member, first_value}
@@ -21,7 +21,9 @@ use Rattle.smithy_unambiguity.proofs.ViewTyped.{IsViewed}
 pub free_viewed : (m : Schema) (u : Value) → binding_of m ≡ to_body → is_shaped (Some m) u ≡ true → IsViewed m u
 free_viewed m u in_body shaped =
     record {
-      fits = go (shaped_fits (Some m) u shaped);
+      fits =
+          ⊎_elim (λ null. ap (fits_member m) null ∙ ap (λ b. false || (true && not b)) free)
+          (λ fit. ap (λ t. t || (is_null u && not (is_bound m))) (and_parts (is_in_range u) (fits m.node.kind u) fit).1) (shaped_fits (Some m) u shaped);
       in_range = shaped_range (Some m) u shaped;
       fault = λ placed. let q : true ≡ false = sym placed ∙ ap is_placed_at in_body in absurd (cc q);
       typed = ap (λ b. not (is_placed_at b) || (has_distinct_keys u && has_own_formats m u)) in_body;
@@ -34,12 +36,6 @@ free_viewed m u in_body shaped =
 
     nothing : has_no_default_name to_body (at_member 0 m u) ≡ true
     nothing = ap (λ b. list_all (λ (p : List ℕ × List ℕ). not (is_one_of p.0 default_names)) (inserted_at b m u)) in_body
-
-    go : (u ≡ (value.scalar value.null)) ⊎ (fits_at (Some m) u ≡ true) → fits_member m u ≡ true
-    go (inl null) = ap (fits_member m) null ∙ ap (λ b. false || (true && not b)) free
-    go (inr fit) =
-        let parts = and_parts (is_in_range u) (fits m.node.kind u) fit in
-        ap (λ t. t || (is_null u && not (is_bound m))) parts.1
 
 -- a placed member is no payload
 no_payload : (b : Binding) → is_placed_at b ≡ true → is_payload b ≡ false

@@ -1,5 +1,5 @@
 -- What is kept of what is read, as stored values over a table.
-use Rattle.std.specs.Prelude.{◌≡◌, ℕ, List, [], ◌∷◌, Option, Some, None, Result, Ok, Err, IfOk}
+use Rattle.std.specs.Prelude.{◌≡◌, ℕ, List, [], ◌∷◌, Option, Some, None, Result, Ok, Err, IfOk, option_map}
 use Rattle.smithy_http.specs.Facts.{values_of_name}
 use Rattle.smithy_schema.specs.Nodes.{Schema, Table}
 use Rattle.smithy_serde.specs.Held.{Held}
@@ -51,6 +51,10 @@ abbrev pub KeepsPart : Table → Option (Option Value) → Result (Option ShapeV
 KeepsPart t part (Ok o) = IsPartRead t part o
 KeepsPart t part (Err NotPlaced) = part ≡ None
 KeepsPart t part (Err OutOfMemory) = Unit {0}
+
+-- what is kept of a value is kept as what stands there of a member
+abbrev pub KeepsWritten : (value : Result ShapeValue RecoverError) → Result (Option ShapeValue) RecoverError → Type 0
+KeepsWritten value result = (t : Table) (read : Option Value) → Keeps t read value → KeepsPart t (option_map (λ v. Some v) read) result
 
 abbrev pub KeepsPartOf : Schema → (Schema → Option (Option Value)) → Result (Option ShapeValue) RecoverError → Type 0
 KeepsPartOf m part result = KeepsPart m.table (part m) result

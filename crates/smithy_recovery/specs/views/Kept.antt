@@ -8,8 +8,9 @@ use Rattle.std.specs.Ordering.{nat_cmp}
 use Rattle.smithy_types.specs.Texts.{found}
 use Rattle.smithy_strings.specs.Escapes.{decoded}
 use Rattle.smithy_binding.specs.declared.template.CutHole.{CutHole}
+use Rattle.smithy_binding.specs.views.CutTemplate.{behind_holes, literal_alone}
 use Rattle.smithy_recovery.specs.declared.path_texts.LabelText.{LabelText}
-use Rattle.smithy_recovery.specs.PathParts.{behind_front, part_by}
+use Rattle.smithy_recovery.specs.PathParts.{behind_front, part_by, path_texts}
 
 -- a label with its text
 abbrev pub label_seen : LabelText → List ℕ × List ℕ
@@ -17,6 +18,10 @@ label_seen l = (l.name.now, l.text)
 
 abbrev pub labels_seen : Vec LabelText Global → List (List ℕ × List ℕ)
 labels_seen labels = map label_seen labels.items
+
+-- the texts of holes in a path, the last of them before a last literal
+abbrev pub texts_cut : List CutHole → (last path : List ℕ) → Option (List (List ℕ × List ℕ))
+texts_cut holes last path = path_texts (behind_holes holes (literal_alone last)) path
 
 -- the text under a name
 unfoldable pub text_under : BTreeMap (Bor (List ℕ)) (Bor (List ℕ)) → List ℕ → Option (List ℕ)

@@ -71,5 +71,5 @@ abbrev pub AreDefinedWith : (key value : ℕ) → WriteList → Type 0
 AreDefinedWith key value ws = (t : Table) → HasNode t key → HasNode t value → AreDefined t ws
 
 -- where a table has these nodes and those of the value, it still has all nodes of the writes
-abbrev pub StaysDefined : (key value : ℕ) → ShapeValue → (before after : WriteList) → Type 0
-StaysDefined key value v before after = (t : Table) → HasNode t key → HasNode t value → IsDefined t v → AreDefined t before → AreDefined t after
+abbrev pub StaysDefinedAt : (key value : ℕ) → ShapeValue → (before after : WriteList) → Type 0
+StaysDefinedAt key value v before after = (t : Table) → HasNode t key → HasNode t value → IsDefined t v → AreDefined t before → AreDefined t after

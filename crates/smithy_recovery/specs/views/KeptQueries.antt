@@ -77,6 +77,10 @@ is_to_come names es key = if is_named names key then false else not (has_key key
 abbrev pub key_to_come : QueryNames → Entries → List ℕ → Option (Option (List ℕ))
 key_to_come names es name = option_map (λ key. only_if (is_to_come names es key) key) (unescaped name)
 
+-- the key of a name is told, whichever table the entries are over
+abbrev pub TellsKey : QueryNames → KeptValues → (name : List ℕ) → Result (Option (List ℕ)) RecoverError → Type 0
+TellsKey names entries name result = (t : Table) → Finds (λ k. k) result (key_to_come names (entries_in t entries) name)
+
 -- the value of an entry by its pieces
 abbrev pub value_under : Option Schema → List (List ℕ) → Option Value
 value_under here ps = option_and_then (entry_value here) (each piece_text ps)

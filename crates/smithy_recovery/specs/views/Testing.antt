@@ -4,16 +4,17 @@ use Rattle.std.specs.Borrow.{Bor}
 use Rattle.std.specs.Global.{Global}
 use Rattle.smithy_schema.specs.Nodes.{Schema, Table, shape, members_of}
 use Rattle.smithy_schema.specs.References.{schema_of}
+use Rattle.smithy_schema.specs.declared.parts.SchemaIndex.{SchemaIndex}
 use Rattle.smithy_schema.specs.declared.schema_ref.SchemaRef.{SchemaRef}
 use Rattle.smithy_serde.specs.Ranges.{is_in_range}
 use Rattle.smithy_serde.specs.Shaped.{named_member, is_shaped}
-use Rattle.smithy_serde.specs.StoredValues.{value_in, writes_in, IsDefined}
+use Rattle.smithy_serde.specs.StoredValues.{value_in, write_in, writes_in, IsDefined}
 use Rattle.smithy_serde.specs.Values as value
 use Rattle.smithy_serde.specs.Values.{Label, Value, Writes, list_of, keys_of}
 use Rattle.smithy_serde.specs.declared.value.ShapeValue.{ShapeValue}
 use Rattle.smithy_serde.specs.declared.value.WriteList.{WriteList}
 use Rattle.smithy_recovery.specs.views.ShapedParts.{takes_map, is_part_shaped}
-use Rattle.smithy_recovery.specs.TypedWrites.{has_no_default, member_by_index, has_typed_writes}
+use Rattle.smithy_recovery.specs.TypedWrites.{has_no_default, member_by_index, is_typed_write, has_typed_writes}
 
 -- where there is memory, what the test says of the value by its member
 abbrev pub Tests : {E : Type 0} → (Schema → Value → Bool) → SchemaRef → Table → ShapeValue → Result Bool E → Type 0
@@ -39,6 +40,10 @@ TestsPart is_key node t v result = IfOk result (λ b. b ≡ is_part_shaped is_ke
 abbrev pub TestsNames : {E : Type 0} → List ℕ → SchemaRef → Table → WriteList → Result Bool E → Type 0
 TestsNames prefix member t entries result =
     IfOk result (λ b. b ≡ has_no_default prefix (schema_of member) (value.map (writes_in t entries)))
+
+-- of a write, whether it is a typed input's
+abbrev pub TestsWrite : {E : Type 0} → SchemaRef → Table → SchemaIndex → ShapeValue → Result Bool E → Type 0
+TestsWrite schema t node v result = IfOk result (λ b. b ≡ is_typed_write (schema_of schema) (write_in t node v))
 
 -- of the writes of an input, whether they are a typed one's
 abbrev pub TestsInput : {E : Type 0} → SchemaRef → Table → WriteList → Result Bool E → Type 0

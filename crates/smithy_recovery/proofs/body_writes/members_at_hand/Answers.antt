@@ -25,7 +25,7 @@ returns-in-Err g c =
     let t = c.args.table.now in
     record {
       writes = λ h told.
-          members_refused t (value_of_structure value_read m h) c.in-Err.error c.not_read.result
-          (subst (λ o. Gives (structure_in t) (option_map (value_of_structure value_read m) o) (Err c.in-Err.error)) told c.in-Err.ensures.gives) c.not_read.ensures;
+          rw c.from.ensures
+          (members_refused t (value_of_structure value_read m h) c.in-Err.error (subst (λ o. Gives (structure_in t) (option_map (value_of_structure value_read m) o) (Err c.in-Err.error)) told c.in-Err.ensures.gives));
       defined = tt;
     }

@@ -28,6 +28,6 @@ returns-in-Err g c =
     let own : at_place t c.own_place.result.0 ≡ Some m = subst (λ t. at_place t c.own_place.result.0 ≡ Some m) c.requires.table c.own_place.ensures in
     record {
       value = λ h told.
-          read_refused t (value_read m h) c.in-Err.error c.not_read.result (subst (λ o. Gives (value_in t) (option_map (value_read m) o) (Err c.in-Err.error)) told (c.in-Err.ensures.gives m own)) c.not_read.ensures;
+          rw c.from.ensures (read_refused t (value_read m h) c.in-Err.error (subst (λ o. Gives (value_in t) (option_map (value_read m) o) (Err c.in-Err.error)) told (c.in-Err.ensures.gives m own)));
       defined = tt;
     }

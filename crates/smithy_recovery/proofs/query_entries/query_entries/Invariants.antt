@@ -8,9 +8,9 @@ use Rattle.smithy_recovery.proofs.query_entries.query_entries.Given as goal
 abbrev pub invariant-loop-piece : goal.invariant-loop-piece
 invariant-loop-piece l =
     record {
-      entries : pieces_put l.own l.pieces l.names (Some (schema_of l.node)) (pieces_left l.rest) (entries_in (schema_of l.node).table l.entries)
-          ≡ pieces_put l.own l.pieces l.names (Some (schema_of l.node)) (query_pieces l.target) [];
-      defined : AreKeptDefined (schema_of l.node).table l.entries;
+      entries : pieces_put l.own l.pieces l.names (Some (schema_of l.here)) (pieces_left l.rest) (entries_in (schema_of l.here).table l.entries)
+          ≡ pieces_put l.own l.pieces l.names (Some (schema_of l.here)) (query_pieces l.target) [];
+      defined : AreKeptDefined (schema_of l.here).table l.entries;
     }
 
 abbrev pub decreases-loop-piece : goal.decreases-loop-piece

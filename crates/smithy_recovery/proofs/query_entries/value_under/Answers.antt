@@ -11,11 +11,11 @@ use Rattle.smithy_recovery.proofs.query_entries.value_under.Goals as goal
 
 pub returns-in_err-texts : goal.returns-in_err-texts
 returns-in_err-texts c =
-    let n = schema_of c.args.node in
+    let n = schema_of c.args.here in
     text_refused n.table (each piece_text (shown c.args.pieces.now)) (value_under (Some n) (shown c.args.pieces.now)) c.in_err-texts.field-0.0 c.from_residual.result (search rules)
     (λ none. ap (option_and_then (entry_value (Some n))) none) c.in_err-texts.ensures
 
 pub returns : goal.returns
 returns c =
-    let n = schema_of c.args.node in
+    let n = schema_of c.args.here in
     subst (λ o. Keeps n.table (option_and_then (entry_value (Some n)) o) c.entry_value.result) (ap (λ ts. Some ts) c.as_slice.ensures ∙ sym c.in_ok-texts.ensures) c.entry_value.ensures

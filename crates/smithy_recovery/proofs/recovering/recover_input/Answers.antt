@@ -4,7 +4,7 @@ use Rattle.smithy_serde.specs.StoredValues.{writes_in}
 use Rattle.smithy_serde.specs.StructValues.{members_of}
 use Rattle.smithy_serde.specs.Values.{list_of}
 use Rattle.smithy_recovery.specs.Recovered.{Reading, reading_by, is_placed_so}
-use Rattle.smithy_recovery.specs.Recovering.{are_typed}
+use Rattle.smithy_recovery.specs.views.Stages.{are_typed}
 use Rattle.smithy_recovery.proofs.Decided.{IsSoundReading, input_recovered, none_typed, none_placed}
 use Rattle.smithy_recovery.proofs.Outcomes.{not_read, not_tested, read_over}
 use Rattle.smithy_recovery.proofs.recovering.recover_input.Goals as goal

@@ -1,4 +1,4 @@
-use Rattle.smithy_unambiguity.proofs.ViewTarget.{facts_decide}
+use Rattle.smithy_unambiguity.proofs.Join.{facts_decide}
 use Rattle.smithy_unambiguity.proofs.laws.facts_decide_view.Goals as goal
 
 pub returns : goal.returns

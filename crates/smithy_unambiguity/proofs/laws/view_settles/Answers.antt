@@ -1,4 +1,4 @@
-use Rattle.smithy_unambiguity.proofs.ViewTarget.{settles, normal_form_typed}
+use Rattle.smithy_unambiguity.proofs.Join.{settles, normal_form_typed}
 use Rattle.smithy_unambiguity.proofs.laws.view_settles.Goals as goal
 
 pub returns-clause-settles : goal.returns-clause-settles

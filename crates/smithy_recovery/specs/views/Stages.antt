@@ -1,0 +1,51 @@
+-- What the stages of the way back answer: the tests of the writes that were read, and the placing of the input that they are.
+use Rattle.std.specs.Prelude.{◌≡◌, ℕ, Bool, false, ◌&&◌, List, Option, Result, Ok, Err, IfOk}
+use Rattle.smithy_types.specs.Documents.{Document}
+use Rattle.smithy_http.specs.Requests.{Request}
+use Rattle.smithy_schema.specs.Nodes.{Schema, Table}
+use Rattle.smithy_schema.specs.References.{schema_of}
+use Rattle.smithy_schema.specs.declared.schema_ref.SchemaRef.{SchemaRef}
+use Rattle.smithy_serde.specs.Held.{Held}
+use Rattle.smithy_serde.specs.StoredValues.{writes_in}
+use Rattle.smithy_serde.specs.StructValues.{members_of}
+use Rattle.smithy_serde.specs.Values.{Write, list_of}
+use Rattle.smithy_serde.specs.declared.struct_value.StructValue.{StructValue}
+use Rattle.smithy_serde.specs.declared.value.WriteList.{WriteList}
+use Rattle.smithy_binding.specs.Answer.{place}
+use Rattle.smithy_binding.specs.Placing.{OmitFlags}
+use Rattle.smithy_binding.specs.Protocols.{Parts, protocol_of}
+use Rattle.smithy_binding.specs.Typed.{has_clear_template}
+use Rattle.smithy_recovery.specs.Finding.{Finds}
+use Rattle.smithy_recovery.specs.Recovered.{reading_by, is_placed_so}
+use Rattle.smithy_recovery.specs.Recovering.{RecoversBy}
+use Rattle.smithy_recovery.specs.TypedWrites.{has_typed_writes}
+use Rattle.smithy_recovery.specs.declared.error.RecoverError.{RecoverError}
+use Rattle.smithy_recovery.specs.declared.error.RecoverError.TheVariants.{NotPlaced, OutOfMemory}
+
+-- what is asked of the writes of a typed input alone, and of its template
+abbrev pub are_typed : Schema → List ℕ → List Write → Bool
+are_typed schema endpoint ws = has_typed_writes schema ws && has_clear_template schema endpoint
+
+-- a test of code says that, over a table, where there is memory
+abbrev pub TellsTyped : {E : Type 0} → SchemaRef → List ℕ → Table → WriteList → Result Bool E → Type 0
+TellsTyped schema endpoint t ws result = IfOk result (λ b. b ≡ are_typed (schema_of schema) endpoint (list_of (writes_in t ws)))
+
+-- an outcome of code is the request of an input, if it has one
+abbrev pub Places : {C : Type 0} → (C → Document → List ℕ) → Parts C → SchemaRef → StructValue → List ℕ → OmitFlags → Result Request RecoverError → Type 0
+Places text p schema v endpoint omit result =
+    Finds (λ x. x) result (place (protocol_of text p) (schema_of schema) (list_of (members_of v)) endpoint omit)
+
+-- what a test says is this, where there is memory; a refusal says no
+abbrev pub Tells : Bool → Result Bool RecoverError → Type 0
+Tells test (Ok says) = test ≡ says
+Tells test (Err NotPlaced) = test ≡ false
+Tells test (Err OutOfMemory) = Unit {0}
+
+-- a test of code says whether the request of an input has the same facts
+abbrev pub TellsSame : {C : Type 0} → (C → Document → List ℕ) → (C → List ℕ → Option Held) → Parts C → SchemaRef → StructValue → List ℕ → OmitFlags → Request → Result Bool RecoverError → Type 0
+TellsSame text holds p schema v endpoint omit q result =
+    Tells (is_placed_so (reading_by text holds p (schema_of schema) endpoint) omit q (list_of (members_of v))) result
+
+-- an outcome of code is the input that is recovered by a node
+abbrev pub RecoversNode : {C : Type 0} → (C → Document → List ℕ) → (C → List ℕ → Option Held) → Parts C → SchemaRef → List ℕ → OmitFlags → Request → Result StructValue RecoverError → Type 0
+RecoversNode text holds p schema endpoint omit q result = RecoversBy text holds p (schema_of schema) endpoint omit q result
