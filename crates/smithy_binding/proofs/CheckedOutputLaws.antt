@@ -6,7 +6,7 @@ use Rattle.smithy_binding.proofs.JointTests.{both, all-both, all-parts, all-filt
 use Rattle.smithy_binding.proofs.Tests.{structure_from_test, structure_test, AreDistinct-from_test, are_distinct-from_facts}
 
 -- the response codes, among the members
-code_kinds : (schema : Schema) → list_all (λ m. same_kind m.node.kind kind.Integer) (members_with (λ t. t.http_response_code) schema) ≡ list_all has_code_kind (members_of schema)
+pub code_kinds : (schema : Schema) → list_all (λ m. same_kind m.node.kind kind.Integer) (members_with (λ t. t.http_response_code) schema) ≡ list_all has_code_kind (members_of schema)
 code_kinds schema = all-filter (λ m. same_kind m.node.kind kind.Integer) (λ m. m.node.traits.http_response_code) (members_of schema)
 
 pub IsCheckedOutput-from_test : (schema : Schema) → checked_output schema ≡ true → IsCheckedOutput schema

@@ -23,12 +23,19 @@ pub use Rattle.smithy_binding.specs.Faults.{Fault, behind, bound_fault, custom, 
 unfoldable pub use Rattle.smithy_binding.specs.Faults.{body_fault, legal_target, writes_fault}
 pub use Rattle.smithy_binding.specs.Faults.{fault_of_document, hole_fault, is_placed_at, item_fault, key_fault, legal_fault, legal_or_fault}
 pub use Rattle.smithy_binding.specs.Faults.{missing_hole, nested_fault, no_member, no_year, pair_fault, pairs_fault, part_fault}
-pub use Rattle.smithy_binding.specs.Faults.{resolved_fault, value_fault, wrong_header, wrong_item_kind, wrong_kind}
+pub use Rattle.smithy_binding.specs.Faults.{resolved_fault_by, value_fault, wrong_header, wrong_item_kind, wrong_kind, writes_fault_by}
+pub use Rattle.smithy_binding.specs.Directions.{directed_node, directed_schema, directed_table}
 pub use Rattle.smithy_binding.specs.Filling.{fill, fill_rest, filled_by, keep_slashes}
+unfoldable pub use Rattle.smithy_binding.specs.Messages.{message_fault, message_headers}
+pub use Rattle.smithy_binding.specs.Outputs.{as_output}
+unfoldable pub use Rattle.smithy_binding.specs.Outputs.{placed_output}
 pub use Rattle.smithy_binding.specs.Placing.{OmitFlags, Protocol, adds_content_length, adds_content_type, all_headers, endpoint_or_slash}
 unfoldable pub use Rattle.smithy_binding.specs.Placing.{target_of}
 pub use Rattle.smithy_binding.specs.Placing.{method_of, pair_text, template_of, with_default, with_defaults, with_query}
 pub use Rattle.smithy_binding.specs.Refusing.{Answers, TellsFault}
+pub use Rattle.smithy_binding.specs.ResponseCodes.{code_write, is_label, status_value}
+unfoldable pub use Rattle.smithy_binding.specs.ResponseCodes.{written_code}
+pub use Rattle.smithy_binding.specs.declared.direction.Direction.{Direction}
 pub use Rattle.smithy_binding.specs.declared.template.CutHole.{CutHole}
 pub use Rattle.smithy_binding.specs.views.Checking.{are_sound, are_sound_response, count_of, have_sound_headers, have_sound_names}
 unfoldable pub use Rattle.smithy_binding.specs.views.Checking.{payload_in, shown}
@@ -37,6 +44,7 @@ pub use Rattle.smithy_binding.specs.views.Checking.{texts_shown}
 pub use Rattle.smithy_binding.specs.views.ClearParts.{are_whole_behind, is_greedy_last_behind, once_mark, times_named}
 unfoldable pub use Rattle.smithy_binding.specs.views.ClearParts.{is_marked_once}
 pub use Rattle.smithy_binding.specs.views.CutTemplate.{behind_hole, behind_holes, hole_shown, literal_alone, template_shown}
+pub use Rattle.smithy_binding.specs.views.Directed.{bound_fault_in, directed_of, status_fault_in}
 pub use Rattle.smithy_binding.specs.views.Entries.{entry_pairs, pairs_at_place, text_at, unnamed}
 unfoldable pub use Rattle.smithy_binding.specs.views.Entries.{has_key}
 pub use Rattle.smithy_binding.specs.views.Gather.{Gathered, add_or_fault, added, fault_at, gather_resolved, is_seen, labelled, nothing_yet}
@@ -56,9 +64,9 @@ pub use Rattle.smithy_http.specs.Headers.{put, put_all, without}
 pub use Rattle.smithy_http.specs.Requests.{Request}
 pub use Rattle.smithy_ids.specs.Kinds.{is_scalar, same_kind}
 pub use Rattle.smithy_ids.specs.declared.shape_type.ShapeType.{ShapeType}
-pub use Rattle.smithy_schema.specs.Nodes.{Binding, Http, Schema, Table, at_place, binding_at, binding_of, cites_nodes, is_bound}
+pub use Rattle.smithy_schema.specs.Nodes.{Binding, Http, Node, Schema, Table, at_place, binding_at, binding_of, cited, cites_nodes, element_of, is_bound}
 pub use Rattle.smithy_schema.specs.Nodes.{is_outside_body, key_of, member_at, members_of, to_body, to_header, to_label, to_payload}
-pub use Rattle.smithy_schema.specs.Nodes.{to_prefix, to_query, to_query_map, value_of}
+pub use Rattle.smithy_schema.specs.Nodes.{has_name, position_of_name, to_prefix, to_query, to_query_map, value_of}
 pub use Rattle.smithy_schema.specs.References.{schema_of}
 pub use Rattle.smithy_schema.specs.Templates.{Hole, Template, has_unclosed_brace, hole_of, holes_of, pieces_of_parts}
 unfoldable pub use Rattle.smithy_schema.specs.Templates.{pieces}

@@ -1,5 +1,5 @@
 -- The joint walk over the writes gives what the definitions say of faults, headers, pairs and labels.
-use Rattle.smithy_binding.proofs.Common.{◌≡◌, ◌≢◌, refl, ap, sym, ◌∙◌, Bool, true, false, ◌||◌, ◌==◌, List, ℕ, ◌<◌, [], ◌∷◌, ◌++◌, length, get_or, set, flat_map, Option, Some, None, option_map, option_and_then, option_to_list, append_assoc, if◌then◌else◌, eq-eqb, subst, get_or-set_other, get_or-set_same, slice_get, eqb-true, append-nil, length-set, get_or-replicate, length-replicate, list_any-append, cons_option, option_or, option_map_or, then_try, Schema, at_place, member_at, Write, Resolved, resolve, resolved, all_resolved, firsts_from, firsts, has_seen, put, put_all, inserted, headers, pairs, labels, Fault, writes_fault, resolved_fault, no_member, queries, Gathered, is_seen, placed, added, ok_unless, fault_at, gather_resolved, gather_one, gather, nothing_yet, pairs_of, labelled}
+use Rattle.smithy_binding.proofs.Common.{◌≡◌, ◌≢◌, refl, ap, sym, ◌∙◌, Bool, true, false, ◌||◌, ◌==◌, List, ℕ, ◌<◌, [], ◌∷◌, ◌++◌, length, get_or, set, flat_map, Option, Some, None, option_map, option_and_then, option_to_list, append_assoc, if◌then◌else◌, eq-eqb, subst, get_or-set_other, get_or-set_same, slice_get, eqb-true, append-nil, length-set, get_or-replicate, length-replicate, list_any-append, cons_option, option_or, option_map_or, then_try, Schema, at_place, member_at, Write, Resolved, resolve, resolved, all_resolved, firsts_from, firsts, has_seen, put, put_all, inserted, headers, pairs, labels, Direction, Fault, writes_fault_by, resolved_fault_by, bound_fault_in, no_member, queries, Gathered, is_seen, placed, added, ok_unless, fault_at, gather_resolved, gather_one, gather, nothing_yet, pairs_of, labelled}
 use Rattle.std.proofs.lemmas.Option.{slice_get_within}
 use Rattle.smithy_binding.proofs.ElementSteps.{queries-append}
 
@@ -88,27 +88,27 @@ abbrev pub gathered : Schema → Gathered → List Resolved → Gathered
 gathered schema s [] = s
 gathered schema s (r ∷ rs) = gathered schema (added schema s r) rs
 
-gather-fault : (schema : Schema) (s : Gathered) (seen : List ℕ) (ws : List Write) → Agrees schema s.seen seen
-    → gather schema s ws ≡ ok_unless (writes_fault schema seen ws) (gathered schema s (all_resolved schema ws))
-unfolding gather gather_one writes_fault
-gather-fault schema s seen [] a = refl
-gather-fault schema s seen (w ∷ ws) a = go (resolved schema w) refl (λ t seen b. gather-fault schema t seen ws b)
+gather-fault : (way : Direction) (schema : Schema) (s : Gathered) (seen : List ℕ) (ws : List Write) → Agrees schema s.seen seen
+    → gather way schema s ws ≡ ok_unless (writes_fault_by (bound_fault_in way) schema seen ws) (gathered schema s (all_resolved schema ws))
+unfolding gather gather_one
+gather-fault way schema s seen [] a = refl
+gather-fault way schema s seen (w ∷ ws) a = go (resolved schema w) refl (λ t seen b. gather-fault way schema t seen ws b)
   where
     step : (r : Resolved) (f g : Option Fault) (t : Gathered) → f ≡ g
-        → gather schema t ws ≡ ok_unless (writes_fault schema (seen ++ r.position ∷ []) ws) (gathered schema t (all_resolved schema ws))
-        → then_try (ok_unless f t) (λ t. gather schema t ws) ≡ ok_unless (option_or g (writes_fault schema (seen ++ r.position ∷ []) ws)) (gathered schema t (all_resolved schema ws))
+        → gather way schema t ws ≡ ok_unless (writes_fault_by (bound_fault_in way) schema (seen ++ r.position ∷ []) ws) (gathered schema t (all_resolved schema ws))
+        → then_try (ok_unless f t) (λ t. gather way schema t ws) ≡ ok_unless (option_or g (writes_fault_by (bound_fault_in way) schema (seen ++ r.position ∷ []) ws)) (gathered schema t (all_resolved schema ws))
     step r (Some f) g t e rest = rw (← e) refl
     step r None g t e rest = rw (← e) rest
 
     go : (o : Option Resolved) → resolved schema w ≡ o
-        → ((t : Gathered) (seen : List ℕ) → Agrees schema t.seen seen → gather schema t ws ≡ ok_unless (writes_fault schema seen ws) (gathered schema t (all_resolved schema ws)))
-        → then_try (gather_resolved schema s w o) (λ t. gather schema t ws)
-        ≡ ok_unless (option_or (option_map_or (resolved_fault seen) o (Some (no_member w.label))) (writes_fault schema (seen ++ option_to_list (resolve schema w.label)) ws)) (gathered schema s (cons_option o (all_resolved schema ws)))
+        → ((t : Gathered) (seen : List ℕ) → Agrees schema t.seen seen → gather way schema t ws ≡ ok_unless (writes_fault_by (bound_fault_in way) schema seen ws) (gathered schema t (all_resolved schema ws)))
+        → then_try (gather_resolved way schema s w o) (λ t. gather way schema t ws)
+        ≡ ok_unless (option_or (option_map_or (resolved_fault_by (bound_fault_in way) seen) o (Some (no_member w.label))) (writes_fault_by (bound_fault_in way) schema (seen ++ option_to_list (resolve schema w.label)) ws)) (gathered schema s (cons_option o (all_resolved schema ws)))
     go None e rest = refl
     go (Some r) e rest =
         let at = resolve-resolved schema w r e in
         let l = member-within schema r.position r.member at.1 in
-        rw at.0 (step r (fault_at (is_seen s r.position) r) (resolved_fault seen r) (added schema s r) (ap (λ b. fault_at b r) (a.same r.position l)) (rest (added schema s r) _ (Agrees-added schema s seen r a l)))
+        rw at.0 (step r (fault_at way (is_seen s r.position) r) (resolved_fault_by (bound_fault_in way) seen r) (added schema s r) (ap (λ b. fault_at way b r) (a.same r.position l)) (rest (added schema s r) _ (Agrees-added schema s seen r a l)))
 
 -- the same for the first writes alone
 abbrev all_placed : Schema → Gathered → List Resolved → Gathered
@@ -173,6 +173,6 @@ IsGathered-all schema ws =
     }
 
 -- the walk is the first fault, or else what is gathered
-pub gather-all : (schema : Schema) (ws : List Write)
-    → gather schema (nothing_yet schema) ws ≡ ok_unless (writes_fault schema [] ws) (gathered schema (nothing_yet schema) (all_resolved schema ws))
-gather-all schema ws = gather-fault schema (nothing_yet schema) [] ws (Agrees-none schema)
+pub gather-all : (way : Direction) (schema : Schema) (ws : List Write)
+    → gather way schema (nothing_yet schema) ws ≡ ok_unless (writes_fault_by (bound_fault_in way) schema [] ws) (gathered schema (nothing_yet schema) (all_resolved schema ws))
+gather-all way schema ws = gather-fault way schema (nothing_yet schema) [] ws (Agrees-none schema)

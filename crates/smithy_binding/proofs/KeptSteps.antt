@@ -1,17 +1,16 @@
 -- What is kept for the body, a write at a time.
-use Rattle.smithy_binding.proofs.Common.{◌≡◌, refl, ap, sym, ◌∙◌, ℕ, Bool, true, false, not, ◌||◌, ◌==◌, cond, List, [], ◌∷◌, ◌++◌, append_assoc, map, filter, find, slice_set, subst, Option, Some, None, option_map, Ok, if◌then◌else◌, IfSome, cons_option, option_or, option_map_or, eqb-true, append-nil, map-append, Schema, Table, Binding, to_body, to_payload, binding_of, is_bound, is_outside_body, member_at, fits_member, label_at, HasNode, value_in, IsDefined, listed, AreListedDefined, Value, Write, list_of, label_of, OneWrite, Resolved, resolved, all_resolved, firsts_from, has_seen, put_all, inserted_at, pairs_at, labelled_at, query_names, BodyParts, body_parts, is_payload, is_placed_at, bound_fault, Gathered, is_seen, add_or_fault, first_fault, finds, queries, no_parts, kept_at, keep, keep_all, write_in, unbound_in, kept_in, IsEmpty, AreDefinedWrites, IsKeptDefined}
+use Rattle.smithy_binding.proofs.Common.{◌≡◌, refl, ap, sym, ◌∙◌, ℕ, Bool, true, false, not, ◌||◌, ◌==◌, cond, List, [], ◌∷◌, ◌++◌, append_assoc, map, filter, find, slice_set, subst, Option, Some, None, option_map, Ok, if◌then◌else◌, IfSome, cons_option, option_or, option_map_or, eqb-true, append-nil, map-append, Schema, Table, Binding, to_body, to_payload, binding_of, is_bound, is_outside_body, member_at, fits_member, label_at, HasNode, value_in, IsDefined, listed, AreListedDefined, Value, Write, list_of, label_of, OneWrite, Resolved, resolved, all_resolved, firsts_from, has_seen, put_all, inserted_at, pairs_at, labelled_at, query_names, BodyParts, body_parts, is_payload, is_placed_at, Direction, Gathered, is_seen, add_or_fault, finds, queries, no_parts, kept_at, keep, keep_all, write_in, unbound_in, kept_in, IsEmpty, AreDefinedWrites, IsKeptDefined}
 use Rattle.smithy_binding.specs.views.KeptWrites.{value_of}
 use Rattle.smithy_binding.specs.declared.body_writes.BodyWrite.{BodyWrite}
 use Rattle.smithy_binding.specs.declared.body_writes.BodyWrites.{BodyWrites}
 use Rattle.smithy_binding.proofs.Gathers.{resolve-resolved, seen_next}
-use Rattle.smithy_binding.proofs.WriteSteps.{add-first, kept-at}
+use Rattle.smithy_binding.proofs.WriteSteps.{add-body, kept-at}
 
 -- the first write of a member of the body is marked alone
-pub add-unplaced : (schema : Schema) (s : Gathered) (r : Resolved) → fits_member r.member r.value ≡ true → is_seen s r.position ≡ false → is_placed_at (binding_of r.member) ≡ false
-    → add_or_fault schema s r ≡ Ok (record s { seen = slice_set s.seen r.position true })
-add-unplaced schema s r fits unseen unplaced =
-    let none : first_fault r.member r.value ≡ None = ap (λ (b : Bool). if b then bound_fault (record { position = 0; member = r.member; value = r.value }) else None) unplaced in
-    add-first schema s r fits unseen none ∙ ap (λ (g : Gathered). Ok g) (go (binding_of r.member) unplaced)
+pub add-unplaced : (way : Direction) (schema : Schema) (s : Gathered) (r : Resolved) → fits_member r.member r.value ≡ true → is_seen s r.position ≡ false → is_placed_at (binding_of r.member) ≡ false
+    → add_or_fault way schema s r ≡ Ok (record s { seen = slice_set s.seen r.position true })
+add-unplaced way schema s r fits unseen unplaced =
+    add-body way schema s r unplaced fits unseen ∙ ap (λ (g : Gathered). Ok g) (go (binding_of r.member) unplaced)
   where
     marks : List Bool
     marks = slice_set s.seen r.position true

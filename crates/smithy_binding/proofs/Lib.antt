@@ -1,3 +1,4 @@
+pub mod Codes
 pub mod Common
 pub mod CheckedLaws
 pub mod CheckedMethods
@@ -5,6 +6,7 @@ pub mod CheckedOutputLaws
 pub mod CheckingLemmas
 pub mod ClearLemmas
 pub mod DecimalValues
+pub mod Directions
 pub mod DistinctNames
 pub mod ElementSteps
 pub mod Ends
@@ -23,6 +25,7 @@ pub mod ListWrites
 pub mod LowerNames
 pub mod MapEntries
 pub mod MemberSteps
+pub mod MessageEnds
 pub mod OnLiterals
 pub mod PayloadMembers
 pub mod PieceLemmas

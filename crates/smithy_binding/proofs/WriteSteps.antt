@@ -1,6 +1,7 @@
 -- A list of writes, a write at a time.
-use Rattle.smithy_binding.proofs.Common.{◌≡◌, refl, ap, ◌∙◌, subst, ℕ, zero, suc, ◌+◌, Bool, true, false, ◌&&◌, List, [], ◌∷◌, drop, filter_map, slice_get, slice_set, arith, Option, Some, None, option_map, option_and_then, Ok, Err, if◌then◌else◌, list_all, cons_option, option_map_or, and_parts, Schema, Table, at_place, member_at, members_of, binding_of, label_at, value_in, listed, Write, list_of, OneWrite, Resolved, resolve, resolved, all_resolved, fits_member, Fault, no_member, wrong_kind, bound_fault, is_placed_at, Gathered, is_seen, placed, ok_unless, gather, gather_one, gather_resolved, add_or_fault, placed_first, first_fault, found_at, finds}
+use Rattle.smithy_binding.proofs.Common.{◌≡◌, refl, ap, ◌∙◌, subst, ℕ, zero, suc, ◌+◌, Bool, true, false, ◌&&◌, List, [], ◌∷◌, drop, filter_map, slice_get, slice_set, arith, Option, Some, None, option_map, option_and_then, Ok, Err, if◌then◌else◌, list_all, cons_option, option_map_or, option_or, and_parts, Schema, Table, at_place, member_at, members_of, binding_of, label_at, value_in, listed, Write, list_of, OneWrite, Resolved, resolve, resolved, all_resolved, fits_member, Direction, Fault, no_member, wrong_kind, bound_fault, bound_fault_in, status_fault_in, is_placed_at, Gathered, is_seen, placed, ok_unless, gather, gather_one, gather_resolved, add_or_fault, placed_first, first_fault, found_at, finds}
 use Rattle.smithy_serde.specs.Values.{Label}
+use Rattle.smithy_binding.specs.declared.direction.Direction.TheVariants as direction
 
 pub drop-some : {X : Type 0} (xs : List X) (i : ℕ) (x : X) → slice_get xs i ≡ Some x → drop i xs ≡ x ∷ drop (i + 1) xs
 drop-some [] i x e = absurd (cc e)
@@ -14,23 +15,23 @@ drop-none (y ∷ ys) zero e = absurd (cc e)
 drop-none (y ∷ ys) (suc i) e = drop-none ys i e
 
 -- a write further
-module _ (t : Table) (schema : Schema) (s : Gathered) (x : OneWrite) (rest more : List OneWrite) (steps : rest ≡ x ∷ more) where
-  pub gather-more : (next : Gathered) → gather_one schema s (record { label = label_at t x.node.0; value = value_in t x.value }) ≡ Ok next
-      → gather schema s (list_of (listed t rest)) ≡ gather schema next (list_of (listed t more))
+module _ (t : Table) (way : Direction) (schema : Schema) (s : Gathered) (x : OneWrite) (rest more : List OneWrite) (steps : rest ≡ x ∷ more) where
+  pub gather-more : (next : Gathered) → gather_one way schema s (record { label = label_at t x.node.0; value = value_in t x.value }) ≡ Ok next
+      → gather way schema s (list_of (listed t rest)) ≡ gather way schema next (list_of (listed t more))
   unfolding gather
   gather-more next e = rw (steps, e) refl
 
-  pub gather-stop : (f : Fault) → gather_one schema s (record { label = label_at t x.node.0; value = value_in t x.value }) ≡ Err f
-      → gather schema s (list_of (listed t rest)) ≡ Err f
+  pub gather-stop : (f : Fault) → gather_one way schema s (record { label = label_at t x.node.0; value = value_in t x.value }) ≡ Err f
+      → gather way schema s (list_of (listed t rest)) ≡ Err f
   unfolding gather
   gather-stop f e = rw (steps, e) refl
 
-pub gather-end : (t : Table) (schema : Schema) (s : Gathered) (rest : List OneWrite) → rest ≡ [] → gather schema s (list_of (listed t rest)) ≡ Ok s
+pub gather-end : (t : Table) (way : Direction) (schema : Schema) (s : Gathered) (rest : List OneWrite) → rest ≡ [] → gather way schema s (list_of (listed t rest)) ≡ Ok s
 unfolding gather
-gather-end t schema s rest none = rw none refl
+gather-end t way schema s rest none = rw none refl
 
 -- the member that a write is for, if there is one
-resolved-is : (schema : Schema) (w : Write) → resolved schema w ≡ option_map (λ r. record { position = r.0; member = r.1; value = w.value }) (finds schema w.label)
+pub resolved-is : (schema : Schema) (w : Write) → resolved schema w ≡ option_map (λ r. record { position = r.0; member = r.1; value = w.value }) (finds schema w.label)
 resolved-is schema w = go (resolve schema w.label)
   where
     member : (i : ℕ) (o : Option Schema) → ◌≡◌ {A = Option Resolved} (option_map (λ m. record { position = i; member = m; value = w.value }) o)
@@ -43,14 +44,14 @@ resolved-is schema w = go (resolve schema w.label)
     go None = refl
     go (Some i) = member i (member_at schema i)
 
-pub gather_one-at : (schema : Schema) (s : Gathered) (w : Write) (i : ℕ) (m : Schema) → finds schema w.label ≡ Some (i, m)
-    → gather_one schema s w ≡ add_or_fault schema s (record { position = i; member = m; value = w.value })
+pub gather_one-at : (way : Direction) (schema : Schema) (s : Gathered) (w : Write) (i : ℕ) (m : Schema) → finds schema w.label ≡ Some (i, m)
+    → gather_one way schema s w ≡ add_or_fault way schema s (record { position = i; member = m; value = w.value })
 unfolding gather_one
-gather_one-at schema s w i m e = ap (gather_resolved schema s w) (resolved-is schema w ∙ ap (option_map (λ (r : ℕ × Schema). record { position = r.0; member = r.1; value = w.value })) e)
+gather_one-at way schema s w i m e = ap (gather_resolved way schema s w) (resolved-is schema w ∙ ap (option_map (λ (r : ℕ × Schema). record { position = r.0; member = r.1; value = w.value })) e)
 
-pub gather_one-none : (schema : Schema) (s : Gathered) (w : Write) → finds schema w.label ≡ None → gather_one schema s w ≡ Err (no_member w.label)
+pub gather_one-none : (way : Direction) (schema : Schema) (s : Gathered) (w : Write) → finds schema w.label ≡ None → gather_one way schema s w ≡ Err (no_member w.label)
 unfolding gather_one
-gather_one-none schema s w e = ap (gather_resolved schema s w) (resolved-is schema w ∙ ap (option_map (λ (r : ℕ × Schema). record { position = r.0; member = r.1; value = w.value })) e)
+gather_one-none way schema s w e = ap (gather_resolved way schema s w) (resolved-is schema w ∙ ap (option_map (λ (r : ℕ × Schema). record { position = r.0; member = r.1; value = w.value })) e)
 
 -- and its place
 pub found-member : (schema : Schema) (l : Label) (i : ℕ) (m : Schema) → finds schema l ≡ Some (i, m) → member_at schema i ≡ Some m
@@ -72,33 +73,52 @@ pub kept-at : (schema : Schema) (w : Write) (i : ℕ) (m : Schema) → finds sch
 kept-at schema w i m e = ap (λ (o : Option Resolved). cons_option o []) (resolved-is schema w ∙ ap (option_map (λ (r : ℕ × Schema). record { position = r.0; member = r.1; value = w.value })) e)
 
 -- a value that doesn't fit
-pub add-wrong : (schema : Schema) (s : Gathered) (r : Resolved) → fits_member r.member r.value ≡ false → add_or_fault schema s r ≡ Err (wrong_kind r.member r.value)
-add-wrong schema s r e = rw e refl
+pub add-wrong : (way : Direction) (schema : Schema) (s : Gathered) (r : Resolved) → fits_member r.member r.value ≡ false → add_or_fault way schema s r ≡ Err (wrong_kind r.member r.value)
+add-wrong way schema s r e = rw e refl
 
 -- a later write of a member
-pub add-again : (schema : Schema) (s : Gathered) (r : Resolved) → fits_member r.member r.value ≡ true → is_seen s r.position ≡ true → add_or_fault schema s r ≡ Ok s
-add-again schema s r e seen = rw (e, seen) (go (is_placed_at (binding_of r.member)))
+pub add-again : (way : Direction) (schema : Schema) (s : Gathered) (r : Resolved) → fits_member r.member r.value ≡ true → is_seen s r.position ≡ true → add_or_fault way schema s r ≡ Ok s
+add-again way schema s r e seen = rw (e, seen) (go (is_placed_at (binding_of r.member)))
   where
-    go : (b : Bool) → ok_unless (if b && false then bound_fault r else None) s ≡ Ok s
+    go : (b : Bool) → ok_unless (if b && false then bound_fault_in way r else None) s ≡ Ok s
     go true = refl
     go false = refl
 
-add-unseen : (schema : Schema) (s : Gathered) (r : Resolved) → fits_member r.member r.value ≡ true → is_seen s r.position ≡ false
-    → add_or_fault schema s r ≡ ok_unless (first_fault r.member r.value) (placed schema s r)
-add-unseen schema s r e unseen = rw (e, unseen) (go (is_placed_at (binding_of r.member)))
+-- what the direction asks further comes behind the fault of the value
+further : (way : Direction) (r : Resolved) → bound_fault_in way r ≡ option_or (bound_fault r) (status_fault_in way (binding_of r.member) r.value)
+further direction.Request r = go (bound_fault r)
   where
-    go : (b : Bool) → ok_unless (if b && true then bound_fault r else None) (placed schema s r) ≡ ok_unless (if b then bound_fault r else None) (placed schema s r)
-    go true = refl
-    go false = refl
+    go : (o : Option Fault) → o ≡ option_or o None
+    go None = refl
+    go (Some f) = refl
+further direction.Response r = refl
 
--- the first write of a member
-pub add-first : (schema : Schema) (s : Gathered) (r : Resolved) → fits_member r.member r.value ≡ true → is_seen s r.position ≡ false → first_fault r.member r.value ≡ None
-    → add_or_fault schema s r ≡ Ok (record (placed_first schema r.member r.value s) { seen = slice_set s.seen r.position true })
-add-first schema s r e unseen none = add-unseen schema s r e unseen ∙ ap (λ o. ok_unless o (placed schema s r)) none
+abbrev both_faults : Direction → Resolved → Option Fault
+both_faults way r = option_or (first_fault r.member r.value) (status_fault_in way (binding_of r.member) r.value)
 
-pub add-fault : (schema : Schema) (s : Gathered) (r : Resolved) (f : Fault) → fits_member r.member r.value ≡ true → is_seen s r.position ≡ false → first_fault r.member r.value ≡ Some f
-    → add_or_fault schema s r ≡ Err f
-add-fault schema s r f e unseen some = add-unseen schema s r e unseen ∙ ap (λ o. ok_unless o (placed schema s r)) some
+add-unseen : (way : Direction) (schema : Schema) (s : Gathered) (r : Resolved) → is_placed_at (binding_of r.member) ≡ true → fits_member r.member r.value ≡ true → is_seen s r.position ≡ false
+    → add_or_fault way schema s r ≡ ok_unless (both_faults way r) (placed schema s r)
+add-unseen way schema s r bound e unseen = rw (e, unseen, bound) (ap (λ o. ok_unless o (placed schema s r)) (further way r))
+
+-- the first write of a member of the body
+pub add-body : (way : Direction) (schema : Schema) (s : Gathered) (r : Resolved) → is_placed_at (binding_of r.member) ≡ false → fits_member r.member r.value ≡ true → is_seen s r.position ≡ false
+    → add_or_fault way schema s r ≡ Ok (placed schema s r)
+add-body way schema s r bound e unseen = rw (e, unseen, bound) refl
+
+-- the first write of another member
+pub add-first : (way : Direction) (schema : Schema) (s : Gathered) (r : Resolved) → is_placed_at (binding_of r.member) ≡ true → fits_member r.member r.value ≡ true → is_seen s r.position ≡ false → first_fault r.member r.value ≡ None
+    → status_fault_in way (binding_of r.member) r.value ≡ None
+    → add_or_fault way schema s r ≡ Ok (record (placed_first schema r.member r.value s) { seen = slice_set s.seen r.position true })
+add-first way schema s r bound e unseen none code = add-unseen way schema s r bound e unseen ∙ (λ i. ok_unless (option_or (none i) (code i)) (placed schema s r))
+
+pub add-fault : (way : Direction) (schema : Schema) (s : Gathered) (r : Resolved) (f : Fault) → is_placed_at (binding_of r.member) ≡ true → fits_member r.member r.value ≡ true → is_seen s r.position ≡ false → first_fault r.member r.value ≡ Some f
+    → add_or_fault way schema s r ≡ Err f
+add-fault way schema s r f bound e unseen some =
+    add-unseen way schema s r bound e unseen ∙ ap (λ o. ok_unless (option_or o (status_fault_in way (binding_of r.member) r.value)) (placed schema s r)) some
+
+pub add-code : (way : Direction) (schema : Schema) (s : Gathered) (r : Resolved) (f : Fault) → is_placed_at (binding_of r.member) ≡ true → fits_member r.member r.value ≡ true → is_seen s r.position ≡ false → first_fault r.member r.value ≡ None
+    → status_fault_in way (binding_of r.member) r.value ≡ Some f → add_or_fault way schema s r ≡ Err f
+add-code way schema s r f bound e unseen none code = add-unseen way schema s r bound e unseen ∙ (λ i. ok_unless (option_or (none i) (code i)) (placed schema s r))
 
 -- a test that each member passes
 pub member-passes : (test : Schema → Bool) (schema : Schema) (i : ℕ) (m : Schema) → list_all test (members_of schema) ≡ true → member_at schema i ≡ Some m → test m ≡ true

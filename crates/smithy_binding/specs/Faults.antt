@@ -1,4 +1,4 @@
--- What is wrong with an input: the first fault in one order, as a variant and a text.
+-- What is wrong with an input, or an output: the first fault in one order, as a variant and a text.
 use Rattle.std.specs.Prelude.{ℕ, Bool, true, false, not, ◌&&◌, codes, List, [], ◌∷◌, ◌++◌, Result, Ok, Err, Option, Some, None, option_map, option_and_then, option_to_list, unwrap_or, is_some, if◌then◌else◌}
 use Rattle.smithy_binding.specs.Words.{option_map_or, option_or, is_token, is_header_value, is_short_target, is_target, first_of_all, unless, ShapeType, kind_word, Schema, element_of, key_of, value_of, name_of, Binding, to_payload, to_body, binding_of, Label, Value, list, Writes, no_writes, write, Write, fits, fits_member, written_word, document_fault, document_fault_text, Resolved, resolve, resolved, has_seen}
 use Rattle.std.specs.Result.{result_err}
@@ -110,28 +110,36 @@ value_fault m v = first_of_all (item_fault m v ∷ key_fault m v ∷ year_fault 
 abbrev pub bound_fault : Resolved → Option Fault
 bound_fault r = option_or (value_fault r.member r.value) (pairs_fault r.member (inserted r))
 
--- the binding stands in the target or the headers
+-- the binding stands in the first line or the headers
 abbrev pub is_placed_at : Binding → Bool
 is_placed_at to_payload = false
 is_placed_at to_body = false
 is_placed_at _ = true
 
 -- the fault of a write that has a member, behind writes to the members at these positions: of the first write of a placed
--- member that of its value too
-abbrev pub resolved_fault : List ℕ → Resolved → Option Fault
-resolved_fault seen r =
+-- member that of its value too, which `bound` tells
+abbrev pub resolved_fault_by : (Resolved → Option Fault) → List ℕ → Resolved → Option Fault
+resolved_fault_by bound seen r =
     option_or (unless (fits_member r.member r.value) (wrong_kind r.member r.value))
-    (if is_placed_at (binding_of r.member) && not (has_seen seen r.position) then bound_fault r else None)
-
--- the fault of a write, behind such writes
-abbrev pub write_fault : Schema → List ℕ → Write → Option Fault
-write_fault schema seen w = option_map_or (resolved_fault seen) (resolved schema w) (Some (no_member w.label))
+    (if is_placed_at (binding_of r.member) && not (has_seen seen r.position) then bound r else None)
 
 -- the first fault of these writes, behind such writes
+abbrev pub writes_fault_by : (Resolved → Option Fault) → Schema → List ℕ → List Write → Option Fault
+writes_fault_by bound schema seen [] = None
+writes_fault_by bound schema seen (w ∷ ws) =
+    option_or (option_map_or (resolved_fault_by bound seen) (resolved schema w) (Some (no_member w.label)))
+    (writes_fault_by bound schema (seen ++ option_to_list (resolve schema w.label)) ws)
+
+-- the same of an input
 unfoldable pub writes_fault : Schema → List ℕ → List Write → Option Fault
-writes_fault schema seen [] = None
-writes_fault schema seen (w ∷ ws) =
-    option_or (write_fault schema seen w) (writes_fault schema (seen ++ option_to_list (resolve schema w.label)) ws)
+writes_fault schema seen ws = writes_fault_by bound_fault schema seen ws
+
+-- and of one write, with its member or without one
+abbrev pub resolved_fault : List ℕ → Resolved → Option Fault
+resolved_fault seen r = resolved_fault_by bound_fault seen r
+
+abbrev pub write_fault : Schema → List ℕ → Write → Option Fault
+write_fault schema seen w = option_map_or (resolved_fault seen) (resolved schema w) (Some (no_member w.label))
 
 -- the first rule of documents that a value breaks, if there is one
 abbrev pub fault_of_document : Option Value → Option Fault

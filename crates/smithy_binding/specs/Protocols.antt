@@ -3,6 +3,8 @@ use Rattle.std.specs.Prelude.{ℕ, List, Result}
 use Rattle.smithy_binding.specs.Words.{Document, SchemaRef, schema_of, Request, Writes, list_of, SerdeError}
 use Rattle.smithy_ids.specs.declared.shape_id.ShapeId.{ShapeId}
 use Rattle.smithy_binding.specs.Answer.{answer}
+use Rattle.smithy_binding.specs.Outputs.{placed_output}
+use Rattle.smithy_binding.specs.declared.output.PlacedOutput.{PlacedOutput}
 use Rattle.smithy_binding.specs.Placing.{Protocol, OmitFlags}
 use Rattle.smithy_binding.specs.Refusing.{Answers}
 use Rattle.smithy_binding.specs.Rpc.{rpc_answer}
@@ -20,6 +22,10 @@ protocol_of text p = record { content_type = p.content_type; text_of = text p.co
 -- an outcome of code is the request of an input, placed by its schema, or the input's first fault
 abbrev pub AnswersBy : {C : Type 0} → (C → Document → List ℕ) → Parts C → SchemaRef → Writes → List ℕ → OmitFlags → Result Request SerdeError → Type 0
 AnswersBy text p schema ws endpoint omit result = Answers result (answer (protocol_of text p) (schema_of schema) (list_of ws) endpoint omit)
+
+-- an outcome of code is what an output has in a response by its schema, or the output's first fault
+abbrev pub AnswersOutput : {C : Type 0} → (C → Document → List ℕ) → Parts C → SchemaRef → Writes → Result PlacedOutput SerdeError → Type 0
+AnswersOutput text p schema ws result = Answers result (placed_output (protocol_of text p) (schema_of schema) (list_of ws))
 
 -- the same of an input that is posted whole
 abbrev pub AnswersCall : {C : Type 0} → (C → Document → List ℕ) → Parts C → Writes → List ℕ → OmitFlags → Result Request SerdeError → Type 0

@@ -2,12 +2,15 @@
 pub mod Checking
 pub mod ClearParts
 pub mod CutTemplate
+pub mod Directed
 pub mod Entries
 pub mod Gather
 pub mod KeptWrites
 pub mod LabelTexts
 pub mod PayloadKinds
 pub mod Placed
+pub mod PlacedMessages
+pub mod PlacedOutputs
 pub mod Planned
 pub mod PutHeaders
 pub mod Resolving

@@ -1,4 +1,4 @@
-// The body of a request: a payload, or the document of the unbound members (Smithy, HTTP protocol bindings).
+// The body of a message: a payload, or the document of the unbound members (Smithy, HTTP protocol bindings).
 ghost use Rattle.std.specs.Prelude.{◌≡◌, None, IfOk, IfErr, IfSome};
 ghost use Rattle.smithy_binding.specs.Words.{Table, structure, document_fault, IsTextOf, IsReady, value_in, IsDefined};
 ghost use Rattle.smithy_serde.specs.Writing.{Tells};
@@ -93,7 +93,7 @@ fn payload_body<S: FinishSerializer + Drop>(
 /// The body of these writes, by its form: the bytes of a text or blob payload, the serializer's text of the value of
 /// another payload or of the structure of the unbound writes, or no bytes; of a payload that was not written, none.
 /// `Custom` for the first rule of documents that the document breaks. Takes memory (Smithy, HTTP protocol bindings, httpPayload).
-pub fn request_body<S: FinishSerializer + Drop>(
+pub fn message_body<S: FinishSerializer + Drop>(
     alloc: Global,
     serializer: S,
     schema: SchemaRef<'_>,

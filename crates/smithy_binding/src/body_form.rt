@@ -1,12 +1,14 @@
 // What a body is, by the members of a schema (Smithy, HTTP protocol bindings, httpPayload).
 ghost use Rattle.std.specs.Prelude.{◌≡◌, Some, None, true, not};
-ghost use Rattle.smithy_binding.specs.Words.{member_at, is_bound, schema_of};
+ghost use Rattle.smithy_binding.specs.Words.{member_at, is_bound};
 ghost use Rattle.smithy_binding.specs.Bodies.{form_at, form_in, is_codec, is_raw_kind, is_codec_kind};
+ghost use Rattle.smithy_binding.specs.views.Directed.{directed_of};
 ghost use Rattle.smithy_binding.specs.views.PayloadKinds.{kind_if_payload, is_unbound_at};
 
-use crate::binding::member_count;
+use crate::binding::{binding_of, member_at, member_count};
+use crate::direction::DirectedSchema;
 use smithy_ids::ShapeType;
-use smithy_schema::{Binding, SchemaRef};
+use smithy_schema::Binding;
 
 /// What a body is.
 #[derive(Clone, Copy, Drop)]
@@ -59,13 +61,13 @@ struct BodyPart {
     is_unbound: bool,
 }
 
-fn part_of(member: SchemaRef<'_>) -> BodyPart
-    ensures payload { result.payload ≡ kind_if_payload (Some (schema_of member.entry)) }
-    ensures unbound { result.is_unbound ≡ not (is_bound (schema_of member.entry)) }
+fn part_of(member: DirectedSchema<'_>) -> BodyPart
+    ensures payload { result.payload ≡ kind_if_payload (Some (directed_of member.entry)) }
+    ensures unbound { result.is_unbound ≡ not (is_bound (directed_of member.entry)) }
 {
-    match member.request_binding() {
+    match binding_of(member) {
         Binding::Payload => BodyPart {
-            payload: Some(member.shape_type()),
+            payload: Some(member.schema.shape_type()),
             is_unbound: false,
         },
         Binding::Body => BodyPart {
@@ -79,11 +81,11 @@ fn part_of(member: SchemaRef<'_>) -> BodyPart
     }
 }
 
-fn part_at(schema: SchemaRef<'_>, position: usize) -> BodyPart
-    ensures payload { result.payload ≡ kind_if_payload (member_at (schema_of schema.entry) position) }
-    ensures unbound { result.is_unbound ≡ is_unbound_at (schema_of schema.entry) position }
+fn part_at(schema: DirectedSchema<'_>, position: usize) -> BodyPart
+    ensures payload { result.payload ≡ kind_if_payload (member_at (directed_of schema.entry) position) }
+    ensures unbound { result.is_unbound ≡ is_unbound_at (directed_of schema.entry) position }
 {
-    match schema.member_schema_by_index(position) {
+    match member_at(schema, position) {
         Some(member) => part_of(member),
         None => BodyPart {
             payload: None,
@@ -114,13 +116,13 @@ fn unbound_form(has_unbound: bool) -> BodyForm
     }
 }
 
-/// What the body of a request by this schema is. Linear in the number of members; takes no memory.
+/// What the body of a message by this schema is. Linear in the number of members; takes no memory.
 #[tactic(auto, using(crate::proofs::PayloadMembers::finding_payload, crate::proofs::UnboundMembers::finding_unbound))]
-pub fn body_form(schema: SchemaRef<'_>) -> BodyForm
-    ensures { result ≡ form_in (schema_of schema.entry) }
+pub fn body_form(schema: DirectedSchema<'_>) -> BodyForm
+    ensures { result ≡ form_in (directed_of schema.entry) }
 {
     let mut has_unbound = false;
-    for position in 0..member_count(schema) {
+    for position in 0..member_count(schema.schema) {
         let part = part_at(schema, position);
         if let Some(kind) = part.payload {
             return payload_form(kind);

@@ -3,6 +3,7 @@ ghost use Rattle.std.specs.Prelude.{OnOk};
 ghost use Rattle.smithy_binding.specs.Words.{Table, binding_shown};
 ghost use Rattle.smithy_binding.specs.views.KeptWrites.{IsEmpty, Keeps, KeepsDefined};
 
+use crate::direction::DirectedSchema;
 use smithy_schema::{Binding, SchemaRef};
 use smithy_serde::ShapeValue;
 use smithy_types::OutOfMemory;
@@ -38,7 +39,7 @@ impl<'t, 'w> BodyWrites<'t, 'w> {
     /// Keeps a write of a member with this binding: each of an unbound member, and the first of the payload. Takes memory.
     pub fn keep(
         &mut self,
-        member: SchemaRef<'t>,
+        member: DirectedSchema<'t>,
         binding: Binding<'_>,
         value: &'w ShapeValue,
     ) -> Result<(), OutOfMemory>
@@ -46,6 +47,7 @@ impl<'t, 'w> BodyWrites<'t, 'w> {
             (Keeps (binding_shown binding.entry) member.entry value.now self.old self.new) }
         ensures defined { OnOk result ((t : Table) → KeepsDefined t value.now self.old self.new) }
     {
+        let member = member.schema;
         match binding {
             Binding::Body => {
                 self.unbound.push(BodyWrite { member, value })?;

@@ -5,7 +5,8 @@ ghost use Rattle.smithy_binding.specs.Checked.{checked_input, agrees, has_sound_
 ghost use Rattle.smithy_binding.specs.views.Checking.{shown, are_sound, is_sound_input, has_true_flags_for};
 
 use crate::clear_template::is_clear_among;
-use crate::member_check::{Direction, is_structure_or_union};
+use crate::direction::Direction;
+use crate::member_check::is_structure_or_union;
 use crate::members::{
     Counted, are_sound_members, count, has_sound_payload, has_unbound_member, named_members,
     payload_kind,

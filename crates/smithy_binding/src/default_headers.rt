@@ -1,4 +1,4 @@
-// The headers that a request has by default.
+// The headers that a message has by default.
 ghost use Rattle.std.specs.Prelude.{◌≡◌, ◌++◌, ◌∷◌, [], IsTrue, OnOk, is_some, codes, decimal};
 ghost use Rattle.smithy_binding.specs.Words.{str_to_ascii_lowercase, is_token, is_header_value, found};
 ghost use Rattle.smithy_binding.specs.Placing.{with_default, with_defaults};

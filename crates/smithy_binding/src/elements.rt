@@ -1,13 +1,15 @@
 // The elements of a list in a header or the query (Smithy, HTTP protocol bindings, httpHeader and httpQuery).
-ghost use Rattle.std.specs.Prelude.{◌≡◌, OnOk, IfOk, IfErr, option_map};
-ghost use Rattle.smithy_binding.specs.Words.{element_of, schema_of, writes_in};
+ghost use Rattle.std.specs.Prelude.{OnOk, IfOk, IfErr};
+ghost use Rattle.smithy_binding.specs.Words.{schema_of, writes_in};
 ghost use Rattle.smithy_strings.specs.declared.wire.Place.TheVariants as at;
-ghost use Rattle.smithy_binding.specs.Bindings.{kind_or_none};
-ghost use Rattle.smithy_binding.specs.Faults.{element_fault};
+ghost use Rattle.smithy_binding.specs.Faults.{element_fault, item_fault};
 ghost use Rattle.smithy_binding.specs.Refusing.{Reports};
-ghost use Rattle.smithy_binding.specs.views.StoredTexts.{element_texts, IsListed, AddsElements, LacksYear};
+ghost use Rattle.smithy_binding.specs.views.Directed.{directed_of};
+ghost use Rattle.smithy_binding.specs.views.StoredTexts.{element_texts, list_in, IsListed, AddsElements, LacksYear};
 
+use crate::binding::element_kind;
 use crate::bound_text::element_text;
+use crate::direction::DirectedSchema;
 use crate::refusal::wrong_item;
 use crate::target::push_pair;
 use smithy_ids::ShapeType;
@@ -16,23 +18,6 @@ use smithy_serde::{SerdeError, WriteList};
 use smithy_strings::{Place, push_listed};
 use smithy_types::Text;
 use std::alloc::Global;
-
-/// The kind of a node, and where there is none the kind that no value has.
-pub fn kind_of(node: Option<SchemaRef<'_>>) -> ShapeType
-    ensures { result ≡ kind_or_none (option_map schema_of node.entry) }
-{
-    match node {
-        Some(node) => node.shape_type(),
-        None => ShapeType::Member,
-    }
-}
-
-/// The kind of the elements of a member, and where it has none the kind that no value has.
-pub fn element_kind(member: SchemaRef<'_>) -> ShapeType
-    ensures { result ≡ kind_or_none (element_of (schema_of member.entry)) }
-{
-    kind_of(member.element())
-}
 
 /// Tests that each element of the member's list is of the kind. `UnsupportedOperation` for the first that is not.
 pub fn test_elements(
@@ -51,6 +36,19 @@ pub fn test_elements(
         }
     }
     Ok(())
+}
+
+/// Tests that each element of the member's list is of the kind of its node. `UnsupportedOperation` for the first that is
+/// not.
+pub fn test_list(
+    alloc: Global,
+    table: &Schemas,
+    member: DirectedSchema<'_>,
+    elements: &WriteList,
+) -> Result<(), SerdeError>
+    ensures { Reports (item_fault (directed_of member.entry) (list_in table.now elements.now)) result }
+{
+    test_elements(alloc, table, member.schema, element_kind(member), elements)
 }
 
 /// The value of a header: the texts of the elements, of this kind, in one text (RFC 7230, section 7). `Custom` for the

@@ -1,5 +1,6 @@
 // The protocol that places requests by the HTTP binding traits (Smithy, HTTP protocol bindings).
 
+use crate::output::{PlacedOutput, place_stored_output};
 use crate::place::{Plan, place_writes};
 use smithy_http::Request;
 use smithy_ids::ShapeId;
@@ -102,7 +103,8 @@ impl<C: Codec> HttpBindingProtocol<C> {
     ghost use Rattle.smithy_schema.specs.References.{schema_of};
     ghost use Rattle.smithy_serde.specs.Finishing.{IsReady};
     ghost use Rattle.smithy_binding.specs.Checked.{checked_input};
-    ghost use Rattle.smithy_binding.specs.Protocols.{AnswersBy};
+    ghost use Rattle.smithy_binding.specs.CheckedOutput.{checked_output};
+    ghost use Rattle.smithy_binding.specs.Protocols.{AnswersBy, AnswersOutput};
 
     /// The request of an input, by its schema (Smithy, HTTP protocol bindings). Without `@http` the method is `GET`, and
     /// the template is `endpoint`, or `/` where that is empty. Each bound member's first write stands where its trait
@@ -162,5 +164,54 @@ impl<C: Codec> HttpBindingProtocol<C> {
         }
         let recorded = record_members(alloc, input)?;
         place_writes(alloc, body, recorded.table(), recorded.writes(), plan)
+    }
+
+    /// What an output has in a response, by its schema (Smithy, HTTP protocol bindings): as `serialize_request` places an
+    /// input, but that only the traits for headers, prefixes, payloads and the response code count, and no default header
+    /// is left out. `smithy_serve` makes the response of it. Conditions: `checked_output` holds of the schema, and the
+    /// codec is lawful.
+    ///
+    /// Refused with the first fault of the writes in order, as `serialize_request` tells them, a first response code
+    /// outside 100 to 999 being `Custom`, and then of the body's document. Takes memory; `OutOfMemory` where it is not
+    /// there.
+    pub fn place_output(
+        &self,
+        alloc: Global,
+        output: &dyn SerializableStruct,
+        schema: SchemaRef<'_>,
+    ) -> Result<PlacedOutput, SerdeError>
+        requires checked { IsTrue (checked_output (schema_of schema)) }
+        requires lawful { C.lawful self.now.codec }
+        ensures { AnswersOutput C.text self.now schema.entry (writes output.now) result }
+    {
+        let body = self.codec.create_serializer(alloc)?;
+        self.place_output_with_body(alloc, body, output, schema)
+    }
+
+    // The same with a serializer for the body.
+    fn place_output_with_body(
+        &self,
+        alloc: Global,
+        body: C::Serializer,
+        output: &dyn SerializableStruct,
+        schema: SchemaRef<'_>,
+    ) -> Result<PlacedOutput, SerdeError>
+        requires checked { IsTrue (checked_output (schema_of schema)) }
+        requires ready { IsReady (C.Serializer.seen body) }
+        requires text { (C.Serializer.seen body).text ≡ C.text self.now.codec }
+        ensures { AnswersOutput C.text self.now schema.entry (writes output.now) result }
+    {
+        if let Some((table, writes)) = output.stored_writes() {
+            return place_stored_output(alloc, body, table, writes, schema, self.content_type);
+        }
+        let recorded = record_members(alloc, output)?;
+        place_stored_output(
+            alloc,
+            body,
+            recorded.table(),
+            recorded.writes(),
+            schema,
+            self.content_type,
+        )
     }
 }

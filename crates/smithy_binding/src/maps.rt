@@ -2,14 +2,16 @@
 ghost use Rattle.std.specs.Prelude.{◌≡◌, ◌++◌, IfOk, OnOk, option_map, option_and_then};
 ghost use Rattle.smithy_binding.specs.Words.{Table, element_of, schema_of, value_in, writes_in, text_of_key};
 ghost use Rattle.smithy_binding.specs.Bindings.{query_names};
+ghost use Rattle.smithy_binding.specs.views.Directed.{directed_of};
 ghost use Rattle.smithy_binding.specs.views.Entries.{text_at, nested_in, part_in, query_name_at, has_key, HasKeys, list_pairs, value_pairs, pairs_unless, AddsQuery, AddsEntries};
 ghost use Rattle.smithy_binding.specs.Faults.{item_fault, value_fault, ends_with_value};
 ghost use Rattle.smithy_binding.specs.Refusing.{Reports};
-ghost use Rattle.smithy_binding.specs.views.PutHeaders.{prefixed, PutsHeader, PutsPairs};
+ghost use Rattle.smithy_binding.specs.views.PutHeaders.{PutsHeader, PutsPrefixed};
 ghost use Rattle.smithy_binding.specs.views.StoredTexts.{map_in};
 
-use crate::binding::member_count;
-use crate::elements::{kind_of, test_elements};
+use crate::binding::{kind_of, member_at, member_count};
+use crate::direction::{DirectedSchema, Direction};
+use crate::elements::test_elements;
 use crate::member_header::put_header;
 use crate::refusal::{unmatched_key, wrong_item};
 use crate::target::push_pair;
@@ -97,9 +99,8 @@ fn ends_with_value(entries: &WriteList) -> bool
     entries.len() % 2 == 0
 }
 
-/// Tests the member's map: each key and value by its kind, and then that each key has a value. `UnsupportedOperation`
-/// for the first that is not.
-pub fn test_map(
+// Tests the entries, and then that each key has a value.
+fn test_whole_map(
     alloc: Global,
     table: &Schemas,
     member: SchemaRef<'_>,
@@ -112,6 +113,19 @@ pub fn test_map(
         return Err(unmatched_key(alloc, member));
     }
     Ok(())
+}
+
+/// Tests the member's map: each key and value by its kind, and then that each key has a value. `UnsupportedOperation`
+/// for the first that is not.
+pub fn test_map(
+    alloc: Global,
+    table: &Schemas,
+    member: DirectedSchema<'_>,
+    entries: &WriteList,
+) -> Result<(), SerdeError>
+    ensures { Reports (value_fault (directed_of member.entry) (map_in table.now entries.now)) result }
+{
+    test_whole_map(alloc, table, member.schema, entries)
 }
 
 // The text, and the empty one of what is no text.
@@ -164,18 +178,18 @@ fn put_entry(
 pub fn put_entries(
     alloc: Global,
     table: &Schemas,
-    member: SchemaRef<'_>,
+    member: DirectedSchema<'_>,
     headers: &mut Headers,
     prefix: &str,
     entries: &WriteList,
 ) -> Result<(), SerdeError>
-    ensures { PutsPairs
-        member.entry (prefixed prefix.now table.now entries.now) headers.old headers.new result }
+    ensures { PutsPrefixed
+        member.entry prefix.now table.now entries.now headers.old headers.new result }
 {
     for place in 0..entries.len() / 2 {
         let key = text_at(entries, 2 * place);
         let value = text_at(entries, 2 * place + 1);
-        put_entry(alloc, member, headers, prefix, key, value)?;
+        put_entry(alloc, member.schema, headers, prefix, key, value)?;
     }
     Ok(())
 }
@@ -186,20 +200,30 @@ fn query_name<'t>(member: SchemaRef<'t>) -> Option<&'t str>
     Some(member.http_query()?.value())
 }
 
-// The query name of the member at a position.
-fn query_name_at<'t>(schema: SchemaRef<'t>, position: usize) -> Option<&'t str>
-    ensures { option_map (λ n. n.now) result ≡ query_name_at (schema_of schema.entry) position }
+// The query is a request's alone.
+fn query_name_in<'t>(member: DirectedSchema<'t>) -> Option<&'t str>
+    ensures { option_map (λ n. n.now) result ≡ (directed_of member.entry).node.traits.http_query }
 {
-    query_name(schema.member_schema_by_index(position)?)
+    match member.way {
+        Direction::Request => query_name(member.schema),
+        Direction::Response => None,
+    }
+}
+
+// The query name of the member at a position.
+fn query_name_at<'t>(schema: DirectedSchema<'t>, position: usize) -> Option<&'t str>
+    ensures { option_map (λ n. n.now) result ≡ query_name_at (directed_of schema.entry) position }
+{
+    query_name_in(member_at(schema, position)?)
 }
 
 // The names of the schema's query members, written or not.
 #[tactic(auto, unfolding(crate::specs::views::Entries::has_key))]
-fn query_names<'t>(alloc: Global, schema: SchemaRef<'t>) -> Result<QueryNames<'t>, AllocError>
-    ensures { IfOk result (HasKeys (query_names (schema_of schema.entry))) }
+fn query_names<'t>(alloc: Global, schema: DirectedSchema<'t>) -> Result<QueryNames<'t>, AllocError>
+    ensures { IfOk result (HasKeys (query_names (directed_of schema.entry))) }
 {
     let mut names = BTreeMap::new(alloc);
-    for position in 0..member_count(schema) {
+    for position in 0..member_count(schema.schema) {
         if let Some(name) = query_name_at(schema, position) {
             names.insert(name, position)?;
         }
@@ -260,12 +284,12 @@ fn push_entry<'n>(
 /// the texts and in the number of members.
 pub fn push_entries<'n>(
     alloc: Global,
-    schema: SchemaRef<'n>,
+    schema: DirectedSchema<'n>,
     query: &mut String,
     entries: &'n WriteList,
 ) -> Result<(), OutOfMemory>
     ensures { OnOk result
-        (AddsEntries (query_names (schema_of schema.entry)) entries.now query.old query.new) }
+        (AddsEntries (query_names (directed_of schema.entry)) entries.now query.old query.new) }
 {
     let names = query_names(alloc, schema)?;
     for place in 0..entries.len() / 2 {

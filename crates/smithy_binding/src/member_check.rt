@@ -9,16 +9,10 @@ ghost use Rattle.smithy_binding.specs.Bodies.{is_payload, is_raw_kind, is_codec_
 
 use crate::binding::is_bound;
 use crate::body_form::{is_codec_kind, is_raw_kind};
+use crate::direction::{DirectedSchema, Direction};
 use smithy_ids::ShapeType;
 use smithy_schema::{Binding, SchemaRef};
 use smithy_strings::format_in;
-
-/// Whose members they are: those of an input stand in a request, those of an output in a response.
-#[derive(Clone, Copy)]
-pub enum Direction {
-    Request,
-    Response,
-}
 
 fn one_if(test: bool) -> u8
     ensures { result ≡ one_if test }
@@ -285,7 +279,10 @@ pub fn is_bound_in(member: SchemaRef<'_>, way: Direction) -> bool
     ensures { result ≡ is_bound_in way (schema_of member.entry) }
 {
     match way {
-        Direction::Request => is_bound(member),
+        Direction::Request => is_bound(DirectedSchema {
+            schema: member,
+            way: Direction::Request,
+        }),
         Direction::Response => member.has_http_response_binding(),
     }
 }

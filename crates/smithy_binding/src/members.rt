@@ -5,7 +5,8 @@ ghost use Rattle.smithy_ids.specs.declared.shape_type.ShapeType.TheVariants as k
 ghost use Rattle.smithy_binding.specs.Checked.{is_sound_payload, has_defined_members, has_named_members};
 ghost use Rattle.smithy_binding.specs.views.Checking.{shown, ListsIf, counted_test, count_of, is_sound_in, payload_in, has_unbound_in, has_sound_payload_in};
 
-use crate::member_check::{Direction, is_bound_in, is_payload, is_payload_kind, is_sound_member};
+use crate::direction::Direction;
+use crate::member_check::{is_bound_in, is_payload, is_payload_kind, is_sound_member};
 use crate::name_check::have_distinct_names;
 use smithy_ids::ShapeType;
 use smithy_schema::SchemaRef;

@@ -4,7 +4,7 @@ ghost use Rattle.smithy_binding.specs.Words.{schema_of};
 ghost use Rattle.smithy_binding.specs.CheckedOutput.{checked_output};
 ghost use Rattle.smithy_binding.specs.views.Checking.{shown, are_sound_response, is_sound_output};
 
-use crate::member_check::Direction;
+use crate::direction::Direction;
 use crate::members::{Counted, are_sound_members, count, has_sound_payload, named_members};
 use crate::name_check::have_sound_headers;
 use smithy_schema::SchemaRef;

@@ -7,10 +7,8 @@ ghost use Rattle.smithy_binding.specs.Placing.{method_of, template_of, endpoint_
 ghost use Rattle.smithy_binding.specs.views.Planned.{AnswersPlan};
 ghost use Rattle.smithy_binding.specs.Refusing.{Answers};
 
-use crate::body::request_body;
-use crate::body_form::body_form;
-use crate::default_headers::add_defaults;
-use crate::placement::{RequestParts, gather_writes};
+use crate::direction::{DirectedSchema, Direction};
+use crate::message::{MessagePlan, place_message};
 use crate::refusal::{not_legal, too_long};
 use crate::target::whole_target;
 use smithy_http::{Headers, Request};
@@ -92,25 +90,28 @@ pub fn place_writes<S: FinishSerializer + Drop>(
     ensures { AnswersPlan (S.seen serializer).text plan.entry (writes_in table.now writes.now) result }
 {
     let schema = plan.schema;
-    let mut parts = RequestParts::new(alloc, schema)?;
-    gather_writes(alloc, schema, table, writes, &mut parts)?;
-    let form = body_form(schema);
-    let body = request_body(alloc, serializer, schema, form, table, &parts.body)?;
+    let directed = DirectedSchema {
+        schema,
+        way: Direction::Request,
+    };
+    let message_plan = MessagePlan {
+        schema: directed,
+        content_type: plan.content_type,
+        omit: plan.omit,
+    };
+    let message = place_message(alloc, serializer, table, writes, message_plan)?;
     let template = template_of(schema, plan.endpoint);
     let target = whole_target(
         alloc,
         template,
-        parts.labels.as_slice(),
-        parts.query.as_str(),
+        message.labels.as_slice(),
+        message.query.as_str(),
     )?;
-    let length = body.as_slice().len();
-    add_defaults(
+    request_with(
         alloc,
-        &mut parts.headers,
-        plan.content_type,
-        form.is_codec(),
-        length,
-        plan.omit,
-    )?;
-    request_with(alloc, method_of(schema), target, parts.headers, body)
+        method_of(schema),
+        target,
+        message.headers,
+        message.body,
+    )
 }

@@ -1,24 +1,28 @@
-// What the writes put into a request, one by one.
+// What the writes put into a message, one by one.
 ghost use Rattle.std.specs.Prelude.{◌≡◌, IsTrue, IfOk, IfErr, OnOk, None, true, false, slice_index_or, slice_set};
-ghost use Rattle.smithy_binding.specs.Words.{list_all, Table, members_of, to_header, binding_of, schema_of, binding_shown, fits_member, value_in, AreDefined, HasNode};
+ghost use Rattle.smithy_binding.specs.Words.{list_all, Table, members_of, to_header, to_label, binding_of, schema_of, binding_shown, fits_member, value_in, AreDefined, HasNode};
 ghost use Rattle.smithy_binding.specs.Faults.{item_fault, is_placed_at};
+ghost use Rattle.smithy_binding.specs.views.Directed.{directed_of};
 ghost use Rattle.smithy_binding.specs.views.Gather.{nothing_yet};
 ghost use Rattle.smithy_binding.specs.views.KeptWrites.{IsEmpty, IsKeptDefined, KeepsDefined};
 ghost use Rattle.smithy_binding.specs.views.Placed.{has_placed_kind, is_text_member, is_list_binding, takes_map, first_fault, IsSingle};
-ghost use Rattle.smithy_binding.specs.Refusing.{IsTold};
+ghost use Rattle.smithy_binding.specs.Refusing.{Reports};
+ghost use Rattle.smithy_binding.specs.ResponseCodes.{status_fault};
 ghost use Rattle.smithy_binding.specs.views.PutHeaders.{PutsList};
-ghost use Rattle.smithy_binding.specs.views.Seen.{gathered_of, Places, AddsMember, AddsWrite, GathersAll};
+ghost use Rattle.smithy_binding.specs.views.Seen.{gathered_of, Places, TellsFirst, TestsStatus, AddsMember, AddsWrite, GathersAll};
 ghost use Rattle.smithy_binding.specs.views.StoredTexts.{list_in, map_in};
 
-use crate::binding::{is_placed, name_of};
+use crate::binding::{binding_of, element_kind, is_placed, name_of};
 use crate::body_writes::BodyWrites;
 use crate::bound_text::{place_of, text_of};
-use crate::elements::{element_kind, listed_text, push_elements, test_elements};
+use crate::code::status_value;
+use crate::direction::{DirectedSchema, Direction};
+use crate::elements::{listed_text, push_elements, test_list};
 use crate::kinds::fits_member;
 use crate::labels::Label;
 use crate::maps::{push_entries, put_entries, test_map};
 use crate::member_header::put_header;
-use crate::refusal::{unknown_member, wrong_kind};
+use crate::refusal::{no_status, unknown_member, wrong_kind};
 use crate::resolve::resolve;
 use crate::target::push_pair;
 use smithy_http::Headers;
@@ -28,9 +32,9 @@ use smithy_types::OutOfMemory;
 use std::alloc::{AllocError, Global};
 use std::borrow::CowStr;
 
-/// What the writes so far have put into a request.
+/// What the writes so far have put into a message.
 #[derive(Drop)]
-pub struct RequestParts<'t, 'w> {
+pub struct MessageParts<'t, 'w> {
     /// By position, the members that are written.
     pub seen: Vec<bool>,
     pub headers: Headers,
@@ -40,14 +44,14 @@ pub struct RequestParts<'t, 'w> {
     pub body: BodyWrites<'t, 'w>,
 }
 
-impl<'t, 'w> RequestParts<'t, 'w> {
+impl<'t, 'w> MessageParts<'t, 'w> {
     /// Nothing yet, for the members of this schema. Takes memory, linear in their number.
-    pub fn new(alloc: Global, schema: SchemaRef<'_>) -> Result<RequestParts<'t, 'w>, AllocError>
+    pub fn new(alloc: Global, schema: SchemaRef<'_>) -> Result<MessageParts<'t, 'w>, AllocError>
         ensures gathered { IfOk result (λ p. gathered_of p ≡ nothing_yet (schema_of schema.entry)) }
         ensures body { IfOk result (λ p. IsEmpty p.body) }
     {
         let seen = vec![in alloc; false; schema.members().len()]?;
-        Ok(RequestParts {
+        Ok(MessageParts {
             seen,
             headers: Headers::new(alloc),
             query: String::new(alloc),
@@ -74,27 +78,27 @@ fn mark(seen: &mut Vec<bool>, position: usize)
 // Puts the first write of one value.
 fn add_single<'t, 'w>(
     alloc: Global,
-    schema: SchemaRef<'_>,
-    member: SchemaRef<'t>,
+    schema: DirectedSchema<'_>,
+    member: DirectedSchema<'t>,
     binding: Binding<'_>,
-    parts: &mut RequestParts<'t, 'w>,
+    parts: &mut MessageParts<'t, 'w>,
     value: &'w ShapeValue,
 ) -> Result<(), SerdeError>
-    requires bound { binding_shown binding ≡ binding_of (schema_of member) }
-    requires placed { IsTrue (is_text_member (schema_of member)) }
+    requires bound { binding_shown binding ≡ binding_of (directed_of member) }
+    requires placed { IsTrue (is_text_member (directed_of member)) }
     requires single { (t : Table) → IsSingle (value_in t value.now) }
     ensures { (t : Table) →
         Places schema.entry member.entry (value_in t value.now) parts.old parts.new result }
 {
-    let text = text_of(alloc, member, place_of(binding), value)?;
+    let text = text_of(alloc, member.schema, place_of(binding), value)?;
     match binding {
-        Binding::Header(name) => put_header(alloc, member, &mut parts.headers, name, text),
+        Binding::Header(name) => put_header(alloc, member.schema, &mut parts.headers, name, text),
         Binding::Query(name) => {
             push_pair(&mut parts.query, name, text.as_str())?;
             Ok(())
         }
         Binding::Label => {
-            let name = name_of(member);
+            let name = name_of(member.schema);
             parts.labels.push(Label { name, text })?;
             Ok(())
         }
@@ -106,24 +110,23 @@ fn add_single<'t, 'w>(
 fn put_list(
     alloc: Global,
     table: &Schemas,
-    member: SchemaRef<'_>,
+    member: DirectedSchema<'_>,
     headers: &mut Headers,
     name: &str,
     elements: &WriteList,
 ) -> Result<(), SerdeError>
-    requires header { to_header name.now ≡ binding_of (schema_of member) }
-    requires kinds { item_fault (schema_of member) (list_in table.now elements.now) ≡ None }
+    requires header { to_header name.now ≡ binding_of (directed_of member) }
+    requires kinds { item_fault (directed_of member) (list_in table.now elements.now) ≡ None }
     ensures ok { OnOk result
-        (first_fault (schema_of member.entry) (list_in table.now elements.now) ≡ None) }
+        (first_fault (directed_of member.entry) (list_in table.now elements.now) ≡ None) }
     ensures put { OnOk result
         (PutsList name.now member.entry table.now elements.now headers.old headers.new) }
-    ensures err { IfErr result
-        (IsTold (first_fault (schema_of member.entry) (list_in table.now elements.now))) }
+    ensures err { IfErr result (TellsFirst member.entry (list_in table.now elements.now)) }
 {
     let text = listed_text(alloc, table, element_kind(member), elements)?;
     put_header(
         alloc,
-        member,
+        member.schema,
         headers,
         name,
         CowStr::Owned(text.into_string()),
@@ -133,19 +136,19 @@ fn put_list(
 // Puts the first write of a list.
 fn add_list<'t>(
     alloc: Global,
-    schema: SchemaRef<'_>,
+    schema: DirectedSchema<'_>,
     table: &Schemas,
-    member: SchemaRef<'t>,
+    member: DirectedSchema<'t>,
     binding: Binding<'_>,
-    parts: &mut RequestParts<'t, '_>,
+    parts: &mut MessageParts<'t, '_>,
     elements: &WriteList,
 ) -> Result<(), SerdeError>
-    requires bound { binding_shown binding ≡ binding_of (schema_of member) }
-    requires placed { IsTrue (is_list_binding (binding_of (schema_of member))) }
+    requires bound { binding_shown binding ≡ binding_of (directed_of member) }
+    requires placed { IsTrue (is_list_binding (binding_of (directed_of member))) }
     ensures { Places
         schema.entry member.entry (list_in table.now elements.now) parts.old parts.new result }
 {
-    test_elements(alloc, table, member, element_kind(member), elements)?;
+    test_list(alloc, table, member, elements)?;
     match binding {
         Binding::Header(name) => {
             put_list(alloc, table, member, &mut parts.headers, name, elements)
@@ -158,15 +161,15 @@ fn add_list<'t>(
 // Puts the first write of a map.
 fn add_map<'t>(
     alloc: Global,
-    schema: SchemaRef<'_>,
+    schema: DirectedSchema<'_>,
     table: &Schemas,
-    member: SchemaRef<'t>,
+    member: DirectedSchema<'t>,
     binding: Binding<'_>,
-    parts: &mut RequestParts<'t, '_>,
+    parts: &mut MessageParts<'t, '_>,
     entries: &WriteList,
 ) -> Result<(), SerdeError>
-    requires bound { binding_shown binding ≡ binding_of (schema_of member) }
-    requires placed { IsTrue (takes_map (binding_of (schema_of member))) }
+    requires bound { binding_shown binding ≡ binding_of (directed_of member) }
+    requires placed { IsTrue (takes_map (binding_of (directed_of member))) }
     ensures { Places
         schema.entry member.entry (map_in table.now entries.now) parts.old parts.new result }
 {
@@ -187,17 +190,17 @@ fn add_map<'t>(
 #[tactic(auto, unfolding(smithy_serde::specs::StoredValues::value_in))]
 fn add_first<'t, 'w>(
     alloc: Global,
-    schema: SchemaRef<'_>,
+    schema: DirectedSchema<'_>,
     table: &Schemas,
-    member: SchemaRef<'t>,
+    member: DirectedSchema<'t>,
     binding: Binding<'_>,
-    parts: &mut RequestParts<'t, 'w>,
+    parts: &mut MessageParts<'t, 'w>,
     value: &'w ShapeValue,
 ) -> Result<(), SerdeError>
-    requires bound { binding_shown binding ≡ binding_of (schema_of member) }
-    requires placed { IsTrue (is_placed_at (binding_of (schema_of member))) }
-    requires kinds { IsTrue (has_placed_kind (schema_of member)) }
-    requires fits { IsTrue (fits_member (schema_of member) (value_in table.now value.now)) }
+    requires bound { binding_shown binding ≡ binding_of (directed_of member) }
+    requires placed { IsTrue (is_placed_at (binding_of (directed_of member))) }
+    requires kinds { IsTrue (has_placed_kind (directed_of member)) }
+    requires fits { IsTrue (fits_member (directed_of member) (value_in table.now value.now)) }
     ensures { Places
         schema.entry member.entry (value_in table.now value.now) parts.old parts.new result }
 {
@@ -210,25 +213,58 @@ fn add_first<'t, 'w>(
     }
 }
 
+// Tests that the value is a status, of three digits.
+fn test_status(alloc: Global, value: &ShapeValue) -> Result<(), SerdeError>
+    ensures { (t : Table) → Reports (status_fault to_label (value_in t value.now)) result }
+{
+    match status_value(value) {
+        Some(_code) => Ok(()),
+        None => Err(no_status(alloc)),
+    }
+}
+
+// Tests the first write of a member with this binding, where the message is a response: its code is a status.
+fn test_code(
+    alloc: Global,
+    way: Direction,
+    binding: Binding<'_>,
+    value: &ShapeValue,
+) -> Result<(), SerdeError>
+    ensures { TestsStatus way (binding_shown binding.entry) value.now result }
+{
+    match way {
+        Direction::Request => Ok(()),
+        Direction::Response => match binding {
+            Binding::Header(_) => Ok(()),
+            Binding::Prefix(_) => Ok(()),
+            Binding::Query(_) => Ok(()),
+            Binding::QueryMap => Ok(()),
+            Binding::Label => test_status(alloc, value),
+            Binding::Payload => Ok(()),
+            Binding::Body => Ok(()),
+        },
+    }
+}
+
 // Puts a write of the member at this position.
 fn add_resolved<'t, 'w>(
     alloc: Global,
-    schema: SchemaRef<'_>,
+    schema: DirectedSchema<'_>,
     table: &Schemas,
     position: usize,
-    member: SchemaRef<'t>,
-    parts: &mut RequestParts<'t, 'w>,
+    member: DirectedSchema<'t>,
+    parts: &mut MessageParts<'t, 'w>,
     value: &'w ShapeValue,
 ) -> Result<(), SerdeError>
-    requires { IsTrue (has_placed_kind (schema_of member)) }
+    requires { IsTrue (has_placed_kind (directed_of member)) }
     ensures added { AddsMember
         schema.entry table.now member.entry position value.now parts.old parts.new result }
     ensures defined { OnOk result (KeepsDefined table.now value.now parts.old.body parts.new.body) }
 {
     if !fits_member(member, value) {
-        return Err(wrong_kind(alloc, member, value));
+        return Err(wrong_kind(alloc, member.schema, value));
     }
-    let binding = member.request_binding();
+    let binding = binding_of(member);
     parts.body.keep(member, binding, value)?;
     if is_seen(parts.seen.as_slice(), position) {
         return Ok(());
@@ -237,20 +273,21 @@ fn add_resolved<'t, 'w>(
     if !is_placed(binding) {
         return Ok(());
     }
-    add_first(alloc, schema, table, member, binding, parts, value)
+    add_first(alloc, schema, table, member, binding, parts, value)?;
+    test_code(alloc, schema.way, binding, value)
 }
 
 // Puts a write of this node.
 #[tactic(auto, unfolding(crate::specs::views::Gather::gather_one))]
 fn add_write<'t, 'w>(
     alloc: Global,
-    schema: SchemaRef<'t>,
+    schema: DirectedSchema<'t>,
     table: &Schemas,
-    parts: &mut RequestParts<'t, 'w>,
+    parts: &mut MessageParts<'t, 'w>,
     node: SchemaIndex,
     value: &'w ShapeValue,
 ) -> Result<(), SerdeError>
-    requires kinds { IsTrue (list_all has_placed_kind (members_of (schema_of schema))) }
+    requires kinds { IsTrue (list_all has_placed_kind (members_of (directed_of schema))) }
     requires defined { HasNode table.now node.0 }
     ensures added { AddsWrite
         schema.entry table.now node.0 value.now parts.old parts.new result }
@@ -265,17 +302,17 @@ fn add_write<'t, 'w>(
     add_resolved(alloc, schema, table, position, member, parts, value)
 }
 
-/// Puts the writes, whose nodes are those of the table, into the request, in which nothing is yet.
+/// Puts the writes, whose nodes are those of the table, into the message, in which nothing is yet.
 pub fn gather_writes<'t, 'w>(
     alloc: Global,
-    schema: SchemaRef<'t>,
+    schema: DirectedSchema<'t>,
     table: &Schemas,
     writes: &'w WriteList,
-    parts: &mut RequestParts<'t, 'w>,
+    parts: &mut MessageParts<'t, 'w>,
 ) -> Result<(), SerdeError>
-    requires kinds { IsTrue (list_all has_placed_kind (members_of (schema_of schema))) }
+    requires kinds { IsTrue (list_all has_placed_kind (members_of (directed_of schema))) }
     requires defined { AreDefined table.now writes.now }
-    requires empty { gathered_of parts.old ≡ nothing_yet (schema_of schema) }
+    requires empty { gathered_of parts.old ≡ nothing_yet (directed_of schema) }
     requires empty_body { IsEmpty parts.old.body }
     ensures gathered { GathersAll schema.entry table.now writes.now parts.new result }
     ensures defined { OnOk result (IsKeptDefined table.now parts.new.body) }

@@ -1,7 +1,8 @@
-// The refusals of placing a request.
+// The refusals of placing a message.
 ghost use Rattle.std.specs.Prelude.{◌≡◌};
 ghost use Rattle.smithy_binding.specs.Words.{Table, schema_of, value_in, label_of};
 ghost use Rattle.smithy_binding.specs.Faults.{wrong_kind, wrong_item_kind, wrong_header, header_words, header_or_prefix, missing_hole, too_long, not_legal, no_year, unmatched_key, no_member};
+ghost use Rattle.smithy_binding.specs.ResponseCodes.{no_status};
 ghost use Rattle.smithy_binding.specs.Refusing.{Says};
 
 use crate::binding::name_of;
@@ -108,6 +109,13 @@ pub fn wrong_header(alloc: Global, member: SchemaRef<'_>, what: &str) -> SerdeEr
         Ok(text) => SerdeError::invalid_input(alloc, text.as_str()),
         Err(_) => SerdeError::OutOfMemory,
     }
+}
+
+/// The response code is not of three digits.
+pub fn no_status(alloc: Global) -> SerdeError
+    ensures { Says result no_status }
+{
+    SerdeError::custom(alloc, "response code outside 100 to 999")
 }
 
 /// No label has a text for the hole.

@@ -9,8 +9,8 @@ use Rattle.smithy_binding.specs.Checked.{is_sound_member, is_sound_payload, agre
 use Rattle.smithy_binding.specs.CheckedOutput.{is_sound_response_member}
 use Rattle.smithy_binding.specs.declared.name_check.NameKind.{NameKind}
 use Rattle.smithy_binding.specs.declared.name_check.NameKind.TheVariants as names
-use Rattle.smithy_binding.specs.declared.member_check.Direction.{Direction}
-use Rattle.smithy_binding.specs.declared.member_check.Direction.TheVariants as direction
+use Rattle.smithy_binding.specs.declared.direction.Direction.{Direction}
+use Rattle.smithy_binding.specs.declared.direction.Direction.TheVariants as direction
 use Rattle.smithy_binding.specs.declared.members.Counted.{Counted}
 use Rattle.smithy_binding.specs.declared.members.Counted.TheVariants as counted
 

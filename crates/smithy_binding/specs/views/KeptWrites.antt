@@ -1,8 +1,10 @@
 -- What is kept of the writes for the body.
 use Rattle.std.specs.Prelude.{◌≡◌, ℕ, List, [], ◌∷◌, ◌++◌, map, None, Some, Option, option_map, unwrap_or, IfSome}
-use Rattle.smithy_binding.specs.Words.{option_or, Document, Schema, Table, Binding, to_body, to_payload, binding_of, schema_of, SchemaRef, value_in, IsDefined, ShapeValue, Value, Write, Writes, writes_of, label_of, Resolved}
+use Rattle.smithy_binding.specs.Words.{option_or, Document, Schema, Table, Binding, to_body, to_payload, binding_of, schema_of, value_in, IsDefined, ShapeValue, Value, Write, Writes, writes_of, label_of, Resolved}
 use Rattle.smithy_binding.specs.Bodies.{BodyParts, raw_bytes, text_of_document}
 use Rattle.smithy_binding.specs.declared.body_writes.BodyWrite.{BodyWrite}
+use Rattle.smithy_binding.specs.declared.direction.DirectedSchema.{DirectedSchema}
+use Rattle.smithy_binding.specs.views.Directed.{directed_of}
 use Rattle.smithy_binding.specs.declared.body_writes.BodyWrites.{BodyWrites}
 
 -- nothing of a body
@@ -70,8 +72,8 @@ pub record IsKeptDefined (t : Table) (b : BodyWrites) : Type 0 where
   pub payload : IfSome b.payload (λ w. IsDefined t w.value.now)
 
 -- a write of a member with this binding is kept, over the nodes of any table
-abbrev pub Keeps : Binding → SchemaRef → ShapeValue → BodyWrites → BodyWrites → Type 0
-Keeps b m v old new = (t : Table) → kept_in t new ≡ kept_at b (schema_of m) (value_in t v) (kept_in t old)
+abbrev pub Keeps : Binding → DirectedSchema → ShapeValue → BodyWrites → BodyWrites → Type 0
+Keeps b m v old new = (t : Table) → kept_in t new ≡ kept_at b (directed_of m) (value_in t v) (kept_in t old)
 
 -- these writes are kept
 abbrev pub KeepsAll : Table → BodyWrites → BodyWrites → List Resolved → Type 0

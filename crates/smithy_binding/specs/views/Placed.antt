@@ -1,4 +1,4 @@
--- What the first write of a member does to a request so far.
+-- What the first write of a member does to a message so far.
 use Rattle.std.specs.Prelude.{ℕ, Bool, true, false, ◌&&◌, ◌++◌, Option, None, if◌then◌else◌}
 use Rattle.smithy_binding.specs.Words.{Schema, Binding, to_header, to_prefix, to_query, to_query_map, to_label, binding_of, Value, list, Resolved, put_all}
 use Rattle.smithy_serde.specs.Values as value

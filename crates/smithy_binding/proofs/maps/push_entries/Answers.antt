@@ -1,11 +1,11 @@
-use Rattle.smithy_binding.proofs.Common.{ap, sym, ◌∙◌, ◌+◌, ◌*◌, ◌++◌, string_bytes, append-nil, schema_of, writes_in, query_names, has_key, unnamed, pairs_at_place, queries}
+use Rattle.smithy_binding.proofs.Common.{ap, sym, ◌∙◌, ◌+◌, ◌*◌, ◌++◌, string_bytes, append-nil, directed_of, writes_in, query_names, has_key, unnamed, pairs_at_place, queries}
 use Rattle.smithy_binding.proofs.MapEntries.{kept_from, kept-all, kept-at, kept-end, pairs-push}
 use Rattle.smithy_binding.proofs.maps.push_entries.Goals as goal
 
 pub loop-place-init : goal.loop-place-init
 loop-place-init c = λ t m.
     ap (λ ps. string_bytes c.args.query.now ++ queries ps)
-    (kept-all (has_key c.in_ok-names.names) (query_names (schema_of c.args.schema)) m (writes_in t c.args.entries.now) c.in_ok-names.ensures)
+    (kept-all (has_key c.in_ok-names.names) (query_names (directed_of c.args.schema)) m (writes_in t c.args.entries.now) c.in_ok-names.ensures)
 
 pub loop-place-preserved : goal.loop-place-preserved
 loop-place-preserved c = λ t m.

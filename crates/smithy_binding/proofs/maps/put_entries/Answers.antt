@@ -1,4 +1,4 @@
-use Rattle.smithy_binding.proofs.Common.{rules, ◌≡◌, refl, ap, sym, ◌∙◌, ◌+◌, ◌∷◌, [], Some, IfErr, schema_of, writes_in, put_all, pairs_fault, TellsFault}
+use Rattle.smithy_binding.proofs.Common.{rules, ◌≡◌, refl, ap, sym, ◌∙◌, ◌+◌, ◌∷◌, [], Some, IfErr, directed_of, writes_in, put_all, pairs_fault, TellsFault}
 use Rattle.smithy_binding.proofs.MapEntries.{header_of, headers_from, headers-at, headers-end, pairs_fault-more, pairs_fault-stop}
 use Rattle.smithy_binding.proofs.Refusals.{IfErr-then}
 use Rattle.smithy_binding.proofs.maps.put_entries.Goals as goal
@@ -9,7 +9,7 @@ loop-place-init c = record { legal = refl; put = refl }
 pub loop-place-preserved : goal.loop-place-preserved
 loop-place-preserved c =
     let t = c.args.table.now in
-    let m = schema_of c.args.member in
+    let m = directed_of c.args.member in
     let ws = writes_in t c.args.entries.now in
     let prefix = c.args.prefix.now in
     let i = c.loop-place.place in
@@ -24,7 +24,7 @@ loop-place-preserved c =
 pub returns-in_err-put_entry : goal.returns-in_err-put_entry
 returns-in_err-put_entry c =
     let t = c.args.table.now in
-    let m = schema_of c.args.member in
+    let m = directed_of c.args.member in
     let ws = writes_in t c.args.entries.now in
     let prefix = c.args.prefix.now in
     let i = c.loop-place.place in
@@ -43,7 +43,7 @@ returns c =
     let ws = writes_in c.args.table.now c.args.entries.now in
     let none = headers-end c.args.prefix.now ws c.loop-place.place (c.len-place-end.ensures c.args.table.now) c.loop-place-test.false in
     record {
-      ok = sym c.loop-place.invariant.legal ∙ ap (pairs_fault (schema_of c.args.member)) none;
+      ok = sym c.loop-place.invariant.legal ∙ ap (pairs_fault (directed_of c.args.member)) none;
       put = sym (ap (put_all c.loop-place.headers) none) ∙ c.loop-place.invariant.put;
       err = search rules;
     }

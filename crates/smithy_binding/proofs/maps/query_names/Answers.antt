@@ -1,4 +1,4 @@
-use Rattle.smithy_binding.proofs.Common.{ap, ◌∙◌, ◌||◌, ℕ, List, Option, Some, BTreeMap, get_by, Bor, slice_cmp, nat_cmp, btree_map_updates_str, is_one_of, schema_of, has_key}
+use Rattle.smithy_binding.proofs.Common.{ap, ◌∙◌, ◌||◌, ℕ, List, Option, Some, BTreeMap, get_by, Bor, slice_cmp, nat_cmp, btree_map_updates_str, is_one_of, directed_of, has_key}
 use Rattle.smithy_binding.proofs.MapEntries.{names-put, names-skip}
 use Rattle.smithy_binding.proofs.maps.query_names.Goals.{in-Some+in_ok-insert, in_default}
 use Rattle.smithy_binding.proofs.maps.query_names.Goals as goal
@@ -9,7 +9,7 @@ position_in m name = get_by (λ k. slice_cmp nat_cmp name k.now) m
 pub loop-position-preserved : goal.loop-position-preserved
 unfolding has_key
 loop-position-preserved c name =
-    let schema = schema_of c.args.schema in
+    let schema = directed_of c.args.schema in
     let i = c.loop-position.position in
     elim c.match-query_name_at.branch [
       | in-Some+in_ok-insert w ↦ rw w.names-is

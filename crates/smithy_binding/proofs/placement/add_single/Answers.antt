@@ -1,11 +1,11 @@
-use Rattle.smithy_binding.proofs.Common.{rules, ◌≡◌, ap, sym, ◌∙◌, Some, None, IfErr, binding_of, schema_of, value_in, place_at, member_text, no_year, TellsFault}
+use Rattle.smithy_binding.proofs.Common.{rules, ◌≡◌, ap, sym, ◌∙◌, Some, None, IfErr, binding_of, directed_of, value_in, place_at, member_text, no_year, TellsFault}
 use Rattle.smithy_binding.proofs.FirstWrites.{text-placed, first_fault-value, single-no_year}
 use Rattle.smithy_binding.proofs.Refusals.{IfErr-then}
 use Rattle.smithy_binding.proofs.placement.add_single.Goals as goal
 
 pub returns-in_err-text : goal.returns-in_err-text
 returns-in_err-text c = λ t.
-    let m = schema_of c.args.member in
+    let m = directed_of c.args.member in
     let v = value_in t c.args.value.now in
     let refused = c.in_err-text.ensures.err t in
     let told : IfErr c.from_residual.result (λ e. TellsFault e (λ f. (f ≡ no_year) × (member_text (place_at (binding_of m)) m v ≡ None))) = search rules in
