@@ -1,0 +1,175 @@
+-- The response of a typed output hands out the normal form.
+use Rattle.std.proofs.Common.{◌≡◌, ◌≢◌, refl, sym, ◌∙◌, ap, subst, cond, ℕ, ◌+◌, arith, Bool, true, false, not, ◌&&◌, ◌||◌, List, [], ◌∷◌, ◌++◌, find, slice_get, zero, suc, Option, Some, None, option_map, option_and_then, is_some, if◌then◌else◌}
+use Rattle.std.specs.List.{AllByRecursion, cons_option, enumerate_from, list_any}
+use Rattle.smithy_http.specs.Responses.{Response}
+use Rattle.smithy_http.specs.declared.non_utf8.NonUtf8HeaderHandling.{NonUtf8HeaderHandling}
+use Rattle.smithy_schema.specs.Nodes.{Schema, is_response_bound, member_at, members_of}
+use Rattle.smithy_schema.specs.WellMade.{is_well_made}
+use Rattle.smithy_serde.specs.Held as held
+use Rattle.smithy_serde.specs.Held.{Held}
+use Rattle.smithy_serde.specs.Lawful.{IsLawfulText}
+use Rattle.smithy_serde.specs.Listings.{contents}
+use Rattle.smithy_serde.specs.ValueRead.{write_by}
+use Rattle.smithy_serde.specs.Values.{Value, Write}
+use Rattle.smithy_serde.specs.declared.scalar.Group.TheVariants as group
+use Rattle.smithy_binding.specs.Bodies.{body}
+use Rattle.smithy_binding.specs.CheckedOutput.{IsCheckedOutput}
+use Rattle.smithy_binding.specs.Outputs.{as_output}
+use Rattle.smithy_binding.specs.Placing.{Protocol}
+use Rattle.smithy_binding.proofs.CheckedOutputLaws.{IsCheckedOutput-from_test}
+use Rattle.smithy_unambiguity.proofs.Lists.{all_placed}
+use Rattle.smithy_unambiguity.proofs.Members.{member_in_place}
+use Rattle.smithy_response.specs.Handed.{Ended, nothing, handed, has_payload, has_unbound, only_unbound, body_part, routed}
+use Rattle.smithy_response.specs.Routes.{Source, in_header, in_prefix, in_status, in_payload, in_body, passed_over, handed_body, source_at, source_of, route, route_at}
+use Rattle.smithy_response.proofs.TransportLaw.{transport_is_heard}
+use Rattle.smithy_served.specs.AnswerView.{answer_view, member_view}
+use Rattle.smithy_served.specs.Laws.{HandsOut, IsAnswered, OutputsAreReadBack, AreReadBackBeside, with_body}
+use Rattle.smithy_served.proofs.Apart.{by-position}
+use Rattle.smithy_served.proofs.BoundBack.{all_bound, bound_members_are_read_back}
+use Rattle.smithy_served.proofs.Conforming.{response_is}
+use Rattle.smithy_served.proofs.FieldsBack.{fields_handed, fields_ordered, no_payload, read}
+use Rattle.smithy_served.proofs.Join.{HasNoPayload, IsHanded, body_is_payload, step}
+use Rattle.smithy_served.proofs.MemberHanded.{HandsSame}
+use Rattle.smithy_served.proofs.Merge.{AreIndexed, bound_part, made_from, merged}
+
+-- What stands in a response before what its body has.
+
+cons_before : (o : Option Write) (ws tail : List Write) → cons_option o ws ++ tail ≡ cons_option o (ws ++ tail)
+cons_before None ws tail = refl
+cons_before (Some w) ws tail = refl
+
+before : (response : Response) (body given : Held) (left : Option Held → Ended) (tail : List Write) (v : ℕ → Schema → Option Value) → IsHanded (left (Some given)) tail → (k : ℕ) (ms : List Schema)
+    → AllByRecursion (λ p. HandsSame body (route p.1 response) p.1 (v p.0 p.1)) (enumerate_from k ms) → AllByRecursion HasNoPayload ms → IsHanded (routed response left (Some given) ms) (made_from v k ms ++ tail)
+before response body given left tail v end k [] same none = end
+before response body given left tail v end k (m ∷ ms) same none =
+    let rest = before response body given left tail v end (k + 1) ms same.1 none.1 in
+    let other : route m response ≢ handed_body = λ e. (let q : true ≡ false = sym (body_is_payload m response e) ∙ none.0 in cc q) in
+    subst (IsHanded (routed response left (Some given) (m ∷ ms))) (sym (cons_before (option_map (write_by m) (v k m)) (made_from v (k + 1) ms) tail))
+    (step body m (route m response) (v k m) (Some given) (routed response left (Some given) ms) (routed response left None ms) (made_from v (k + 1) ms ++ tail) same.0 (λ e. absurd (other e)) rest (λ e. absurd (other e)))
+
+-- no member is a payload
+none_found : (ms : List Schema) → find (λ m. m.node.traits.http_payload) ms ≡ None → AllByRecursion HasNoPayload ms
+none_found [] e = tt
+none_found (m ∷ ms) e = go m.node.traits.http_payload refl e (none_found ms)
+  where
+    go : (b : Bool) → m.node.traits.http_payload ≡ b → cond b (Some m) (find (λ m. m.node.traits.http_payload) ms) ≡ None → (find (λ m. m.node.traits.http_payload) ms ≡ None → AllByRecursion HasNoPayload ms)
+        → HasNoPayload m × AllByRecursion HasNoPayload ms
+    go true is h rest = absurd (cc h)
+    go false is h rest = (is, rest h)
+
+none_any : (ms : List Schema) → AllByRecursion HasNoPayload ms → list_any (λ m. m.node.traits.http_payload) ms ≡ false
+none_any [] all = refl
+none_any (m ∷ ms) all = ap (λ b. b || list_any (λ m. m.node.traits.http_payload) ms) all.0 ∙ none_any ms all.1
+
+no_payload_at : (ms : List Schema) (j : ℕ) (m : Schema) → AllByRecursion HasNoPayload ms → slice_get ms j ≡ Some m → HasNoPayload m
+no_payload_at [] j m all at = absurd (cc at)
+no_payload_at (n ∷ ms) zero m all at = let same : n ≡ m = cc at in subst HasNoPayload same all.0
+no_payload_at (n ∷ ms) (suc j) m all at = no_payload_at ms j m all.1 at
+
+-- a member of the body has no route
+free_source : (header prefix : Option (List ℕ)) (code payload : Bool) → (is_some header || is_some prefix || code || payload) ≡ false → source_at header prefix code payload ≡ in_body
+free_source (Some n) prefix code payload e = absurd (cc e)
+free_source None (Some p) code payload e = absurd (cc e)
+free_source None None true payload e = absurd (cc e)
+free_source None None false true e = absurd (cc e)
+free_source None None false false e = refl
+
+free_route : (m : Schema) (response : Response) → is_response_bound m ≡ false → route m response ≡ passed_over
+free_route m response e = let t = m.node.traits in ap (λ s. route_at s m response) (free_source t.http_header t.http_prefix_headers t.http_response_code t.http_payload e)
+
+-- another body changes no route but a payload's
+source_no_payload : (header prefix : Option (List ℕ)) (code payload : Bool) → payload ≡ false → source_at header prefix code payload ≢ in_payload
+source_no_payload (Some n) prefix code payload e h = cc h
+source_no_payload None (Some p) code payload e h = cc h
+source_no_payload None None true payload e h = cc h
+source_no_payload None None false true e h = cc e
+source_no_payload None None false false e h = cc h
+
+route_kept : (m : Schema) (response : Response) (bytes : List ℕ) → HasNoPayload m → route m (with_body bytes response) ≡ route m response
+route_kept m response bytes none = go (source_of m) refl
+  where
+    go : (s : Source) → source_of m ≡ s → route_at s m (with_body bytes response) ≡ route_at s m response
+    go (in_header name) e = refl
+    go (in_prefix prefix) e = refl
+    go in_status e = refl
+    go in_payload e = absurd (let t = m.node.traits in source_no_payload t.http_header t.http_prefix_headers t.http_response_code t.http_payload none e)
+    go in_body e = refl
+
+is_read : (a b c : Bool) → a ≡ false → b ≡ true → c ≡ false → (not a && b && not c) ≡ true
+is_read a b c e f g = λ i. not (e i) && f i && not (g i)
+
+module _ (protocol : Protocol) (holds : List ℕ → Option Held) (lawful : IsLawfulText protocol.text_of holds) where
+  indexed : (schema : Schema) → IsCheckedOutput schema → is_well_made schema ≡ true → AreIndexed 0 (members_of schema)
+  indexed schema checked well_made =
+      all_placed (λ p. p.1.node.member_index ≡ Some p.0) 0 (members_of schema)
+      (λ j m at.
+      let none_more : 0 + j ≡ j = omega arith in
+      (member_in_place schema (0 + j) m well_made (ap (member_at schema) none_more ∙ sym (by-position schema checked j) ∙ at)).index)
+
+  -- with unbound members, over the response or one with another body
+  beside : (schema : Schema) (ws : List Write) (code : ℕ) (response other : Response) (body : Held) (policy : NonUtf8HeaderHandling) → IsAnswered protocol holds schema ws code response body → has_unbound schema ≡ true
+      → ((m : Schema) → HasNoPayload m → route m other ≡ route m response) → HandsOut (handed schema other body false policy) (answer_view schema ws)
+  unfolding handed answer_view
+  beside schema ws code response other held policy is some same_route =
+      record {
+        without_refusal = x.without_refusal;
+        writes = made_from (bound_part (member_view schema ws)) 0 (members_of schema) ++ (read protocol schema ws checked is.well_made is.typed some).writes;
+        members = x.members;
+        each_once = merged (member_view schema ws) (members_of schema) (read protocol schema ws checked is.well_made is.typed some).writes (indexed schema checked is.well_made) (fields_ordered protocol schema ws checked is.well_made is.typed some);
+      }
+    where
+      checked : IsCheckedOutput schema
+      checked = IsCheckedOutput-from_test schema is.checked
+
+      none : AllByRecursion HasNoPayload (members_of schema)
+      none = none_found (members_of schema) (no_payload protocol schema ws checked is.well_made is.typed some)
+
+      holding : holds (body protocol.text_of (as_output schema) ws).bytes ≡ Some held
+      holding = ap (λ (o : Option (List ℕ)). option_and_then holds o) (sym (ap (λ (r : Response). r.body) (response_is protocol schema ws code response is.typed.conforming is.answered))) ∙ is.body_held
+
+      end : IsHanded (body_part schema other false (Some held)) (read protocol schema ws checked is.well_made is.typed some).writes
+      end =
+          subst (λ b. IsHanded (if b then only_unbound (contents group.Structure schema held) else nothing) (read protocol schema ws checked is.well_made is.typed some).writes)
+          (sym (is_read (has_payload schema) (has_unbound schema) false (none_any (members_of schema) none) some refl))
+          (fields_handed protocol schema ws checked is.well_made is.typed some holds held lawful holding)
+
+      part : (i : ℕ) (m : Schema) → member_at schema i ≡ Some m → HasNoPayload m → HandsSame held (route m other) m (bound_part (member_view schema ws) i m)
+      part i m at unpaid = go (is_response_bound m) refl
+        where
+          go : (b : Bool) → is_response_bound m ≡ b → HandsSame held (route m other) m (if b then member_view schema ws i m else None)
+          go true e = subst (λ r. HandsSame held r m (member_view schema ws i m)) (sym (same_route m unpaid)) (bound_members_are_read_back protocol holds lawful schema ws code response held is i m at e)
+          go false e = subst (λ r. HandsSame held r m None) (sym (free_route m other e)) refl
+
+      all : AllByRecursion (λ p. HandsSame held (route p.1 other) p.1 (bound_part (member_view schema ws) p.0 p.1)) (enumerate_from 0 (members_of schema))
+      all =
+          all_placed (λ p. HandsSame held (route p.1 other) p.1 (bound_part (member_view schema ws) p.0 p.1)) 0 (members_of schema)
+          (λ j m at.
+          let none_more : 0 + j ≡ j = omega arith in
+          part (0 + j) m (ap (member_at schema) none_more ∙ sym (by-position schema checked j) ∙ at) (no_payload_at (members_of schema) j m none at))
+
+      x : IsHanded (routed other (body_part schema other false) (Some held) (members_of schema)) (made_from (bound_part (member_view schema ws)) 0 (members_of schema) ++ (read protocol schema ws checked is.well_made is.typed some).writes)
+      x = before other held held (body_part schema other false) (read protocol schema ws checked is.well_made is.typed some).writes (bound_part (member_view schema ws)) end 0 (members_of schema) all none
+
+  pub outputs_are_read_back : OutputsAreReadBack protocol holds
+  outputs_are_read_back schema ws code response body policy is = go (has_unbound schema) refl
+    where
+      go : (b : Bool) → has_unbound schema ≡ b → HandsOut (handed schema response body false policy) (answer_view schema ws)
+      go true e = beside schema ws code response response body policy is e (λ m none. refl)
+      go false e = all_bound protocol holds lawful schema (indexed schema (IsCheckedOutput-from_test schema is.checked) is.well_made) ws code response body policy is e
+
+  pub outputs_are_read_back_beside : AreReadBackBeside protocol holds
+  outputs_are_read_back_beside schema ws code response policy d other bytes is some alike =
+      subst (λ listing. HandsOut listing (answer_view schema ws)) (sym same)
+      (beside schema ws code response (with_body bytes response) (held.document d) policy is some (λ m none. route_kept m response bytes none))
+    where
+      checked : IsCheckedOutput schema
+      checked = IsCheckedOutput-from_test schema is.checked
+
+      none : has_payload schema ≡ false
+      none = none_any (members_of schema) (none_found (members_of schema) (no_payload protocol schema ws checked is.well_made is.typed some))
+
+      same : handed schema (with_body bytes response) (held.document other) false policy ≡ handed schema (with_body bytes response) (held.document d) false policy
+      same =
+          sym (transport_is_heard schema (with_body bytes response) other false policy none)
+          ∙ ap (λ x. handed schema (with_body bytes response) (held.document x) false policy) alike
+          ∙ transport_is_heard schema (with_body bytes response) d false policy none

@@ -1,0 +1,70 @@
+-- The fields of typed outputs as tests: an output that passes all of them is typed.
+use Rattle.std.proofs.Common.{◌≡◌, refl, ℕ, codes, Bool, true, false, not, ◌||◌, List, [], ◌∷◌, Option, Some, None, is_none, is_some, option_and_then}
+use Rattle.std.proofs.lemmas.Bool.{and_parts}
+use Rattle.std.specs.Bool.{IsTrue}
+use Rattle.std.specs.List.{list_all, AllByRecursion}
+use Rattle.smithy_schema.specs.Nodes.{Schema}
+use Rattle.smithy_serde.specs.Values.{Write}
+use Rattle.smithy_serde.specs.Ranges.{are_in_range}
+use Rattle.smithy_serde.specs.DocumentOf.{doc_of}
+use Rattle.smithy_serde.specs.Writes.{firsts}
+use Rattle.smithy_binding.specs.Bodies.{document_value}
+use Rattle.smithy_binding.specs.Checked.{prefixes}
+use Rattle.smithy_binding.specs.Outputs.{as_output}
+use Rattle.smithy_binding.specs.Placing.{Protocol}
+use Rattle.smithy_binding.specs.ResponseCodes.{code_write}
+use Rattle.smithy_binding.specs.Typed.{is_shaped_write, is_shallow}
+use Rattle.smithy_serve.specs.Answer.{answer_fault}
+use Rattle.smithy_served.specs.TypedOutputs.{IsTypedOutput, bodied, is_shaped_payload, is_typed_header, has_code, writes_defaults, begins_no_default}
+
+-- the tests under the names of their fields
+abbrev tests : Protocol → Schema → List Write → List (List ℕ × Bool)
+tests protocol schema ws =
+    (codes "in_range", are_in_range ws)
+    ∷ (codes "conforming", is_none (answer_fault schema ws))
+    ∷ (codes "unbound_shaped", list_all is_shaped_write (bodied schema ws))
+    ∷ (codes "payload_shaped", list_all is_shaped_payload (firsts schema ws))
+    ∷ (codes "shallow", is_shallow (option_and_then doc_of (document_value (as_output schema) ws)))
+    ∷ (codes "header_values", list_all is_typed_header (firsts schema ws))
+    ∷ (codes "code", not (has_code schema) || is_some (code_write (as_output schema) ws))
+    ∷ (codes "defaults", writes_defaults protocol (as_output schema) ws)
+    ∷ (codes "prefixed", list_all begins_no_default (prefixes schema))
+    ∷ []
+
+-- the names of the tests that fail
+abbrev failed : List (List ℕ × Bool) → List (List ℕ)
+failed [] = []
+failed ((name, true) ∷ ts) = failed ts
+failed ((name, false) ∷ ts) = name ∷ failed ts
+
+-- the fields that an output fails
+abbrev pub failing : Protocol → Schema → List Write → List (List ℕ)
+failing protocol schema ws = failed (tests protocol schema ws)
+
+passed : (ts : List (List ℕ × Bool)) → failed ts ≡ [] → AllByRecursion (λ t. IsTrue t.1) ts
+passed [] e = tt
+passed ((name, true) ∷ ts) e = (refl, passed ts e)
+passed ((name, false) ∷ ts) e = absurd (cc e)
+
+each : {X : Type 0} (test : X → Bool) (xs : List X) → list_all test xs ≡ true → AllByRecursion (λ x. IsTrue (test x)) xs
+each test [] e = tt
+each test (x ∷ xs) e = let p = and_parts (test x) (list_all test xs) e in (p.0, each test xs p.1)
+
+none : {X : Type 0} (o : Option X) → is_none o ≡ true → o ≡ None
+none None e = refl
+none (Some x) e = absurd (cc e)
+
+pub typed_if_nothing_fails : (protocol : Protocol) (schema : Schema) (ws : List Write) → failing protocol schema ws ≡ [] → IsTypedOutput protocol schema ws
+typed_if_nothing_fails protocol schema ws e =
+    let t = passed (tests protocol schema ws) e in
+    record {
+      in_range = t.0;
+      conforming = none _ t.1.0;
+      unbound_shaped = each is_shaped_write _ t.1.1.0;
+      payload_shaped = each is_shaped_payload _ t.1.1.1.0;
+      shallow = t.1.1.1.1.0;
+      header_values = each is_typed_header _ t.1.1.1.1.1.0;
+      code = t.1.1.1.1.1.1.0;
+      defaults = t.1.1.1.1.1.1.1.0;
+      prefixed = t.1.1.1.1.1.1.1.1.0;
+    }

@@ -1,0 +1,389 @@
+-- What a response has behind a prefix is read as the map that was written.
+use Rattle.std.proofs.Common.{◌≡◌, ◌≢◌, refl, sym, ◌∙◌, ap, subst, ℕ, nat_eq, Bool, true, false, not, cond, ◌&&◌, ◌||◌, List, [], ◌∷◌, ◌++◌, map, filter, filter_map, Option, Some, None, Result, Ok, option_to_list, unwrap_or, is_some, is_none, IsTrue}
+use Rattle.std.specs.List.{AllByRecursion, list_all, list_any, starts_with}
+use Rattle.std.specs.Option.{ok_or, option_map_or, option_or}
+use Rattle.std.specs.Str.{is_utf8, str_to_ascii_lowercase}
+use Rattle.std.specs.Cmp.Lexicographic.{same_text as same_from_test}
+use Rattle.std.proofs.lemmas.Bool.{and_parts}
+use Rattle.std.proofs.lemmas.List.{map-append, append_cancel_left}
+use Rattle.smithy_types.specs.Maps.{all_put}
+use Rattle.smithy_types.specs.Results.{then_try, then_give, first_of_all}
+use Rattle.smithy_types.specs.Texts.{same_text, is_one_of}
+use Rattle.smithy_ids.specs.declared.shape_type.ShapeType.TheVariants as kind
+use Rattle.smithy_ids.specs.Kinds.{same_kind}
+use Rattle.smithy_ids.proofs.KindLemmas.{one_kind}
+use Rattle.smithy_http.specs.Facts.{values_at}
+use Rattle.smithy_http.specs.HeaderValues.{one_text_of}
+use Rattle.smithy_http.proofs.ValueLemmas.{lower_twice}
+use Rattle.smithy_schema.specs.Nodes.{Schema, Binding, binding_at, binding_of, to_header, to_prefix, is_bound, is_outside_body, key_of, value_of, member_at, members_of}
+use Rattle.smithy_serde.specs.Fits.{fits, is_null}
+use Rattle.smithy_serde.specs.HeaderReads.{one_token, decoded_text, or_parse_refusal, no_value}
+use Rattle.smithy_serde.specs.Held as held
+use Rattle.smithy_serde.specs.Held.{Held}
+use Rattle.smithy_serde.specs.HeldReads.{read_scalar, entries}
+use Rattle.smithy_serde.specs.NormalBody.{in_key_order, entry_writes}
+use Rattle.smithy_serde.specs.Ranges.{is_in_range}
+use Rattle.smithy_serde.specs.ValueRead.{value_read, value_within, value_by_kind, map_by, all_read, entry_by, joined}
+use Rattle.smithy_serde.specs.Values as value
+use Rattle.smithy_serde.specs.Values.{Label, Scalar, Value, Write, Writes, text_of_key, writes_of}
+use Rattle.smithy_serde.specs.Writes.{Resolved}
+use Rattle.smithy_serde.specs.declared.error.SerdeError.{SerdeError}
+use Rattle.smithy_strings.proofs.UnescapeLaws.{same_self}
+use Rattle.smithy_binding.specs.Bindings.{entries_of, headers, inserted_at, map_entries}
+use Rattle.smithy_binding.specs.Bodies.{body}
+use Rattle.smithy_binding.specs.Checked.{is_plain_string, is_text_map, prefixes}
+use Rattle.smithy_binding.specs.CheckedOutput.{IsCheckedOutput}
+use Rattle.smithy_binding.specs.Faults.{bound_fault, value_fault, item_fault, key_fault, year_fault, pairs_fault, is_placed_at}
+use Rattle.smithy_binding.specs.Messages.{message_headers}
+use Rattle.smithy_binding.specs.NormalForm.{in_lower_case, own_entries}
+use Rattle.smithy_binding.specs.Outputs.{as_output, keep_defaults}
+use Rattle.smithy_binding.specs.Placing.{Protocol}
+use Rattle.smithy_binding.specs.Typed.{default_names, has_distinct_keys}
+use Rattle.smithy_binding.specs.declared.direction.Direction.TheVariants as direction
+use Rattle.smithy_binding.proofs.Directions.{map_fault-in}
+use Rattle.smithy_document.proofs.OrderedPairs.{look_ordered, last_ascending}
+use Rattle.smithy_unambiguity.proofs.ByMember.{at_member, none_given}
+use Rattle.smithy_unambiguity.proofs.Conforming.{conforming_bound, no_first}
+use Rattle.smithy_unambiguity.proofs.Defaults.{all_headers_at, leaves-elsewhere}
+use Rattle.smithy_unambiguity.proofs.EntriesTold.{as_text, in_order, last_of-texts, lower_entries, ordered_told, own_text_entries}
+use Rattle.smithy_unambiguity.proofs.Headers.{headers_at, given, nothing_inserted, named_header, headers_of_prefix, map_pairs}
+use Rattle.smithy_unambiguity.proofs.LastTexts.{last_value, last_at, lowered}
+use Rattle.smithy_unambiguity.proofs.Lists.{all_from_test}
+use Rattle.smithy_unambiguity.proofs.MapsTold.{written_pairs, last_of_entries, not_lower}
+use Rattle.smithy_unambiguity.proofs.PairLemmas.{valued, ordered_ascends}
+use Rattle.smithy_unambiguity.proofs.Placed.{bound_fits, first_fitting, first_found, first_has}
+use Rattle.smithy_unambiguity.proofs.Positions.{at_name}
+use Rattle.smithy_unambiguity.proofs.TextsBytes.{IsEntryInRange, map_in_range, text_utf8}
+use Rattle.smithy_response.specs.PrefixedHeaders.{values_named, behind_lower, keys_behind_lower, entry_of, prefixed_in}
+use Rattle.smithy_response.specs.Routes.{in_prefix, source_at, source_of, handed_out}
+use Rattle.smithy_served.specs.AnswerView.{first_value, prefix_view}
+use Rattle.smithy_served.specs.TypedOutputs.{IsTypedOutput, begins_no_default, is_trimmed, is_typed_at, is_typed_header}
+use Rattle.smithy_served.proofs.Alike.{first_value-out, member_at-out}
+use Rattle.smithy_served.proofs.Apart.{at-position, headers_apart-out, starts-self}
+use Rattle.smithy_served.proofs.Behind.{all_of, behind_any, has_value, last_keyed, with_new-any}
+use Rattle.smithy_served.proofs.Conforming.{no_write_fault}
+use Rattle.smithy_served.proofs.MemberHanded.{HandsSame}
+use Rattle.smithy_served.proofs.Scalars.{plain_read}
+
+-- A prefix map of a response.
+pub record IsPrefixMap (m : Schema) (prefix : List ℕ) : Type 0 where
+  pub no_header : m.node.traits.http_header ≡ None
+  pub trait : m.node.traits.http_prefix_headers ≡ Some prefix
+  pub text_map : is_text_map m ≡ true
+
+-- No header of a response has a name that is not in lower case.
+no_upper : (schema : Schema) (ws : List Write) (name : List ℕ) → same_text (str_to_ascii_lowercase name) name ≡ false → values_at name (headers schema ws) ≡ []
+no_upper schema ws name upper = headers_at schema ws name ∙ ap (λ vs. option_to_list (last_value vs)) (none_given (given name) schema ws (λ r at. nothing_inserted name r (unnamed r) (λ prefix e key. unlike (prefix ++ key))))
+  where
+    unlike : (x : List ℕ) → str_to_ascii_lowercase x ≢ name
+    unlike x same =
+        let lower : str_to_ascii_lowercase name ≡ name = ap str_to_ascii_lowercase (sym same) ∙ lower_twice x ∙ same in
+        let q : true ≡ false = sym (same_self name) ∙ ap (λ n. same_text n name) (sym lower) ∙ upper in
+        cc q
+
+    unnamed : (r : Resolved) → named_header name (binding_of r.member) ≡ false
+    unnamed r = go (binding_of r.member)
+      where
+        go : (b : Binding) → named_header name b ≡ false
+        go (to_header n) = by (same_text (str_to_ascii_lowercase n) name) refl
+          where
+            by : (t : Bool) → same_text (str_to_ascii_lowercase n) name ≡ t → t ≡ false
+            by true e = absurd (unlike n (same_from_test (str_to_ascii_lowercase n) name (sym e)))
+            by false e = refl
+        go _ = refl
+
+-- a name with the front is none of these, where the front begins none of them
+any_front : (low key : List ℕ) (names : List (List ℕ)) → is_one_of (low ++ key) names ≡ true → list_any (λ name. starts_with nat_eq name low) names ≡ true
+any_front low key [] e = absurd (cc e)
+any_front low key (n ∷ names) e = go (same_text (low ++ key) n) refl e (any_front low key names)
+  where
+    or_right : (a b : Bool) → b ≡ true → (a || b) ≡ true
+    or_right true b h = refl
+    or_right false b h = h
+
+    go : (t : Bool) → same_text (low ++ key) n ≡ t → (t || is_one_of (low ++ key) names) ≡ true → (is_one_of (low ++ key) names ≡ true → list_any (λ name. starts_with nat_eq name low) names ≡ true)
+        → (starts_with nat_eq n low || list_any (λ name. starts_with nat_eq name low) names) ≡ true
+    go true is h rest = ap (λ t. t || list_any (λ name. starts_with nat_eq name low) names) (ap (λ x. starts_with nat_eq x low) (sym (same_from_test (low ++ key) n (sym is))) ∙ starts-self low key)
+    go false is h rest = or_right (starts_with nat_eq n low) (list_any (λ name. starts_with nat_eq name low) names) (rest h)
+
+-- Texts that are read whole.
+
+abbrev IsWhole : List ℕ → Type 0
+IsWhole t = (is_utf8 t ≡ true) × (is_trimmed t ≡ true)
+
+entries_whole : (es : List (List ℕ × Value)) → AllByRecursion IsEntryInRange es → list_all (λ e. is_trimmed (text_of_key e.1)) es ≡ true → AllByRecursion (λ p. IsWhole p.1) (lowered (valued text_of_key es))
+entries_whole [] range trimmed = tt
+entries_whole (e ∷ es) range trimmed =
+    let parts = and_parts (is_trimmed (text_of_key e.1)) (list_all (λ e. is_trimmed (text_of_key e.1)) es) trimmed in
+    ((text_utf8 e.1 range.0.1, parts.0), entries_whole es range.1 parts.1)
+
+values_all : (P : List ℕ → Type 0) (k : List ℕ) (ps : List (List ℕ × List ℕ)) → AllByRecursion (λ p. P p.1) ps → AllByRecursion P (values_at k ps)
+values_all P k [] all = tt
+values_all P k (p ∷ ps) all = go (same_text p.0 k) (values_all P k ps all.1)
+  where
+    go : (t : Bool) → AllByRecursion P (values_at k ps) → AllByRecursion P (map (λ (q : List ℕ × List ℕ). q.1) (cond t (p ∷ filter (λ q. same_text q.0 k) ps) (filter (λ q. same_text q.0 k) ps)))
+    go true rest = (all.0, rest)
+    go false rest = rest
+
+last_has : (P : List ℕ → Type 0) (vs : List (List ℕ)) (t : List ℕ) → AllByRecursion P vs → last_value vs ≡ Some t → P t
+last_has P [] t all e = absurd (cc e)
+last_has P (v ∷ vs) t all e = go (last_value vs) refl e (last_has P vs t all.1)
+  where
+    go : (o : Option (List ℕ)) → last_value vs ≡ o → option_or o (Some v) ≡ Some t → (last_value vs ≡ Some t → P t) → P t
+    go None is h rest = let same : v ≡ t = cc h in subst P same all.0
+    go (Some x) is h rest = let same : x ≡ t = cc h in rest (is ∙ ap Some same)
+
+-- The read of one entry.
+
+abbrev IsPlain : Schema → Type 0
+IsPlain n = (n.node.kind ≡ kind.String) × (n.node.traits.media_type ≡ None)
+
+plain_node : (o : Option Schema) → is_plain_string o ≡ true → (n : Schema) × (o ≡ Some n) × IsPlain n
+plain_node None e = absurd (cc e)
+plain_node (Some n) e =
+    let parts = and_parts (same_kind n.node.kind kind.String) (is_none n.node.traits.media_type) e in
+    (n, refl, (one_kind n.node.kind kind.String parts.0, none n.node.traits.media_type parts.1))
+  where
+    none : (o : Option (List ℕ)) → is_none o ≡ true → o ≡ None
+    none None h = refl
+    none (Some x) h = absurd (cc h)
+
+text_read : (n : Schema) (name t : List ℕ) → IsPlain n → IsWhole t → value_within 2 n (held.header name (t ∷ [])) ≡ Ok (as_text t)
+unfolding read_scalar
+text_read n name t is whole =
+    ap (λ k. value_by_kind (value_within 1) k n (held.header name (t ∷ []))) is.0
+    ∙ ap (λ (r : Result Scalar SerdeError). then_give r (λ x. value.scalar x))
+    (ap (λ (o : Option (List ℕ)). cond (is_some o) (then_try (one_token kind.String name (t ∷ [])) decoded_text) (then_try (or_parse_refusal (one_text_of (t ∷ []))) (λ text. then_give (ok_or text (no_value kind.String name)) (λ u. value.text u)))) is.1
+    ∙ plain_read n name t whole.0 whole.1)
+
+-- The writes that are read.
+
+abbrev read_entry : Schema → Schema → (List ℕ → List ℕ) → List ℕ → Write × Write
+read_entry k n text key = entry_by k n key (as_text (text key))
+
+entries_read : (k n : Schema) (values : List ℕ → List (List ℕ)) (low : List ℕ) (text : List ℕ → List ℕ) (keys : List (List ℕ)) → AllByRecursion (λ key. value_within 2 n (held.header (low ++ key) (values key)) ≡ Ok (as_text (text key))) keys
+    → all_read (λ (x : List ℕ × Held). then_give (value_within 2 n x.1) (entry_by k n x.0)) (map {B = List ℕ × Held} (λ key. (key, held.header (low ++ key) (values key))) keys) ≡ Ok (map (read_entry k n text) keys)
+entries_read k n values low text [] all = refl
+entries_read k n values low text (key ∷ keys) all =
+    λ j. then_try (then_give (all.0 j) (entry_by k n key)) (λ y. then_give (entries_read k n values low text keys all.1 j) (λ ys. y ∷ ys))
+
+map_map : (prefix : List ℕ) (pairs : List (List ℕ × List ℕ)) (keys : List (List ℕ)) → map {B = List ℕ × Held} (λ p. (p.key, held.header p.name p.values)) (map (entry_of prefix pairs) keys)
+    ≡ map {B = List ℕ × Held} (λ key. (key, held.header (str_to_ascii_lowercase prefix ++ key) (values_named (str_to_ascii_lowercase prefix ++ key) pairs))) keys
+map_map prefix pairs [] = refl
+map_map prefix pairs (key ∷ keys) = ap (λ es. (key, held.header (str_to_ascii_lowercase prefix ++ key) (values_named (str_to_ascii_lowercase prefix ++ key) pairs)) ∷ es) (map_map prefix pairs keys)
+
+entries_of-read : (k n : Schema) (text : List ℕ → List ℕ) (keys : List (List ℕ)) → entries_of (writes_of (joined (map (read_entry k n text) keys))) ≡ valued as_text (map (λ key. (key, text key)) keys)
+entries_of-read k n text [] = refl
+entries_of-read k n text (key ∷ keys) = ap (λ es. (key, as_text (text key)) ∷ es) (entries_of-read k n text keys)
+
+entries_of-written : (k v : Label) (es : List (List ℕ × Value)) → entries_of (entry_writes k v es) ≡ es
+entries_of-written k v [] = refl
+entries_of-written k v (e ∷ es) = ap (λ xs. e ∷ xs) (entries_of-written k v es)
+
+map_form : (v : Value) → fits kind.Map v ≡ true → (ws : Writes) × (v ≡ value.map ws)
+map_form (value.map ws) e = (ws, refl)
+map_form (value.scalar (value.whole value.byte z)) e = absurd (cc e)
+map_form (value.scalar (value.whole value.short z)) e = absurd (cc e)
+map_form (value.scalar (value.whole value.integer z)) e = absurd (cc e)
+map_form (value.scalar (value.whole value.long z)) e = absurd (cc e)
+map_form _ e = absurd (cc e)
+
+last_of_list : (o : Option (List ℕ)) → last_value (option_to_list o) ≡ o
+last_of_list None = refl
+last_of_list (Some x) = refl
+
+-- In one response.
+module _ (protocol : Protocol) (schema : Schema) (ws : List Write) (i : ℕ) (m : Schema) (prefix : List ℕ) (checked : IsCheckedOutput schema) (typed : IsTypedOutput protocol schema ws) (at : member_at schema i ≡ Some m) (is : IsPrefixMap m prefix) where
+  abbrev out : Schema
+  out = as_output schema
+
+  abbrev low : List ℕ
+  low = str_to_ascii_lowercase prefix
+
+  abbrev pairs : List (List ℕ × List ℕ)
+  pairs = message_headers protocol (as_output schema) ws keep_defaults
+
+  abbrev written : List (List ℕ × List ℕ)
+  written = lowered (written_pairs (first_value schema ws i))
+
+  begins : binding_of (as_output m) ≡ to_prefix prefix
+  begins = λ j. binding_at (is.no_header j) (is.trait j) None false m.node.traits.http_response_code m.node.traits.http_payload
+
+  at_out : member_at (as_output schema) i ≡ Some (as_output m)
+  at_out = member_at-out schema i m at
+
+  no_default : (key : List ℕ) → is_one_of (low ++ key) default_names ≡ false
+  no_default key = go (is_one_of (low ++ key) default_names) refl
+    where
+      alone : begins_no_default prefix ≡ true
+      alone = at_name (λ p. begins_no_default p ≡ true) (λ m. m.node.traits.http_prefix_headers) (members_of schema) i m prefix (all_from_test begins_no_default (prefixes schema) typed.prefixed) (at-position schema checked i m at) is.trait
+
+      go : (t : Bool) → is_one_of (low ++ key) default_names ≡ t → t ≡ false
+      go false e = refl
+      go true e = let q : false ≡ true = sym (ap not (any_front low key default_names e)) ∙ alone in absurd (cc q)
+
+  elsewhere : (key : List ℕ) → values_at (low ++ key) pairs ≡ values_at (low ++ key) (headers out ws)
+  unfolding message_headers
+  elsewhere key = all_headers_at protocol (body protocol.text_of out ws) keep_defaults (headers out ws) (low ++ key) (leaves-elsewhere (body protocol.text_of out ws) keep_defaults (headers out ws) (low ++ key) (no_default key))
+
+  -- behind the prefix stand the entries that were written
+  told : (key : List ℕ) → values_at (low ++ key) pairs ≡ last_at key written
+  told key = elsewhere key ∙ go (same_text (str_to_ascii_lowercase key) key) refl
+    where
+      go : (t : Bool) → same_text (str_to_ascii_lowercase key) key ≡ t → values_at (low ++ key) (headers out ws) ≡ last_at key written
+      go true e =
+          let lower = same_from_test (str_to_ascii_lowercase key) key (sym e) in
+          ap (λ n. values_at n (headers out ws)) (sym (map-append _ prefix key ∙ ap (λ x. low ++ x) lower))
+          ∙ headers_of_prefix out ws i (as_output m) prefix key (headers_apart-out schema checked) at_out begins
+          ∙ ap (λ o. option_map_or (λ v. last_at (str_to_ascii_lowercase key) (lowered (map_pairs v))) o []) (first_value-out schema ws i)
+          ∙ last_of_entries (str_to_ascii_lowercase key) (first_value schema ws i)
+          ∙ ap (λ n. last_at n written) lower
+      go false e = no_upper out ws (low ++ key) upper ∙ sym (ap (λ vs. option_to_list (last_value vs)) (not_lower key (written_pairs (first_value schema ws i)) e))
+        where
+          upper : same_text (str_to_ascii_lowercase (low ++ key)) (low ++ key) ≡ false
+          upper = no (same_text (str_to_ascii_lowercase (low ++ key)) (low ++ key)) refl
+            where
+              no : (s : Bool) → same_text (str_to_ascii_lowercase (low ++ key)) (low ++ key) ≡ s → s ≡ false
+              no false h = refl
+              no true h =
+                  let whole = same_from_test (str_to_ascii_lowercase (low ++ key)) (low ++ key) (sym h) in
+                  let split : low ++ str_to_ascii_lowercase key ≡ low ++ key = ap (λ x. x ++ str_to_ascii_lowercase key) (sym (lower_twice prefix)) ∙ sym (map-append _ low key) ∙ whole in
+                  let keys = append_cancel_left low (str_to_ascii_lowercase key) key split in
+                  let z : true ≡ false = sym (same_self key) ∙ ap (λ n. same_text n key) (sym keys) ∙ e in
+                  absurd (cc z)
+
+  -- the text of an entry
+  abbrev text : List ℕ → List ℕ
+  text key = unwrap_or (last_value (values_at (low ++ key) pairs)) []
+
+  abbrev known : List (List ℕ)
+  known = keys_behind_lower low pairs
+
+  is_known : (key : List ℕ) → is_one_of key known ≡ has_value (values_at (low ++ key) pairs)
+  is_known key = with_new-any key [] (filter_map (λ p. behind_lower low p.0) pairs) ∙ behind_any low key pairs
+
+  -- the last text under a key, by what is known
+  last_known : (key : List ℕ) → cond (is_one_of key known) (Some (text key)) None ≡ last_value (values_at key written)
+  last_known key =
+      ap (λ b. cond b (Some (text key)) None) (is_known key)
+      ∙ ap (λ vs. cond (has_value vs) (Some (unwrap_or (last_value vs) [])) None) (told key) ∙ go (last_value (values_at key written))
+    where
+      go : (o : Option (List ℕ)) → cond (has_value (option_to_list o)) (Some (unwrap_or (last_value (option_to_list o)) [])) None ≡ o
+      go None = refl
+      go (Some t) = refl
+
+  known_last : (key : List ℕ) → is_one_of key known ≡ true → last_value (values_at key written) ≡ Some (text key)
+  known_last key e = sym (last_known key) ∙ ap (λ b. cond b (Some (text key)) None) e
+
+  known_lower : (key : List ℕ) → is_one_of key known ≡ true → str_to_ascii_lowercase key ≡ key
+  known_lower key e = go (same_text (str_to_ascii_lowercase key) key) refl
+    where
+      go : (t : Bool) → same_text (str_to_ascii_lowercase key) key ≡ t → str_to_ascii_lowercase key ≡ key
+      go true h = same_from_test (str_to_ascii_lowercase key) key (sym h)
+      go false h = let q : None ≡ Some (text key) = sym (ap last_value (not_lower key (written_pairs (first_value schema ws i)) h)) ∙ known_last key e in absurd (cc q)
+
+  known_values : (key : List ℕ) → is_one_of key known ≡ true → values_named (low ++ key) pairs ≡ text key ∷ []
+  known_values key e =
+      ap (λ n. values_at n pairs) (map-append _ low key ∙ ap (λ x. x ++ str_to_ascii_lowercase key) (lower_twice prefix) ∙ ap (λ x. low ++ x) (known_lower key e))
+      ∙ told key ∙ ap option_to_list (known_last key e)
+
+  -- The map that was written.
+
+  own_source : source_of m ≡ in_prefix prefix
+  own_source = λ j. source_at (is.no_header j) (is.trait j) m.node.traits.http_response_code m.node.traits.http_payload
+
+  map_kind : m.node.kind ≡ kind.Map
+  map_kind = one_kind m.node.kind kind.Map (and_parts (same_kind m.node.kind kind.Map) (is_plain_string (key_of m)) (and_parts (same_kind m.node.kind kind.Map && is_plain_string (key_of m)) (is_plain_string (value_of m)) is.text_map).0).0
+
+  plain_value : is_plain_string (value_of m) ≡ true
+  plain_value = (and_parts (same_kind m.node.kind kind.Map && is_plain_string (key_of m)) (is_plain_string (value_of m)) is.text_map).1
+
+  plain_key : is_plain_string (key_of m) ≡ true
+  plain_key = (and_parts (same_kind m.node.kind kind.Map) (is_plain_string (key_of m)) (and_parts (same_kind m.node.kind kind.Map && is_plain_string (key_of m)) (is_plain_string (value_of m)) is.text_map).0).1
+
+  -- its value is a map without faults, in range, of texts without outer white space
+  record IsWrittenMap (u : Value) : Type 0 where
+    in_range : is_in_range u ≡ true
+    items : item_fault m u ≡ None
+    trimmed : list_all (λ e. is_trimmed (text_of_key e.1)) (map_entries u) ≡ true
+
+  written_map : (u : Value) → first_value schema ws i ≡ Some u → IsWrittenMap u
+  written_map u e =
+      let conforming = no_write_fault schema ws typed.conforming in
+      let e_out : first_value out ws i ≡ Some u = first_value-out schema ws i ∙ e in
+      let fitting = first_fitting out ws i (as_output m) u conforming typed.in_range at_out e_out in
+      let fit = bound_fits (fits m.node.kind u) (is_null u) (is_bound (as_output m)) (ap is_outside_body begins) fitting.fits in
+      let fault : bound_fault (at_member i (as_output m) u) ≡ None = conforming_bound out ws conforming i (at_member i (as_output m) u) (first_found out ws i (as_output m) u at_out e_out) (ap is_placed_at begins) in
+      let a = no_first (value_fault (as_output m) u) (pairs_fault (as_output m) (inserted_at (binding_of (as_output m)) (as_output m) u)) fault in
+      let x = map_form u (ap (λ k. fits k u) (sym map_kind) ∙ fit) in
+      let own : value_fault m u ≡ None = ap (value_fault m) x.1 ∙ sym (map_fault-in direction.Response m x.0) ∙ ap (value_fault (as_output m)) (sym x.1) ∙ a.0 in
+      let b = no_first (item_fault m u) (first_of_all (key_fault m u ∷ year_fault m u ∷ [])) own in
+      let tests = and_parts (list_all (λ e. is_trimmed (text_of_key e.1)) (map_entries u)) (has_distinct_keys u) (ap (λ s. is_typed_at s m u) (sym own_source) ∙ first_has (λ r. IsTrue (is_typed_header r)) schema ws i m u at e typed.header_values) in
+      record { in_range = fitting.in_range; items = b.0; trimmed = tests.0 }
+
+  written_whole : AllByRecursion (λ p. IsWhole p.1) written
+  written_whole = go (first_value schema ws i) refl
+    where
+      go : (o : Option Value) → first_value schema ws i ≡ o → AllByRecursion (λ p. IsWhole p.1) (lowered (written_pairs o))
+      go None e = tt
+      go (Some u) e = let x = written_map u e in entries_whole (map_entries u) (map_in_range u x.in_range) x.trimmed
+
+  known_whole : (key : List ℕ) → is_one_of key known ≡ true → IsWhole (text key)
+  known_whole key e = last_has IsWhole (values_at key written) (text key) (values_all IsWhole key written written_whole) (known_last key e)
+
+  -- the normal form's entries
+  abbrev ordered : List (List ℕ × List ℕ)
+  ordered = all_put written []
+
+  viewed : in_key_order (in_lower_case (option_map_or (own_entries m) (first_value schema ws i) [])) ≡ valued as_text ordered
+  viewed = go (first_value schema ws i) refl
+    where
+      go : (o : Option Value) → first_value schema ws i ≡ o → in_key_order (in_lower_case (option_map_or (own_entries m) o [])) ≡ valued as_text (all_put (lowered (written_pairs o)) [])
+      go None e = refl
+      go (Some u) e =
+          ap (λ es. in_key_order (in_lower_case es)) (own_text_entries m u plain_value (written_map u e).items)
+          ∙ ap in_key_order (lower_entries (map_pairs u)) ∙ in_order as_text (lowered (map_pairs u))
+
+  -- what is read has the same entries
+  same_last : (name : List ℕ) → last_value (values_at name (map (λ key. (key, text key)) known)) ≡ last_value (values_at name ordered)
+  same_last name =
+      last_keyed text known name ∙ last_known name
+      ∙ sym (last_of-texts name written) ∙ sym (look_ordered name written) ∙ sym (last_ascending name ordered (ordered_ascends written)) ∙ last_of-texts name ordered
+
+  record IsMapRead : Type 0 where
+    key_node : Schema
+    value_node : Schema
+    read : value_read m (held.prefixed (prefixed_in prefix pairs)) ≡ Ok (value.map (writes_of (joined (map (read_entry key_node value_node text) known))))
+
+  map_read : IsMapRead
+  unfolding value_read entries
+  map_read =
+      let k = plain_node (key_of m) plain_key in
+      let n = plain_node (value_of m) plain_value in
+      let h : Held = held.prefixed (prefixed_in prefix pairs) in
+      let each : AllByRecursion (λ key. value_within 2 n.0 (held.header (low ++ key) (values_named (low ++ key) pairs)) ≡ Ok (as_text (text key))) known =
+      all_of (λ key. value_within 2 n.0 (held.header (low ++ key) (values_named (low ++ key) pairs)) ≡ Ok (as_text (text key))) known
+      (λ key e. ap (λ vs. value_within 2 n.0 (held.header (low ++ key) vs)) (known_values key e) ∙ text_read n.0 (low ++ key) (text key) n.2 (known_whole key e)) in
+      record {
+        key_node = k.0;
+        value_node = n.0;
+        read =
+            ap (λ s. value_by_kind (value_within 2) s m h) map_kind
+            ∙ ap (λ o. map_by (value_within 2) m o (value_of m) h) k.1
+            ∙ ap (λ o. map_by (value_within 2) m (Some k.0) o h) n.1
+            ∙ ap (λ es. then_give (all_read (λ (x : List ℕ × Held). then_give (value_within 2 n.0 x.1) (entry_by k.0 n.0 x.0)) es) (λ us. value.map (writes_of (joined us)))) (map_map prefix pairs known)
+            ∙ ap (λ (r : Result (List (Write × Write)) SerdeError). then_give r (λ us. value.map (writes_of (joined us)))) (entries_read k.0 n.0 (λ key. values_named (low ++ key) pairs) low text known each);
+      }
+
+  pub prefix_handed : (h : Held) (given : List (List ℕ × List ℕ)) → given ≡ message_headers protocol (as_output schema) ws keep_defaults
+      → HandsSame h (handed_out (held.prefixed (prefixed_in prefix given))) m (Some (prefix_view m (first_value schema ws i)))
+  prefix_handed h given same =
+      subst (λ ps. HandsSame h (handed_out (held.prefixed (prefixed_in prefix ps))) m (Some (prefix_view m (first_value schema ws i)))) (sym same) (
+        value.map (writes_of (joined (map (read_entry map_read.key_node map_read.value_node text) known))),
+        map_read.read,
+        ap in_key_order (entries_of-read map_read.key_node map_read.value_node text known)
+            ∙ in_order as_text (map (λ key. (key, text key)) known)
+            ∙ ap (valued as_text) (ordered_told (map (λ key. (key, text key)) known) ordered same_last)
+            ∙ sym (in_order as_text ordered)
+            ∙ sym (ap in_key_order (entries_of-written _ _ (in_key_order (in_lower_case (option_map_or (own_entries m) (first_value schema ws i) []))) ∙ viewed)),
+      )

@@ -1,0 +1,3 @@
+pub mod TypedOutputs
+pub mod AnswerView
+pub mod Laws
