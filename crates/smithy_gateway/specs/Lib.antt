@@ -1,0 +1,6 @@
+pub mod Finding
+pub mod Calls
+pub mod Gateway
+pub mod Laws
+pub mod Answers
+pub mod views
