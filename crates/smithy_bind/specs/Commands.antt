@@ -5,7 +5,7 @@ use Rattle.std.specs.Str.Parse.{digits_value}
 use Rattle.smithy_types.specs.BigNumbers.{are_digits}
 use Rattle.smithy_model.specs.Names.{is}
 use Rattle.smithy_bind.specs.declared.command.Command.{Command}
-use Rattle.smithy_bind.specs.declared.command.Command.TheVariants.{Request, Response, Rpc, Recover, Route, Generate, Help, Version}
+use Rattle.smithy_bind.specs.declared.command.Command.TheVariants.{Request, Response, Rpc, Recover, Route, Gateway, Answer, Generate, Help, Version}
 
 -- the commands that are one word
 abbrev pub named : List (List ℕ × Command)
@@ -15,6 +15,8 @@ named =
     ∷ (codes "rpc", Rpc)
     ∷ (codes "recover", Recover)
     ∷ (codes "route", Route)
+    ∷ (codes "gateway", Gateway)
+    ∷ (codes "answer", Answer)
     ∷ (codes "--help", Help)
     ∷ (codes "--version", Version)
     ∷ []

@@ -1,5 +1,5 @@
 -- What a command answers.
-use Rattle.std.specs.Prelude.{ℕ, codes, List, [], Result, Ok, Err, Option, Some, None, if◌then◌else◌}
+use Rattle.std.specs.Prelude.{ℕ, codes, List, [], Result, Option, Some, None, if◌then◌else◌}
 use Rattle.smithy_http.specs.Requests.{Request}
 use Rattle.smithy_schema.specs.Nodes.{Schema}
 use Rattle.smithy_serde.specs.Values.{Write, Writes, writes_of}
@@ -13,31 +13,31 @@ use Rattle.smithy_types.specs.Documents.{Document}
 use Rattle.smithy_document.specs.JsonHeld.{json_held}
 use Rattle.smithy_document.specs.JsonText.{json_text}
 use Rattle.serde_json.specs.Data.{Data, null}
+use Rattle.smithy_job.specs.Answering.{answering}
+use Rattle.smithy_job.specs.Gateway.{Gateway, gateway}
 use Rattle.smithy_job.specs.Jobs.{Job, job}
 use Rattle.smithy_job.specs.Recovering.{Recovering, recovering}
 use Rattle.smithy_job.specs.Routing.{routing}
 use Rattle.smithy_recovery.specs.Recovered.{Reading}
-use Rattle.smithy_bind.specs.Shown.{shown, line_of}
+use Rattle.smithy_gateway.specs.Calls.{Calling}
+use Rattle.smithy_bind.specs.Shown.{shown}
 use Rattle.smithy_bind.specs.Commands.{command_of, reads_input}
-use Rattle.smithy_bind.specs.Told.{Outcome, usage, no_job, fault_line, output, outcome_of, by_json}
+use Rattle.smithy_bind.specs.Told.{Outcome, usage, no_job, output, told_by, outcome_of, by_json}
+use Rattle.smithy_bind.specs.Gateway.{gatewayed_by}
 use Rattle.smithy_bind.specs.Recovering.{recovered_by}
 use Rattle.smithy_bind.specs.Responding.{responded_to}
 use Rattle.smithy_bind.specs.Routing.{routed_by}
+use Rattle.smithy_bind.specs.Serving.{served_job}
 use Rattle.smithy_bind.specs.Generating.{generated, summary}
 use Rattle.smithy_bind.specs.Texts.{help_text, version_text}
 use Rattle.smithy_bind.specs.declared.command.Command.{Command}
 use Rattle.smithy_bind.specs.declared.command.Command.TheVariants as command
-use Rattle.smithy_bind.specs.declared.sending.Sending.{Sending}
-use Rattle.smithy_bind.specs.declared.sending.Sending.TheVariants.{Rest, Rpc}
+use Rattle.smithy_job.specs.declared.gateway.Sending.{Sending}
+use Rattle.smithy_job.specs.declared.gateway.Sending.TheVariants.{Rest, Rpc}
 
 -- a protocol with bodies of JSON, whose documents have this text (AWS restJson1)
 abbrev pub json_bodies : (Document → List ℕ) → Protocol
 json_bodies text_of = record { content_type = codes "application/json"; text_of = text_of }
-
--- a request as it is shown, or the line of the first fault
-abbrev pub told_by : (Request → List ℕ) → Result Request Fault → Outcome
-told_by show (Ok r) = output (show r)
-told_by show (Err f) = fault_line (line_of f)
 
 -- the request, or the first fault
 abbrev pub told : Result Request Fault → Outcome
@@ -89,6 +89,23 @@ json_requests schema = json_reading schema []
 unfoldable pub routed_to : Data → Outcome
 routed_to d = outcome_of (routed_by json_requests) (routing d)
 
+-- by calls with bodies of JSON
+abbrev pub json_calls : Calling
+json_calls = record { protocol = json_bodies json_text; holds = json_held }
+
+-- the answer to a request that is sent on
+abbrev pub gatewayed_job : Gateway → Outcome
+gatewayed_job j =
+    gatewayed_by j.to (json_reading j.recovering.schema j.recovering.endpoint) json_calls j.recovering.omit j.rpc_endpoint j.recovering.request
+
+-- the answer to the request that a JSON value has, where it is sent on
+unfoldable pub gatewayed_to : Data → Outcome
+gatewayed_to d = outcome_of gatewayed_job (gateway d)
+
+-- the answer to the output that a JSON value has, by a protocol
+unfoldable pub served_to : Protocol → Data → Outcome
+served_to protocol d = outcome_of (served_job protocol) (answering d)
+
 -- four lines on the request, or the first fault
 abbrev pub summed : Result Request Fault → Outcome
 summed answer = told_by summary answer
@@ -105,6 +122,8 @@ answer_to bodies command.Rpc d = sent_job (sent_by Rpc bodies) d
 answer_to bodies command.Response d = responded_to d
 answer_to bodies command.Recover d = recovered_to d
 answer_to bodies command.Route d = routed_to d
+answer_to bodies command.Gateway d = gatewayed_to d
+answer_to bodies command.Answer d = served_to bodies d
 answer_to bodies (command.Generate n) d = generated_by bodies n
 answer_to bodies command.Help d = output help_text
 answer_to bodies command.Version d = output version_text

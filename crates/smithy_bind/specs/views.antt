@@ -1,4 +1,6 @@
 pub mod AnswerView
 pub mod CodedView
+pub mod GatewayView
 pub mod RecoveredView
 pub mod RoutedView
+pub mod ServedView

@@ -5,13 +5,16 @@ ghost use Rattle.smithy_bind.specs.Told.{by_json};
 ghost use Rattle.smithy_bind.specs.views.AnswerView.{Gives};
 
 use crate::command::Command;
+use crate::gatewayed::gatewayed;
 use crate::generate::generated;
 use crate::recovered::recovered;
 use crate::response::responded;
 use crate::routed::routed;
-use crate::sending::{Sending, job_told};
+use crate::sending::job_told;
+use crate::served::served;
 use crate::texts::{help, version};
 use crate::told::{Answer, said};
+use smithy_job::Sending;
 use smithy_json::{JsonValue, Scratch, read_json};
 use smithy_model::JobError;
 use smithy_serde::Codec;
@@ -34,6 +37,8 @@ pub fn answer<C: Codec + Drop>(
         Command::Response => responded(alloc, value),
         Command::Recover => recovered(alloc, value),
         Command::Route => routed(alloc, value),
+        Command::Gateway => gatewayed(alloc, value),
+        Command::Answer => served(alloc, codec, value),
         Command::Generate(count) => generated(alloc, codec, count),
         Command::Help => said(alloc, help()),
         Command::Version => said(alloc, version()),

@@ -83,8 +83,8 @@ fn input_told(
     }
 }
 
-// What is told where no typed input has the request.
-fn not_placed(alloc: Global) -> Result<Answer, JobError>
+/// What is told where no typed input has the request. Takes memory.
+pub fn not_placed(alloc: Global) -> Result<Answer, JobError>
     ensures { Gives not_placed result }
 {
     let line = Vec::from_slice(alloc, NOT_PLACED.as_bytes())?;

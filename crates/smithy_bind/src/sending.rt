@@ -10,21 +10,12 @@ ghost use Rattle.smithy_bind.specs.views.AnswerView.{Gives, Sends, IsPlaced, IsP
 use crate::told::{Answer, told};
 use smithy_binding::{HttpBindingProtocol, HttpRpcProtocol, checked_input};
 use smithy_http::Request;
-use smithy_job::{Job, read_job};
+use smithy_job::{Job, Sending, read_job};
 use smithy_json::JsonValue;
 use smithy_model::JobError;
 use smithy_schema::SchemaRef;
 use smithy_serde::{Codec, OmitFlags, SerdeError, StructValue};
 use std::alloc::Global;
-
-/// How the input of a job is sent.
-#[derive(Clone, Copy, Drop)]
-pub enum Sending {
-    /// Placed by the bindings of its schema (AWS restJson1).
-    Rest,
-    /// Posted whole, whatever its schema.
-    Rpc,
-}
 
 /// What is to be told of the job that a JSON value is. Takes memory. No job where it is none, or where its input can't be sent by
 /// its schema. Condition: the codec, which writes the body, is lawful.

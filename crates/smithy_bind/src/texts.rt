@@ -11,6 +11,8 @@ Usage: smithy_bind request < JOB
        smithy_bind response < JOB
        smithy_bind recover < JOB
        smithy_bind route < JOB
+       smithy_bind gateway < JOB
+       smithy_bind answer < JOB
        smithy_bind generate N
        smithy_bind --help
        smithy_bind --version
@@ -30,6 +32,12 @@ spelled otherwise than `request` does, it writes one line that says so.
 name of the one whose template matches the request best, and then its input as
 `recover` does. Where there is none, or where a template has no route or one
 that conflicts with another's, it writes one line that says so.
+`gateway` reads a job with a request, and writes the request of the same input
+on the other side: that of `rpc` for one that `request` writes, and back. Where
+no input has it, it writes one line that says so.
+`answer` reads a job with an output, and writes the response: a line of the
+status, a line for each header, an empty line, and the body. Where the output
+can't be written, it writes one line that says why.
 `generate` reads nothing: it makes the request of an input of N numbers, N from
 0 to 100000, and writes its target, the number of its headers, the length of
 its body and the sum of the body's bytes, each in a line.
@@ -41,17 +49,26 @@ A job of `request` or `rpc` has also:
   input      an object from names of members to values, written in byte order
              of the names; or an array of pairs of a name and a value,
              written in this order
-A job of `request`, `rpc` or `recover` has also:
+A job of `answer` has also:
+  output     the same of an output
+  status     optional, from 100 to 999, where the output has no response code;
+             without it the code of smithy.api#http, or else 200
+A job of `request`, `rpc`, `recover` or `gateway` has also:
   endpoint   optional, a text: the URI template of an operation without
              smithy.api#http; of `rpc` the target
 A job of these or of `route` has also:
   omit       optional, an object: with `contentType` or `contentLength` true,
              that default header is left out
-A job of `recover` or `route` has also:
+A job of `recover`, `route` or `gateway` has also:
   request    an object: `method`, a token; `target`; `headers` and `body` as in
              a response; without a body, or with null, it is empty
 A job of `route` has also:
   operations an array of full names of operations with smithy.api#http
+A job of `gateway` has also:
+  to         `rpc` or `rest`: the side that the request goes to
+  rpcEndpoint
+             optional, a text: the target of a request that goes to `rpc`,
+             empty or a legal one
 A job of `response` has also:
   response   an object: `status`, from 100 to 999; `headers`, an array of
              pairs of a name and a value; `body`. Values and the body are

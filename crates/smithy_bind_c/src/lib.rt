@@ -80,6 +80,35 @@ pub extern "C" fn smithy_bind_route(
     answer_into(alloc, Command::Route, job, text, text_len)
 }
 
+/// What a job's request becomes on the other side: the `POST` of the input that it is of, or the request, by AWS restJson1, of the
+/// input that it posts; or the line that no input has it: the text that the program's command `gateway` writes. What it answers and
+/// leaves is as `smithy_bind_request` says. Takes memory.
+#[unsafe(no_mangle)]
+pub extern "C" fn smithy_bind_gateway(
+    alloc: Global,
+    job: &[u8],
+    text: &mut [u8],
+    text_len: &mut usize,
+) -> u8
+    ensures { Answers Command.Gateway job.now result text_len.new text.old text.new }
+{
+    answer_into(alloc, Command::Gateway, job, text, text_len)
+}
+
+/// The response of a job's output by AWS restJson1, or the line of its first fault: the text that the program's command
+/// `answer` writes. What it answers and leaves is as `smithy_bind_request` says. Takes memory.
+#[unsafe(no_mangle)]
+pub extern "C" fn smithy_bind_answer(
+    alloc: Global,
+    job: &[u8],
+    text: &mut [u8],
+    text_len: &mut usize,
+) -> u8
+    ensures { Answers Command.Answer job.now result text_len.new text.old text.new }
+{
+    answer_into(alloc, Command::Answer, job, text, text_len)
+}
+
 // Answers the command: the code of its end, the length of its text, and the text where it fits.
 fn answer_into(
     alloc: Global,

@@ -1,5 +1,7 @@
+pub mod AnsweringLemmas
 pub mod CanonicalLemmas
 pub mod CycleLemmas
+pub mod GatewayLemmas
 pub mod InputLemmas
 pub mod JobLemmas
 pub mod ReceivedLemmas
@@ -8,3 +10,4 @@ pub mod RoutingLemmas
 pub mod ScalarLemmas
 pub mod TableLemmas
 pub mod ValueLemmas
+pub mod WrittenLemmas

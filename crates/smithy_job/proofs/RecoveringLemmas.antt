@@ -1,7 +1,6 @@
 -- The job of a request whose input is to be recovered, from its parts.
-use Rattle.std.proofs.Common.{◌≡◌, refl, ap, ◌∙◌, ℕ, codes, List, Option, Some, None, option_map, Result, Err}
+use Rattle.std.proofs.Common.{◌≡◌, refl, ap, ◌∙◌, ℕ, List, Option, Some, None, option_map, Result, Err}
 use Rattle.serde_json.specs.Data.{Data}
-use Rattle.serde_json.specs.Find.{get}
 use Rattle.smithy_http.specs.Requests.{Request}
 use Rattle.smithy_schema.specs.Nodes.{Schema, at_place}
 use Rattle.smithy_serde.specs.declared.header_omit_settings.OmitFlags.{OmitFlags}
@@ -11,17 +10,18 @@ use Rattle.smithy_model.specs.declared.error.JobError.{JobError}
 use Rattle.smithy_model.specs.declared.error.JobError.TheVariants.{NoJob, OutOfMemory}
 use Rattle.smithy_model.specs.declared.table.ModelTable.{ModelTable}
 use Rattle.smithy_job.specs.Jobs.{schema}
-use Rattle.smithy_job.specs.Recovering.{request_in, recovering, recovering_with}
+use Rattle.smithy_job.specs.Recovering.{recovering, recovering_with}
+use Rattle.smithy_job.specs.Requests.{request_given}
 use Rattle.smithy_job.specs.Settings.{endpoint, omit}
 use Rattle.smithy_job.specs.views.RecoveringView.{IsRecovering}
 use Rattle.smithy_job.specs.views.Tables.{Has, ReadsAs}
 use Rattle.smithy_job.specs.declared.recovering.Recovering.{Recovering}
 use Rattle.smithy_job.proofs.ReceivedLemmas.{none-mapped}
 
-module _ (d given : Data) (q : Request) (e : List ℕ) (o : OmitFlags) (there : get (codes "request") d ≡ Some given) (read : request_in given ≡ Some q) (text : endpoint d ≡ Some e) (flags : omit d ≡ Some o) where
+module _ (d : Data) (q : Request) (e : List ℕ) (o : OmitFlags) (read : request_given d ≡ Some q) (text : endpoint d ≡ Some e) (flags : omit d ≡ Some o) where
   by_parts : recovering d ≡ recovering_with d q e o
   unfolding recovering
-  by_parts = rw (there, read, text, flags) refl
+  by_parts = rw (read, text, flags) refl
 
   pub recovering-so : (stored : Recovering) (placed : ModelTable) → stored.request ≡ q → stored.table ≡ placed.table → stored.index ≡ placed.index → stored.endpoint.now ≡ e → stored.omit ≡ o
       → IsPlacedAt (schema models.input d) placed → Has (recovering d) (IsRecovering stored)

@@ -40,17 +40,25 @@ schema asked job = in_model (schema_in_model asked) job
 unfoldable pub errors : List (List ℕ) → Data → Option Errors
 errors service job = in_model (errors_in_model service) job
 
--- the writes of a job's input
-abbrev pub writes : Data → Schema → Option Writes
-writes job s = option_and_then (input s) (get (codes "input") job)
+-- the writes of an input or an output, by its schema
+pub record Written : Type 0 where
+  pub schema : Schema
+  pub writes : List Write
 
-abbrev pub job_with : Data → Schema → Writes → Option Job
-job_with job s ws =
-    option_and_then (λ e. option_map (λ o. record { schema = s; writes = list_of ws; endpoint = e; omit = o }) (omit job)) (endpoint job)
+abbrev pub written_by : Schema → Option Writes → Option Written
+written_by s ws = option_map (λ ws. record { schema = s; writes = list_of ws }) ws
+
+-- what stands under a key of a job, by the schema of what is asked of its operation
+unfoldable pub written : Asked → List ℕ → Data → Option Written
+written asked key job = option_and_then (λ s. written_by s (option_and_then (input s) (get key job))) (schema asked job)
+
+abbrev pub job_with : Data → List ℕ → OmitFlags → Option Job
+job_with job e o =
+    option_map (λ w. record { schema = w.schema; writes = w.writes; endpoint = e; omit = o }) (written models.input (codes "input") job)
 
 -- The job of a request that a JSON value is, and none where it has not the form of one.
 unfoldable pub job : Data → Option Job
-job d = option_and_then (λ s. option_and_then (job_with d s) (writes d s)) (schema models.input d)
+job d = option_and_then (λ e. option_and_then (job_with d e) (omit d)) (endpoint d)
 
 -- what a response is read as: an output, an error, or the one of some errors that has this code
 pub data Expected : Type 0 where

@@ -9,7 +9,8 @@ use Rattle.smithy_serde.specs.declared.header_omit_settings.OmitFlags.{OmitFlags
 use Rattle.smithy_model.specs.Json.{items_in, provided}
 use Rattle.smithy_model.specs.Models as models
 use Rattle.smithy_model.specs.Models.{schema_in_model}
-use Rattle.smithy_job.specs.Recovering.{Recovering, request_in}
+use Rattle.smithy_job.specs.Recovering.{Recovering}
+use Rattle.smithy_job.specs.Requests.{request_given}
 use Rattle.smithy_job.specs.Settings.{omit}
 
 -- an operation by its full name, and the schema of its input
@@ -50,10 +51,6 @@ operations_in model d = option_and_then (each (operation_in model)) (items_in d)
 abbrev pub operations_given : Data → Option (List Operation)
 operations_given job =
     option_and_then (λ model. option_and_then (operations_in model) (get (codes "operations") job)) (get (codes "model") job)
-
--- the request that a job has
-abbrev pub request_given : Data → Option Request
-request_given job = option_and_then request_in (get (codes "request") job)
 
 abbrev pub routing_with : Data → Request → OmitFlags → Option Routing
 routing_with job q o = option_map (λ os. record { operations = os; request = q; omit = o }) (operations_given job)

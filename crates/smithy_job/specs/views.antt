@@ -1,3 +1,4 @@
+pub mod GatewayView
 pub mod JobView
 pub mod ReadingView
 pub mod ReceivedView
@@ -5,3 +6,4 @@ pub mod RecoveringView
 pub mod RoutingView
 pub mod Seen
 pub mod Tables
+pub mod WrittenView

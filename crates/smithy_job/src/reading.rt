@@ -1,25 +1,26 @@
 // A job.
-ghost use Rattle.std.specs.Prelude.{◌≡◌, Some, IfOk, option_map, unwrap_or};
+ghost use Rattle.std.specs.Prelude.{◌≡◌, option_map};
 ghost use Rattle.smithy_json.specs.views.JsonView.{view};
-ghost use Rattle.smithy_model.specs.Models as models;
+ghost use Rattle.smithy_model.specs.Reads.{Reads};
 ghost use Rattle.smithy_model.specs.views.ModelView.{asked_view};
 ghost use Rattle.smithy_model.specs.views.NameView.{texts};
-ghost use Rattle.smithy_model.specs.views.PlacedView.{Places, PlacesErrors, IsPlacedAt};
+ghost use Rattle.smithy_model.specs.views.PlacedView.{Places, PlacesErrors};
+ghost use Rattle.smithy_job.specs.Answering.{operation_http};
 ghost use Rattle.smithy_job.specs.Jobs.{job, operation_in, schema, errors};
 ghost use Rattle.smithy_job.specs.views.Seen.{operation_seen};
-ghost use Rattle.smithy_job.specs.views.Tables.{nodes_with, ReadsAs};
+ghost use Rattle.smithy_job.specs.views.Tables.{ReadsAs};
 ghost use Rattle.smithy_job.specs.views.JobView.{IsJob};
 
-use crate::input::read_input;
-use crate::node::{ModelNodes, add_nodes};
 use crate::settings::{endpoint_of, omit_of};
+use crate::written::read_written;
+use smithy_ids::HttpTrait;
 use smithy_json::JsonValue;
 use smithy_model::{
-    Asked, JobError, ModelTable, PlacedErrors, errors_of_operation, schema_of_operation, text_of,
+    Asked, JobError, ModelTable, PlacedErrors, errors_of_operation, http_of_operation,
+    schema_of_operation, text_of,
 };
 use smithy_schema::{SchemaIndex, Schemas};
 use smithy_serde::{OmitFlags, WriteList};
-use smithy_types::OutOfMemory;
 use std::alloc::Global;
 
 /// What is to be sent: the writes of an input, and the index of its schema in a table.
@@ -72,70 +73,35 @@ pub fn errors_asked<'t>(
     }
 }
 
-// The nodes of a job's model, and those of names that are no member's; none where there is no such name.
-// The model was read before, so want of memory is all that can refuse it.
-fn further_nodes(
-    alloc: Global,
-    job: &JsonValue<'_>,
-    table: &Schemas,
-    names: &[&str],
-) -> Result<Option<Schemas>, OutOfMemory>
-    requires { option_map (λ s. s.table) (schema models.input (view job.now)) ≡ Some table.now }
-    ensures { IfOk result (λ o. unwrap_or o table.now ≡ nodes_with table.now names.now) }
+/// `@http` of a job's operation, where it has one. Takes memory. No job where its model hasn't the form of one.
+#[tactic(auto, unfolding(crate::specs::Answering::operation_http))]
+pub fn http_asked<'t>(alloc: Global, job: &JsonValue<'t>) -> Result<Option<HttpTrait<'t>>, JobError>
+    ensures { Reads (λ h. h) (operation_http (view job.now)) result }
 {
-    if names.is_empty() {
-        return Ok(None);
+    match operation_of(job) {
+        Some((model, name)) => http_of_operation(alloc, model, name),
+        None => Err(JobError::NoJob),
     }
-    let Ok(again) = schema_asked(alloc, job, Asked::Input) else {
-        return Err(OutOfMemory);
-    };
-    let mut nodes = again.table;
-    add_nodes(&mut nodes, names)?;
-    Ok(Some(nodes))
 }
 
-// What a job asks by a model that was read.
-fn job_by<'t>(alloc: Global, value: &JsonValue<'t>, model: ModelTable) -> Result<Job<'t>, JobError>
-    requires { IsPlacedAt (schema models.input (view value.now)) model }
+/// The job that a JSON value is. Takes memory. What hasn't the form of one is no job.
+#[tactic(auto, unfolding(crate::specs::Jobs::job))]
+pub fn read_job<'t>(alloc: Global, value: &JsonValue<'t>) -> Result<Job<'t>, JobError>
     ensures { ReadsAs IsJob (job (view value.now)) result }
 {
-    let ModelTable {
-        table,
-        index,
-        natural,
-    } = model;
-    let Some(schema) = table.get(index) else {
-        return Err(JobError::NoJob);
-    };
-    let Some(input) = value.get("input") else {
-        return Err(JobError::NoJob);
-    };
     let Some(endpoint) = endpoint_of(value) else {
         return Err(JobError::NoJob);
     };
     let Some(omit) = omit_of(value) else {
         return Err(JobError::NoJob);
     };
-    let mut names = Vec::new(alloc);
-    let nodes = ModelNodes {
-        table: &table,
-        natural,
-    };
-    let writes = read_input(alloc, nodes, &mut names, schema, input)?;
-    let further = further_nodes(alloc, value, &table, names.as_slice())?;
+    let written = read_written(alloc, value, Asked::Input, "input")?;
     Ok(Job {
-        table,
-        index,
-        further,
-        writes,
+        table: written.table,
+        index: written.index,
+        further: written.further,
+        writes: written.writes,
         endpoint,
         omit,
     })
-}
-
-/// The job that a JSON value is. Takes memory. What hasn't the form of one is no job.
-pub fn read_job<'t>(alloc: Global, value: &JsonValue<'t>) -> Result<Job<'t>, JobError>
-    ensures { ReadsAs IsJob (job (view value.now)) result }
-{
-    job_by(alloc, value, schema_asked(alloc, value, Asked::Input)?)
 }

@@ -41,7 +41,8 @@ fn bytes_of(alloc: Global, value: &JsonValue<'_>) -> Result<Vec<u8>, JobError>
     }
 }
 
-fn status_of(response: &JsonValue<'_>) -> Option<u16>
+/// The status that a JSON value has, three digits (RFC 7231, section 6).
+pub fn status_of(response: &JsonValue<'_>) -> Option<u16>
     ensures status { result ≡ option_and_then status_in (get (codes "status") (view response.now)) }
     ensures digits { IfSome result (λ s. (100 ≤ s) × (s ≤ 999)) }
 {

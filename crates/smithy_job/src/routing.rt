@@ -4,12 +4,12 @@ ghost use Rattle.smithy_json.specs.views.JsonView.{view};
 ghost use Rattle.smithy_model.specs.Models as models;
 ghost use Rattle.smithy_model.specs.Models.{schema_in_model};
 ghost use Rattle.smithy_model.specs.Reads.{Reads};
-ghost use Rattle.smithy_job.specs.Routing.{has_http, operation_named, operation_in, operations_given, request_given, routing};
+ghost use Rattle.smithy_job.specs.Routing.{has_http, operation_named, operation_in, operations_given, routing};
 ghost use Rattle.smithy_job.specs.views.RoutingView.{placed_seen, operation_seen, operations_at, operations_seen, routing_seen};
 ghost use Rattle.smithy_job.specs.views.Tables.{schema_seen};
 
 use crate::operation::Operation;
-use crate::recovering::read_request;
+use crate::request::request_of;
 use crate::settings::omit_of;
 use smithy_http::Request;
 use smithy_json::JsonValue;
@@ -102,16 +102,6 @@ fn operations_of<'t>(alloc: Global, job: &JsonValue<'t>) -> Result<Vec<Operation
     };
     match items_of(names) {
         Some(items) => operations_in(alloc, model, items),
-        None => Err(JobError::NoJob),
-    }
-}
-
-// The request that a job has.
-fn request_of(alloc: Global, job: &JsonValue<'_>) -> Result<Request, JobError>
-    ensures { Reads (λ r. r) (request_given (view job.now)) result }
-{
-    match job.get("request") {
-        Some(request) => read_request(alloc, request),
         None => Err(JobError::NoJob),
     }
 }

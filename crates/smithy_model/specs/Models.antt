@@ -50,6 +50,10 @@ of_operation part model name = option_and_then (λ shapes. option_and_then (part
 unfoldable pub schema_in_model : Asked → Data → List ℕ → Option Schema
 schema_in_model asked model name = of_operation (schema_in asked) model name
 
+-- `@http` of an operation of a model, where it has one; of the shapes the operation alone is looked at
+unfoldable pub http_in_model : Data → List ℕ → Option (Option Http)
+http_in_model model name = of_operation (λ shapes o. Some o.http) model name
+
 -- The schemas of all errors of an operation and of these of its service, by the shapes that are reached from them.
 unfoldable pub errors_in_model : List (List ℕ) → Data → List ℕ → Option Errors
 errors_in_model service model name = of_operation (errors_in service) model name

@@ -21,7 +21,7 @@ mod traits;
 
 pub use error::JobError;
 pub use json_value::{items_of, members_of, text_of};
-pub use model::{errors_of_operation, schema_of_operation};
+pub use model::{errors_of_operation, http_of_operation, schema_of_operation};
 pub use name::is_full_name;
 pub use shape::Asked;
 pub use table::{ModelTable, PlacedErrors};

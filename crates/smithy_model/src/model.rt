@@ -1,7 +1,8 @@
 // From a model and the name of an operation to its schemas.
 ghost use Rattle.std.specs.Prelude.{◌≡◌};
 ghost use Rattle.smithy_json.specs.views.JsonView.{view};
-ghost use Rattle.smithy_model.specs.Models.{http_asked, schema_in_model, errors_in_model};
+ghost use Rattle.smithy_model.specs.Models.{http_asked, http_in_model, schema_in_model, errors_in_model};
+ghost use Rattle.smithy_model.specs.Reads.{Reads};
 ghost use Rattle.smithy_model.specs.views.ModelView.{asked_view, operation_view};
 ghost use Rattle.smithy_model.specs.views.NameView.{texts};
 ghost use Rattle.smithy_model.specs.views.PlacedView.{Places, PlacesErrors};
@@ -55,6 +56,27 @@ pub fn schema_of_operation(
         &with_http(reached, http_asked(operation, asked)),
         root,
     )
+}
+
+/// `@http` of an operation of this full name, where it has one. Of the shapes the operation alone is looked at. Takes memory.
+///
+/// No job where the model has no `shapes`, or the operation isn't among them or hasn't its form.
+#[tactic(auto, unfolding(crate::specs::Models::http_in_model))]
+pub fn http_of_operation<'t>(
+    alloc: Global,
+    model: &JsonValue<'t>,
+    name: &str,
+) -> Result<Option<HttpTrait<'t>>, JobError>
+    ensures { Reads (λ h. h) (http_in_model (view model.now) name.now) result }
+{
+    let Some(object) = model.get("shapes") else {
+        return Err(JobError::NoJob);
+    };
+    let Some(shapes) = ModelShapes::of(object) else {
+        return Err(JobError::NoJob);
+    };
+    let operation = operation_at(alloc, &shapes, name)?;
+    Ok(operation.http)
 }
 
 /// The schemas of all errors of an operation of this full name, and of these errors of its service, in one table. Takes memory.

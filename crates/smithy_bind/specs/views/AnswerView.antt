@@ -24,7 +24,7 @@ use Rattle.smithy_bind.specs.Outcome.{json_bodies, sent_by}
 use Rattle.smithy_bind.specs.Responding.{behind_name, error_of, read_by, read_found}
 use Rattle.smithy_bind.specs.Shown.{refusal_line}
 use Rattle.smithy_bind.specs.Told as outcome
-use Rattle.smithy_bind.specs.declared.sending.Sending.{Sending}
+use Rattle.smithy_job.specs.declared.gateway.Sending.{Sending}
 use Rattle.smithy_bind.specs.declared.told.Answer.{Answer}
 use Rattle.smithy_bind.specs.declared.told.Answer.TheVariants.{Fault, Output}
 

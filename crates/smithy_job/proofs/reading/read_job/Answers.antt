@@ -1,7 +1,14 @@
-use Rattle.std.proofs.Common.{rules}
+use Rattle.std.proofs.Common.{refl, rules, sym}
 use Rattle.smithy_json.specs.views.JsonView.{view}
-use Rattle.smithy_job.proofs.JobLemmas.{job_refused}
+use Rattle.smithy_job.proofs.JobLemmas.{job-so, job-refused}
 use Rattle.smithy_job.proofs.reading.read_job.Goals as goal
 
-pub returns-in_err-schema_asked : goal.returns-in_err-schema_asked
-returns-in_err-schema_asked c = job_refused (view c.args.value.now) c.in_err-schema_asked.field-0.0 c.from_residual.result (search rules) c.in_err-schema_asked.ensures
+pub returns-in_err-written : goal.returns-in_err-written
+returns-in_err-written c =
+    job-refused (view c.args.value.now) c.in-Some.endpoint.now c.in-Some-omit_of.omit (sym c.in-Some.ensures) (sym c.in-Some-omit_of.ensures)
+    c.in_err-written.field-0.0 c.from_residual.result (search rules) c.in_err-written.ensures
+
+pub returns : goal.returns
+returns c =
+    job-so (view c.args.value.now) c.in-Some.endpoint.now c.in-Some-omit_of.omit (sym c.in-Some.ensures) (sym c.in-Some-omit_of.ensures) _ c.in_ok-written.written refl refl refl refl refl refl
+    c.in_ok-written.ensures
