@@ -1,3 +1,4 @@
+pub mod GatewayLemmas
 pub mod GetObjectSchema
 pub mod JobLemmas
 pub mod LenientTexts

@@ -1,9 +1,11 @@
 pub mod Answering
+pub mod Gateway
 pub mod GetObject
 pub mod LenientText
 pub mod Members
 pub mod Outputs
 pub mod RoundTrip
 pub mod Routed
+pub mod Serving
 pub mod Telling
 pub mod WayBack

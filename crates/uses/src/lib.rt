@@ -1,8 +1,9 @@
-// Uses of the library, as a caller writes them: requests made and read back, responses read, errors found, documents kept.
+// Uses of the library, as a caller writes them: requests made, read back and sent on, responses written and read, errors found, documents kept.
 #![tactic(auto)]
 
 mod documents;
 mod errors;
+mod gateway;
 mod get_object;
 mod laws;
 pub mod lenient_json;
@@ -10,14 +11,17 @@ mod recovering;
 mod requests;
 mod responses;
 mod routing;
+mod serving;
 #[cfg(test)]
 mod tests;
 
 pub use documents::{structure_in, through_document};
 pub use errors::{error_place, error_registry};
+pub use gateway::{call_of, request_of_call};
 pub use get_object::{get_object_request, get_object_table, get_object_writes};
-pub use laws::requests_tell;
+pub use laws::{calls_keep_inputs, requests_tell};
 pub use recovering::input_of;
 pub use requests::{job_request, lenient_request, rest_request, rpc_request};
 pub use responses::{output_of, text_named};
 pub use routing::{object_routes, operation_of};
+pub use serving::rest_response;

@@ -45,6 +45,33 @@ fn a_request_has_its_input(rt: HostRuntime) -> Result<(), Fail> {
 }
 
 #[test]
+fn a_request_goes_to_rpc(rt: HostRuntime) -> Result<(), Fail> {
+    let alloc = rt.alloc();
+    let table = get_object_table(alloc)?;
+    assert!(rt; table.get(INPUT).is_some());
+    let writes = get_object_writes(alloc, "b", "x/y z", 3, 7)?;
+    let request = get_object_request(alloc, writes)?;
+    let call = call_of(alloc, &request, &table, INPUT, "", OmitFlags::KEEP_ALL)?;
+    let body = b"{\"Bucket\":\"b\",\"Id\":7,\"Key\":\"x/y z\",\"Max\":3}";
+    assert_eq!(rt; call.body().as_slice(), body.as_slice());
+    Ok(())
+}
+
+#[test]
+fn a_call_goes_to_rest(rt: HostRuntime) -> Result<(), Fail> {
+    let alloc = rt.alloc();
+    let keep = OmitFlags::KEEP_ALL;
+    let table = get_object_table(alloc)?;
+    let writes = get_object_writes(alloc, "b", "x/y z", 3, 7)?;
+    let schema = table.get(INPUT).expect(&rt, "no node");
+    let input = StructValue::with_writes(&table, INPUT, writes);
+    let call = rpc_request(alloc, &input, schema, "", keep)?;
+    let request = request_of_call(alloc, &call, &table, INPUT, "", keep)?;
+    assert_eq!(rt; request.uri(), "/b/x/y%20z?max=3");
+    Ok(())
+}
+
+#[test]
 fn a_request_has_its_operation(rt: HostRuntime) -> Result<(), Fail> {
     let alloc = rt.alloc();
     let routes = object_routes(alloc)?;
@@ -123,6 +150,19 @@ fn a_response_is_read(rt: HostRuntime) -> Result<(), Fail> {
     assert_eq!(rt; text_named(&value, "Etag"), Some("q"));
     assert_eq!(rt; text_named(&value, "Name"), Some("a"));
     assert!(rt; text_named(&value, "Code").is_none());
+    Ok(())
+}
+
+#[test]
+fn an_output_has_a_response(rt: HostRuntime) -> Result<(), Fail> {
+    let alloc = rt.alloc();
+    let (table, place) = output_table(alloc)?;
+    let schema = table.get(place).expect(&rt, "no node");
+    let read = response_with(alloc, b"{\"Etag\":\"z\",\"Name\":\"a\"}")?;
+    let output = output_of(alloc, &read, &table, place)?;
+    let response = rest_response(alloc, &output, schema, 200)?;
+    assert_eq!(rt; response.headers().get("etag"), Some("q"));
+    assert_eq!(rt; response.body_bytes(), b"{\"Name\":\"a\"}".as_slice());
     Ok(())
 }
 

@@ -3,8 +3,8 @@ use Rattle.uses.proofs.recovering.input_of.Goals as goal
 
 pub returns-clause-input : goal.returns-clause-input
 returns-clause-input c =
-    input_by_json _ c.args.endpoint.now c.args.omit c.args.request.now c.recover_request.result c.rest_json-protocol.ensures.content_type c.recover_request.ensures.ok
+    input_by_json c.rest_json-protocol.result c.args.endpoint.now c.args.omit c.args.request.now c.recover_request.result c.rest_json-protocol.ensures.content_type c.recover_request.ensures.ok
 
 pub returns-clause-none : goal.returns-clause-none
 returns-clause-none c =
-    none_by_json _ c.args.endpoint.now c.args.omit c.args.request.now c.recover_request.result c.rest_json-protocol.ensures.content_type c.args.table.now c.args.place.0 c.recover_request.ensures.not_placed
+    none_by_json c.rest_json-protocol.result c.args.endpoint.now c.args.omit c.args.request.now c.recover_request.result c.rest_json-protocol.ensures.content_type c.args.table.now c.args.place c.recover_request.ensures.not_placed
