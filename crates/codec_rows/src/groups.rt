@@ -7,10 +7,11 @@ ghost use Rattle.smithy_serde.specs.Writing.{label};
 ghost use Rattle.smithy_serde.specs.Recording.{open_count};
 
 use crate::json_text::plain;
-use crate::told::refusal;
+use crate::told::{push_part, refusal};
 use crate::value_text::writes_told;
 use crate::values::members_recorded;
 use serde_json::Value;
+use smithy_document::DocumentShapeSerializer;
 use smithy_ids::ShapeType;
 use smithy_schema::SchemaRef;
 use smithy_serde::{
@@ -97,10 +98,26 @@ fn one_word(alloc: Global, given: &Value) -> Result<OneWord, Failed> {
     })
 }
 
-// The members of the word in a box.
+// Tells the members of the word in a box, and the same behind them.
+fn tell_twice(to: &mut dyn ShapeSerializer, boxed: &Box<OneWord>) -> Result<(), SerdeError> {
+    boxed.serialize_members(to)?;
+    boxed.serialize_members(to)
+}
+
+// What a document serializer answers to them.
+fn told_twice(alloc: Global, boxed: &Box<OneWord>) -> Result<(), SerdeError> {
+    let mut to = DocumentShapeSerializer::new(alloc);
+    tell_twice(&mut to, boxed)
+}
+
+// What is recorded of the word in a box, and the refusal of its members told twice.
 fn boxed_recorded(alloc: Global, given: &Value) -> Result<Text, Failed> {
     let boxed = Box::new(alloc, one_word(alloc, given)?).map_err(|_| Failed)?;
-    members_recorded(alloc, &boxed)
+    let mut text = members_recorded(alloc, &boxed)?;
+    if let Err(error) = told_twice(alloc, &boxed) {
+        push_part(&mut text, refusal(alloc, &error)?.as_str())?;
+    }
+    Ok(text)
 }
 
 fn recorded(alloc: Global, given: &Value) -> Result<Text, Failed> {

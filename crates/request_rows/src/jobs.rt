@@ -1,20 +1,21 @@
-// Jobs that are read: the writes of an input, what a response is read as, a request whose input is recovered, and one whose
-// operation is found.
+// Jobs that are read: the writes of an input, what a response is read as, a request whose input is recovered, one whose operation
+// is found, and one that is sent on.
 use crate::given_job::job_bytes;
-use crate::told::{no_job, push_headers, push_names, request_text, writes_text};
+use crate::told::{flag_text, no_job, push_headers, push_names, request_text, writes_text};
 use serde_json::Value;
 use smithy_http::NonUtf8HeaderHandling;
 use smithy_job::{
-    CodedError, Expected, Job, Operation, Received, Recovering, Routing, read_job, read_received,
-    read_recovering, read_routing,
+    CodedError, Expected, Gateway, Job, Operation, Received, Recovering, Routing, Sending,
+    read_gateway, read_job, read_received, read_recovering, read_routing,
 };
 use smithy_json::{Scratch, read_json};
 use smithy_model::{is_full_name, members_of, text_of};
+use smithy_recovery::are_shallow;
 use smithy_schema::Schemas;
 use smithy_serde::OmitFlags;
 use smithy_types::Text;
 use std::alloc::Global;
-use test_rows::{Failed, text_of as given_text, told_bytes};
+use test_rows::{Failed, count_of, text_of as given_text, told_bytes};
 
 /// The answer of one of these calls; none of another.
 pub fn answer(alloc: Global, call: &str, given: &Value) -> Result<Option<Text>, Failed> {
@@ -23,11 +24,12 @@ pub fn answer(alloc: Global, call: &str, given: &Value) -> Result<Option<Text>, 
         "read_received" => Ok(Some(received(alloc, given)?)),
         "read_recovering" => Ok(Some(recovering(alloc, given)?)),
         "read_routing" => Ok(Some(routing(alloc, given)?)),
+        "read_gateway" => Ok(Some(gateway(alloc, given)?)),
         "is_full_name" => {
             let is_name = is_full_name(given_text(given, "name")?);
-            let word = if is_name { "true" } else { "false" };
-            Ok(Some(Text::from_str(alloc, word)?))
+            Ok(Some(flag_text(alloc, is_name)?))
         }
+        "are_shallow" => Ok(Some(shallow(alloc, given)?)),
         "members_of" => Ok(Some(members(alloc, given)?)),
         _ => Ok(None),
     }
@@ -42,6 +44,20 @@ fn job(alloc: Global, given: &Value) -> Result<Text, Failed> {
     };
     match read_job(alloc, &value) {
         Ok(job) => job_text(alloc, &job),
+        Err(refusal) => no_job(alloc, refusal),
+    }
+}
+
+// Whether the writes of a job are nested at most so many levels deep.
+fn shallow(alloc: Global, given: &Value) -> Result<Text, Failed> {
+    let bytes = job_bytes(alloc, given)?;
+    let mut scratch = Scratch::new(alloc);
+    let value = match read_json(alloc, bytes.as_slice(), &mut scratch) {
+        Ok(value) => value,
+        Err(refusal) => return no_job(alloc, refusal.into()),
+    };
+    match read_job(alloc, &value) {
+        Ok(job) => flag_text(alloc, are_shallow(&job.writes, count_of(given, "levels")?)),
         Err(refusal) => no_job(alloc, refusal),
     }
 }
@@ -142,6 +158,31 @@ fn push_operation(alloc: Global, text: &mut Text, operation: &Operation<'_>) -> 
     let input = schema.as_str();
     text.push_str(format!(in alloc; "{name} {method} {uri} {input}\n")?.as_str())?;
     Ok(())
+}
+
+fn gateway(alloc: Global, given: &Value) -> Result<Text, Failed> {
+    let bytes = job_bytes(alloc, given)?;
+    let mut scratch = Scratch::new(alloc);
+    let value = match read_json(alloc, bytes.as_slice(), &mut scratch) {
+        Ok(value) => value,
+        Err(refusal) => return no_job(alloc, refusal.into()),
+    };
+    match read_gateway(alloc, &value) {
+        Ok(job) => gateway_text(alloc, &job),
+        Err(refusal) => no_job(alloc, refusal),
+    }
+}
+
+// The side that the request goes to, the endpoint of calls, and the job in which its input is recovered.
+fn gateway_text(alloc: Global, job: &Gateway<'_>) -> Result<Text, Failed> {
+    let side = match job.to {
+        Sending::Rest => "rest",
+        Sending::Rpc => "rpc",
+    };
+    let endpoint = job.rpc_endpoint;
+    let recovering = recovering_text(alloc, &job.recovering)?;
+    let recovering = recovering.as_str();
+    Ok(Text::from_string(format!(in alloc; "to {side} \"{endpoint}\" {recovering}")?))
 }
 
 fn received(alloc: Global, given: &Value) -> Result<Text, Failed> {

@@ -6,6 +6,7 @@ mod documents;
 mod given_job;
 mod jobs;
 mod models;
+mod outputs;
 mod pointing;
 mod requests;
 mod runs;
@@ -41,6 +42,9 @@ impl Answers for Calls {
             return Ok(text);
         }
         if let Some(text) = requests::answer(alloc, call, given)? {
+            return Ok(text);
+        }
+        if let Some(text) = outputs::answer(alloc, call, given)? {
             return Ok(text);
         }
         if let Some(text) = pointing::answer(alloc, call, given)? {

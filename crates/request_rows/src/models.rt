@@ -1,7 +1,7 @@
 // Models: the schemas of operations and of their errors, and whether requests and responses can be placed by them.
 use crate::given_job::job_bytes;
 use crate::schema_text::schema_text;
-use crate::told::{no_job, push_names};
+use crate::told::{flag_text, no_job, push_names};
 use serde_json::Value;
 use smithy_binding::{checked_input, checked_output};
 use smithy_ids::{PayloadHint, ShapeId, ShapeType};
@@ -93,8 +93,7 @@ fn checked(
     } else {
         checked_output(alloc, schema)?
     };
-    let word = if is_checked { "true" } else { "false" };
-    Ok(Text::from_str(alloc, word)?)
+    flag_text(alloc, is_checked)
 }
 
 // The same of an input whose members are those of the schema, with a flag or a hint of the row's.

@@ -95,6 +95,8 @@ fn command_of(given: &Value) -> Result<Command, Failed> {
         "rpc" => Ok(Command::Rpc),
         "recover" => Ok(Command::Recover),
         "route" => Ok(Command::Route),
+        "gateway" => Ok(Command::Gateway),
+        "answer" => Ok(Command::Answer),
         "generate" => {
             let count = count_of(given, "count")?;
             Ok(Command::Generate(u32::try_from(count).map_err(|_| Failed)?))

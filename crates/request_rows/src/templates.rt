@@ -1,7 +1,7 @@
 // Templates: that of a schema, whether it is clear for the schema's labels, and how a text is cut at its holes.
 use crate::given_job::job_bytes;
 use crate::models::placed;
-use crate::told::{no_job, with_short_runs};
+use crate::told::{flag_text, no_job, with_short_runs};
 use serde_json::Value;
 use smithy_binding::{checked_input, cut, has_clear_template, template_of};
 use smithy_json::{Scratch, read_json};
@@ -47,9 +47,7 @@ fn clear(alloc: Global, schema: SchemaRef<'_>, endpoint: &str) -> Result<Text, F
     if !checked_input(alloc, schema)? {
         return Ok(Text::from_str(alloc, "no request by this schema")?);
     }
-    let is_clear = has_clear_template(alloc, schema, endpoint)?;
-    let word = if is_clear { "true" } else { "false" };
-    Ok(Text::from_str(alloc, word)?)
+    flag_text(alloc, has_clear_template(alloc, schema, endpoint)?)
 }
 
 fn push_quoted(text: &mut Text, literal: &str) -> Result<(), Failed> {

@@ -18,6 +18,12 @@ pub fn no_job(alloc: Global, refusal: JobError) -> Result<Text, Failed> {
     }
 }
 
+/// Whether a test holds. It takes memory.
+pub fn flag_text(alloc: Global, holds: bool) -> Result<Text, Failed> {
+    let word = if holds { "true" } else { "false" };
+    Ok(Text::from_str(alloc, word)?)
+}
+
 /// The variant and the text of a refusal, where it isn't memory that was wanted. It takes memory.
 pub fn refusal_text(alloc: Global, refusal: &SerdeError) -> Result<Text, Failed> {
     if let SerdeError::OutOfMemory = refusal {
