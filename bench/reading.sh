@@ -1,7 +1,8 @@
 #!/bin/sh
 # Instructions of reading, counted by callgrind: a field of JSON objects of 100, 10,000 and 100,000 String fields, in the order
-# of the members and in none, each read by its schema, and a response of 8 headers and 100 such fields. Each is read N times and 2N times; the difference of the two runs,
-# divided by what was read between them, is what one takes, so that start-up and the making of the schema drop out.
+# of the members and in none, each read by its schema, and a response of 8 headers and 100 such fields, read and then written by
+# `write_response`. Each is done N times and 2N times; the difference of the two runs, divided by what was done between them, is
+# what one takes, so that start-up and the making of the schema drop out.
 # `sh bench/reading.sh [N]`, N is 100 if left out; the larger objects are read fewer times.
 here=$(cd "$(dirname "$0")/.." && pwd)
 program=$here/crates/bench
@@ -36,3 +37,6 @@ done
 count few response "$times"
 count many response $((2 * times))
 python3 "$here/bench/difference.py" response "$times" "$work/few.lines" "$work/many.lines" response
+count few answer "$times"
+count many answer $((2 * times))
+python3 "$here/bench/difference.py" answer "$times" "$work/few.lines" "$work/many.lines" response

@@ -1,9 +1,9 @@
 // Does one sample again and again, a program to count instructions in. Its first word is the sample: `get 1000` and
 // `put 1000 told` place an input, `put 1000 back` reads its request back, `job 1000` runs the job on standard input,
 // `object 100 1000` reads a JSON object of 100 fields and `scrambled 100 1000` one whose fields stand in no order,
-// `response 1000` reads a response, `items 100 1000`, `headers 100 1000` and `pairs 100 1000` read back a request that has
-// 100 of these, `routes 200 1 1000` finds an operation of 200 resources by a target of the second form, and `matchit 200 1 1000`
-// does so by `matchit`.
+// `response 1000` reads a response and `answer 1000` writes one, `items 100 1000`, `headers 100 1000` and `pairs 100 1000`
+// read back a request that has 100 of these, `routes 200 1 1000` finds an operation of 200 resources by a target of the second
+// form, and `matchit 200 1 1000` does so by `matchit`.
 #![tactic(auto)]
 
 mod counted;
@@ -28,7 +28,7 @@ use crate::job::run_job;
 use crate::object::read_objects;
 use crate::placing::Doing;
 use crate::put_object::do_put;
-use crate::response::read_responses;
+use crate::response::{read_responses, write_responses};
 use crate::routing::{find_routes, match_routes};
 use crate::sample::Order;
 use std::env;
@@ -83,6 +83,7 @@ fn run<R: Env + Input + AllocGlobal>(rt: &R) -> Result<(), Failed> {
         "object" => read_objects(alloc, count, Order::InTurn, number(&mut words)?),
         "scrambled" => read_objects(alloc, count, Order::Scrambled, number(&mut words)?),
         "response" => read_responses(alloc, count),
+        "answer" => write_responses(alloc, count),
         "routes" => find_routes(alloc, count, number(&mut words)?, number(&mut words)?),
         "matchit" => match_routes(alloc, count, number(&mut words)?, number(&mut words)?),
         "items" => read_grown(alloc, Grown::Items, count, number(&mut words)?),
