@@ -3,7 +3,6 @@
 
 #include <stdio.h>
 #include <stdlib.h>
-#include <string.h>
 
 /* one byte more than a job may have, so that a longer one is seen to be too long; and what most texts fit into */
 enum { JOB_ROOM = 16777217, FIRST_ROOM = 4096 };
@@ -11,25 +10,8 @@ enum { JOB_ROOM = 16777217, FIRST_ROOM = 4096 };
 /* the ends of the program that no call has */
 enum { NO_COMMAND = 1, READING_FAILED = 4, WRITING_FAILED = 5 };
 
-typedef uint8_t command(const uint8_t *job, size_t job_len, uint8_t *text, size_t text_room, size_t *text_len);
-
-static command *command_named(const char *word)
-{
-    if (strcmp(word, "request") == 0)
-        return smithy_bind_request;
-    if (strcmp(word, "response") == 0)
-        return smithy_bind_response;
-    if (strcmp(word, "rpc") == 0)
-        return smithy_bind_rpc;
-    if (strcmp(word, "recover") == 0)
-        return smithy_bind_recover;
-    if (strcmp(word, "route") == 0)
-        return smithy_bind_route;
-    return NULL;
-}
-
 /* Writes the text of the answer, and gives the status. A text that does not fit is asked for again, with its length. */
-static int answer(command *call, const uint8_t *job, size_t job_len)
+static int answer(smithy_bind_command *command, const uint8_t *job, size_t job_len)
 {
     int status = SMITHY_BIND_MEMORY;
     uint8_t *text = NULL;
@@ -43,7 +25,7 @@ static int answer(command *call, const uint8_t *job, size_t job_len)
         }
         text = more;
         room = len;
-        status = call(job, job_len, text, room, &len);
+        status = smithy_bind_call(command, job, job_len, text, room, &len);
     }
     if (fwrite(text, 1, len, stdout) != len || fflush(stdout) != 0)
         status = WRITING_FAILED;
@@ -53,14 +35,14 @@ static int answer(command *call, const uint8_t *job, size_t job_len)
 
 int main(int count, char **words)
 {
-    command *call = count == 2 ? command_named(words[1]) : NULL;
-    if (call == NULL)
+    smithy_bind_command *command = count == 2 ? smithy_bind_command_named(words[1]) : NULL;
+    if (command == NULL)
         return NO_COMMAND;
     uint8_t *job = malloc(JOB_ROOM);
     if (job == NULL)
         return SMITHY_BIND_MEMORY;
     size_t job_len = fread(job, 1, JOB_ROOM, stdin);
-    int status = ferror(stdin) ? READING_FAILED : answer(call, job, job_len);
+    int status = ferror(stdin) ? READING_FAILED : answer(command, job, job_len);
     free(job);
     return status;
 }

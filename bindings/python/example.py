@@ -5,15 +5,13 @@ import sys
 
 import smithy_bind
 
-COMMANDS = ("request", "response", "rpc", "recover", "route")
-
 
 def main(words):
-    if len(words) != 2 or words[1] not in COMMANDS:
+    if len(words) != 2 or words[1] not in smithy_bind.COMMANDS:
         return 1
     library, job = smithy_bind.Library(words[0]), sys.stdin.buffer.read()
     try:
-        text, status = getattr(library, words[1])(job), 0
+        text, status = library.answer(words[1], job), 0
     except smithy_bind.Fault as fault:
         text, status = fault.line, fault.status
     except smithy_bind.Refusal as refusal:

@@ -1,5 +1,5 @@
 //! Answers the job on standard input by a command, and ends as the program does: answer request < JOB
-use smithy_bind::{recover, request, response, route, rpc, Refusal};
+use smithy_bind::{answer, Command, Refusal};
 use std::io::{self, Read, Write};
 use std::process::ExitCode;
 
@@ -8,21 +8,17 @@ fn main() -> ExitCode {
 }
 
 fn run() -> u8 {
-    let answer = match std::env::args().nth(1).as_deref() {
-        Some("request") => request,
-        Some("response") => response,
-        Some("rpc") => rpc,
-        Some("recover") => recover,
-        Some("route") => route,
-        _ => return 1,
+    let word = std::env::args().nth(1).unwrap_or_default();
+    let Some(command) = Command::named(&word) else {
+        return 1;
     };
     let mut job = Vec::new();
     if io::stdin().read_to_end(&mut job).is_err() {
         return 4;
     }
-    let (text, status) = match answer(&job) {
+    let (text, status) = match answer(command, &job) {
         Ok(text) => (text, 0),
-        Err(Refusal::Fault(line)) => (line, 3),
+        Err(Refusal::Fault(fault)) => (fault.line().to_vec(), 3),
         Err(refusal) => (Vec::new(), refusal.status()),
     };
     let mut stdout = io::stdout();

@@ -1,0 +1,31 @@
+"""HTTP requests and responses of Smithy operations, by the proved library smithy_bind.
+
+    import smithy_bind
+    library = smithy_bind.Library("./libsmithy_bind.so")
+    request = library.request(open("examples/get_object.json").read())
+    print(request.method, request.target, request.headers, request.body)
+
+A job is JSON, as a str, as bytes or as a dict: a model, the name of an operation, and an input, an output, a response or a request.
+docs/JOBS.md of the repository has its form, and what each command gives. Where a call has no output it raises a Refusal, or
+MemoryError.
+"""
+
+from smithy_bind._library import COMMANDS, Job, Library
+from smithy_bind._parts import Output, Request, Routed
+from smithy_bind._refusals import Fault, NoJob, Refusal, TooLong, UnknownAnswer
+
+__all__ = [
+    "COMMANDS",
+    "Fault",
+    "Job",
+    "Library",
+    "NoJob",
+    "Output",
+    "Refusal",
+    "Request",
+    "Routed",
+    "TooLong",
+    "UnknownAnswer",
+]
+
+__version__ = "0.1.0"

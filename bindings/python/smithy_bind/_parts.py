@@ -1,0 +1,82 @@
+"""The parts of what a command writes."""
+
+from __future__ import annotations
+
+import dataclasses
+import json
+from typing import Any, Tuple
+
+
+@dataclasses.dataclass(frozen=True)
+class Request:
+    """An HTTP request. A client adds to it what is its own, as `host`, and sends the parts as they stand.
+
+    `target` is a path and a query, or a whole URL where the endpoint of the job is one. `headers` has each name in lower case
+    and once, with its value: bytes as ISO 8859-1, in which http.client writes them again. `body` may be empty.
+    """
+
+    method: str
+    target: str
+    headers: Tuple[Tuple[str, str], ...] = ()
+    body: bytes = b""
+
+    @classmethod
+    def parse(cls, text: bytes) -> Request:
+        """The request of the text that `request`, `rpc` and `gateway` write. ValueError where it has not their form."""
+        first, rest = _line(text)
+        method, target = _halves(first, b" ")
+        headers = []
+        while True:
+            first, rest = _line(rest)
+            if not first:
+                return cls(method.decode(), target.decode(), tuple(headers), rest)
+            name, value = _halves(first, b": ")
+            headers.append((name.decode(), value.decode("iso-8859-1")))
+
+    def header(self, name: str) -> str | None:
+        """The value of the header with this name, in any case. None where there is none."""
+        return dict(self.headers).get(name.lower())
+
+
+@dataclasses.dataclass(frozen=True)
+class Output:
+    """The value of a response. `error` is the full name of the error that the response is, of a job with a `code`."""
+
+    value: Any
+    error: str | None = None
+
+    @classmethod
+    def parse(cls, text: bytes) -> Output:
+        """The value of the text that `response` writes. ValueError where it has not its form."""
+        if not text.endswith(b"\n"):
+            raise ValueError("a line without its end")
+        # The value is the last line: a name may have line feeds, and the value's are escaped.
+        name, is_named, value = text[:-1].rpartition(b"\n")
+        return cls(json.loads(value), name.decode() if is_named else None)
+
+
+@dataclasses.dataclass(frozen=True)
+class Routed:
+    """The operation of a request by its full name, and the input that has it."""
+
+    operation: str
+    input: Any
+
+    @classmethod
+    def parse(cls, text: bytes) -> Routed:
+        """The operation and the input of the text that `route` writes. ValueError where it has not its form."""
+        output = Output.parse(text)
+        if output.error is None:
+            raise ValueError("an input without an operation")
+        return cls(output.error, output.value)
+
+
+def _line(text: bytes) -> tuple[bytes, bytes]:
+    return _halves(text, b"\n")
+
+
+def _halves(text: bytes, between: bytes) -> tuple[bytes, bytes]:
+    first, found, second = text.partition(between)
+    if not found:
+        raise ValueError(f"{first[:100]!r} has no {between!r} behind it")
+    return first, second

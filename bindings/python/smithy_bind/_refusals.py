@@ -1,0 +1,54 @@
+"""Why a command gives no output."""
+
+
+class Refusal(Exception):
+    """Why there is no output. `status` is the exit status that the program has for it."""
+
+    status: int
+
+
+class NoJob(Refusal):
+    """The bytes are no job, or its schema can't be worked by."""
+
+    status = 2
+
+    def __init__(self) -> None:
+        super().__init__("no job, or one whose schema is not checked: docs/JOBS.md of smithy_bind has the form of a job")
+
+
+class Fault(Refusal):
+    """The input can't be sent, the response can't be read, the output can't be written, no input has the request, or no operation is
+    found: `line`, bytes with the end of the line, says why. `kind` is what stands before its first `: `, and `text` what stands
+    behind."""
+
+    status = 3
+
+    def __init__(self, line: bytes) -> None:
+        told = line.decode(errors="replace").rstrip("\n")
+        super().__init__(told)
+        self.line = line
+        self.kind, _, self.text = told.partition(": ")
+
+    def __reduce__(self) -> "tuple[type[Fault], tuple[bytes]]":
+        return type(self), (self.line,)
+
+
+class TooLong(Refusal):
+    """The job has more than 16,777,216 bytes."""
+
+    status = 7
+
+    def __init__(self) -> None:
+        super().__init__("the job has more than 16777216 bytes")
+
+
+class UnknownAnswer(Refusal):
+    """What no command of this version ends with: the library is another version's. `status` and `text` are what it gave."""
+
+    def __init__(self, status: int, text: bytes) -> None:
+        super().__init__(f"an answer of another version of smithy_bind, of status {status}")
+        self.status = status
+        self.text = text
+
+    def __reduce__(self) -> "tuple[type[UnknownAnswer], tuple[int, bytes]]":
+        return type(self), (self.status, self.text)

@@ -1,0 +1,110 @@
+"""Calls of the library that SMITHY_BIND_LIBRARY names."""
+
+import json
+import pathlib
+import pickle
+import unittest
+from concurrent.futures import ThreadPoolExecutor
+from unittest import mock
+
+import smithy_bind
+from smithy_bind import _library
+
+EXAMPLES = pathlib.Path(__file__).resolve().parents[3] / "examples"
+
+
+def example(name):
+    return (EXAMPLES / f"{name}.json").read_text()
+
+
+class Calls(unittest.TestCase):
+    @classmethod
+    def setUpClass(cls):
+        cls.library = smithy_bind.Library()
+
+    def test_a_job_is_text_bytes_or_what_lends_bytes(self):
+        wanted = smithy_bind.Request("GET", "/b/x/y%20z?max=3", (("x-id", "7"),), b"")
+        text = example("get_object")
+        data = text.encode()
+        for job in (text, data, bytearray(data), memoryview(data)):
+            self.assertEqual(self.library.request(job), wanted)
+
+    def test_a_job_is_a_dict(self):
+        job = json.loads(example("get_object"))
+        job["input"] = {"Bucket": "b", "Key": "é", "Id": -7}
+        self.assertEqual(self.library.request(job), smithy_bind.Request("GET", "/b/%C3%A9", (("x-id", "-7"),), b""))
+
+    def test_a_value_is_what_json_has(self):
+        job = json.loads(example("get_object"))
+        job["request"] = {"method": "GET", "target": "/b/%C3%A9", "headers": [["x-id", "-7"]]}
+        self.assertEqual(self.library.recover(job), {"Bucket": "b", "Id": -7, "Key": "é"})
+
+    def test_a_response_is_a_value(self):
+        wanted = json.loads((EXAMPLES / "get_object_response.txt").read_bytes())
+        self.assertEqual(self.library.response(example("get_object_response")), smithy_bind.Output(wanted))
+
+    def test_an_error_has_its_name(self):
+        name, value = (EXAMPLES / "get_space_error.txt").read_text().splitlines()
+        self.assertEqual(self.library.response(example("get_space_error")), smithy_bind.Output(json.loads(value), name))
+
+    def test_a_request_is_posted(self):
+        request = self.library.rpc(example("put_item_rpc"))
+        self.assertEqual((request.method, request.header("content-type")), ("POST", "application/json"))
+        self.assertEqual(len(request.body), int(request.header("content-length")))
+
+    def test_a_request_is_recovered(self):
+        wanted = json.loads((EXAMPLES / "put_object_recovered.txt").read_bytes())
+        self.assertEqual(self.library.recover(example("put_object_recovered")), wanted)
+
+    def test_a_request_is_routed(self):
+        name, value = (EXAMPLES / "eks_routed.txt").read_text().splitlines()
+        self.assertEqual(self.library.route(example("eks_routed")), smithy_bind.Routed(name, json.loads(value)))
+
+    def test_calls_run_in_threads(self):
+        jobs = [example("get_object"), example("put_item_rpc")] * 20
+        with ThreadPoolExecutor(4) as threads:
+            answers = list(threads.map(self.library.answer, ["request", "rpc"] * 20, jobs))
+        self.assertEqual(len(set(answers)), 2)
+
+
+class Refusals(unittest.TestCase):
+    @classmethod
+    def setUpClass(cls):
+        cls.library = smithy_bind.Library()
+
+    def test_bytes_that_are_no_job(self):
+        with self.assertRaises(smithy_bind.NoJob) as raised:
+            self.library.request("{")
+        self.assertEqual(raised.exception.status, 2)
+
+    def test_what_is_no_job_at_all(self):
+        with self.assertRaisesRegex(TypeError, "a str, bytes or a dict"):
+            self.library.request(5)
+        with self.assertRaises(ValueError):
+            self.library.request({"input": float("nan")})
+
+    def test_a_fault_has_its_line(self):
+        with self.assertRaises(smithy_bind.Fault) as raised:
+            self.library.request(example("get_object_without_key"))
+        fault = raised.exception
+        self.assertEqual(fault.line, (EXAMPLES / "get_object_without_key.txt").read_bytes())
+        self.assertEqual(f"{fault.kind}: {fault.text}\n".encode(), fault.line)
+        self.assertEqual(pickle.loads(pickle.dumps(fault)).line, fault.line)
+
+    def test_a_job_that_is_too_long(self):
+        with self.assertRaises(smithy_bind.TooLong):
+            self.library.request(b" " * 16_777_217)
+
+    def test_each_status_has_its_refusal(self):
+        kinds = {2: smithy_bind.NoJob, 3: smithy_bind.Fault, 6: MemoryError, 7: smithy_bind.TooLong, 9: smithy_bind.UnknownAnswer}
+        for status, kind in kinds.items():
+            with self.subTest(status), self.assertRaises(kind):
+                _library._output(status, b"Custom: a\n")
+
+    def test_a_text_without_the_form_of_an_answer(self):
+        with mock.patch.object(_library, "_answer", return_value=b"GET"), self.assertRaises(smithy_bind.UnknownAnswer):
+            self.library.request("{}")
+
+    def test_a_library_that_is_not_there(self):
+        with self.assertRaisesRegex(FileNotFoundError, "set SMITHY_BIND_LIBRARY"):
+            smithy_bind.Library("nowhere.so")

@@ -1,0 +1,42 @@
+"""The parts of made answers."""
+
+import unittest
+
+from smithy_bind import Output, Request, Routed
+
+
+class Requests(unittest.TestCase):
+    def test_a_request_has_its_parts(self):
+        text = b"PUT /b/x%0A?q=a%20b\nx-a: 1: 2\nx-b: \xc3\xa9\xff\nx-empty: \n\nline\n\nx-c: 3\n\xff"
+        request = Request.parse(text)
+        self.assertEqual(request.method, "PUT")
+        self.assertEqual(request.target, "/b/x%0A?q=a%20b")
+        self.assertEqual(request.headers, (("x-a", "1: 2"), ("x-b", "\xc3\xa9\xff"), ("x-empty", "")))
+        self.assertEqual(request.header("X-A"), "1: 2")
+        self.assertIsNone(request.header("x-c"))
+        self.assertEqual(request.body, b"line\n\nx-c: 3\n\xff")
+
+    def test_a_request_may_have_no_headers_and_no_body(self):
+        self.assertEqual(Request.parse(b"GET /b\n\n"), Request("GET", "/b"))
+
+    def test_other_texts_are_no_request(self):
+        for text in (b"", b"GET", b"GET /b", b"GET\n\n", b"GET /b\n", b"GET /b\nx-a: 1\n", b"GET /b\nx-a\n\n"):
+            with self.subTest(text), self.assertRaises(ValueError):
+                Request.parse(text)
+
+
+class Values(unittest.TestCase):
+    def test_an_output_may_have_an_error(self):
+        self.assertEqual(Output.parse(b'{"Code":206}\n'), Output({"Code": 206}))
+        self.assertEqual(Output.parse(b"ex#Gone\n{}\n"), Output({}, "ex#Gone"))
+        self.assertEqual(Output.parse(b'ex#Two\nlines\n{"a":"\\n"}\n'), Output({"a": "\n"}, "ex#Two\nlines"))
+
+    def test_other_texts_are_no_output(self):
+        for text in (b"", b"{}", b"{\n", b"\xff\n"):
+            with self.subTest(text), self.assertRaises(ValueError):
+                Output.parse(text)
+
+    def test_a_route_has_an_operation_and_an_input(self):
+        self.assertEqual(Routed.parse(b'ex#Get\n{"Bucket":"b"}\n'), Routed("ex#Get", {"Bucket": "b"}))
+        with self.assertRaises(ValueError):
+            Routed.parse(b"{}\n")
