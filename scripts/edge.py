@@ -8,10 +8,12 @@ sources. Each case that doesn't end as docs/JOBS.md says has a line, and the las
 
 import collections
 import contextlib
+import copy
 import fcntl
 import json
 import os
 import pathlib
+import re
 import resource
 import signal
 import subprocess
@@ -211,8 +213,11 @@ GET = json.dumps({
     "input": {"Bucket": "b"},
     "response": {"status": 200, "body": "{\"Name\":\"a\"}"},
     "request": {"method": "GET", "target": "/b"},
+    "to": "rpc",
 }).encode()  # fmt: skip
 GOTTEN = b"GET /b\n\n"
+CALL = b'POST /\ncontent-type: application/json\ncontent-length: 14\n\n{"Bucket":"b"}'
+CALLED = json.dumps({**json.loads(GET), "request": {"method": "POST", "target": "/", "body": '{"Bucket":"b"}'}, "to": "rest"}).encode()
 WITHOUT_BUCKET = GET.replace(b'"Bucket": "b"', b'"Bucket": ""')
 NO_BUCKET = b"InvalidInput: invalid input: Bucket was missing: cannot be empty or unset\n"
 WITHOUT_BODY = GET.replace(b'{\\"Name\\":\\"a\\"}', b"")
@@ -242,6 +247,11 @@ def generated(count):
     return f"target /g/{count}\nheaders 3\nbody {len(body)}\nsum {sum(body.encode())}\n".encode()
 
 
+def said_by_script(word):
+    """What ./smithy_bind writes for a word that it answers itself, from the program's source."""
+    return subprocess.run([ROOT / "smithy_bind", word], check=True, stdout=subprocess.PIPE).stdout
+
+
 # The cases.
 
 
@@ -259,7 +269,7 @@ def words():
         yield Case(f"generate {count}", ["generate", str(count)], given, Pipe(), 0, generated(count), 0)
     yield Case("generate 000003", ["generate", "000003"], given, Pipe(), 0, generated(3), 0)
     for word in ("--help", "--version"):
-        yield Case(word, [word], given, Pipe(), 0, None, 0)
+        yield Case(word, [word], given, Pipe(), 0, said_by_script(word), 0)
 
 
 def inputs():
@@ -278,12 +288,70 @@ def inputs():
         ("a request of no input", "recover", WITHOUT_LABEL, 3, NO_INPUT),
         ("a request whose operation is found", "route", GET, 0, b'ex#Get\n{"Bucket":"b"}\n'),
         ("a request of no operation", "route", WITHOUT_LABEL, 3, NO_ROUTE),
+        ("a request that is sent on", "gateway", GET, 0, CALL),
+        ("a call that is sent on", "gateway", CALLED, 0, GOTTEN),
+        ("a request of no input, sent on", "gateway", WITHOUT_LABEL, 3, NO_INPUT),
         ("a text of 40,000 bytes", "rpc", job, 0, request),
     ]
     for name, command, data, status, text in ends:
         yield Case(f"{name}, by a file", [command], File(data), Pipe(), status, text, len(data))
         for piece in (1, 4095, 4096, 4097):
             yield Case(f"{name}, in pieces of {piece}", [command], Pieces(data, piece), Pipe(), status, text)
+
+
+def mistakes():
+    """Jobs with one mistake each, as docs/JOBS.md lists them: each is no job, by `rpc` too."""
+    put = GET.replace
+    for name, job in (
+        ("a byte order mark", b"\xef\xbb\xbf" + GET),
+        ("a comma at its end", GET[:-1] + b",}"),
+        ("a comment", GET + b" // a job"),
+        ("single quotes", put(b'"', b"'")),
+        ("another key for the input", put(b'"input": {"Bucket"', b'"inputs": {"Bucket"')),
+        ("no operation", put(b'"operation": "ex#Get"', b'"Operation": "ex#Get"')),
+        ("an operation without its namespace", put(b'"operation": "ex#Get"', b'"operation": "Get"')),
+        ("an operation that is not in the model", put(b'"operation": "ex#Get"', b'"operation": "ex#Put"')),
+        ("a target that is not in the model", put(b'"Bucket": {"target": "smithy.api#String"', b'"Bucket": {"target": "ex#Text"')),
+        ("a member without a target", put(b'"Bucket": {"target": "smithy.api#String", ', b'"Bucket": {')),
+        ("a type that is none", put(b'"ex#GetIn": {"type": "structure"', b'"ex#GetIn": {"type": "struct"')),
+        ("mixins", put(b'"ex#GetIn": {', b'"ex#GetIn": {"mixins": [{"target": "ex#GetOut"}], ')),
+        ("traits in an array", put(b'{"smithy.api#httpLabel": {}}', b'["smithy.api#httpLabel"]')),
+        ("a trait without its namespace", put(b'"smithy.api#httpLabel"', b'"httpLabel"')),
+        ("a trait of another form", put(b'{"smithy.api#httpLabel": {}}', b'{"smithy.api#httpLabel": {}, "smithy.api#mediaType": {}}')),
+        ("no method", put(b'"method": "GET", "uri"', b'"uri"')),
+        ("an optional key that is null", put(b'"operations":', b'"endpoint": null, "operations":')),
+        ("a float in the input", put(b'"Bucket": "b"', b'"Bucket": 3.0')),
+    ):  # fmt: skip
+        for command in ("request", "rpc"):
+            yield Case(f"{command} of a job with {name}", [command], File(job), Pipe(), 2, b"")
+
+
+def unchecked():
+    """The rules of a checked schema in docs/JOBS.md, each with what breaks it. The job is one, as `rpc` shows, which asks for no rule."""
+    page = (ROOT / "docs" / "JOBS.md").read_text().split("\n## A checked schema\n")[1].split("\n## ")[0]
+    job = json.loads(re.search(r"```json\n(.*?)```", page, re.S)[1])
+    job.update(operations=["ex#Put"], request={"method": "PUT", "target": "/a/b"}, to="rpc")
+    job.update(response={"status": 200, "body": "{}"}, output={})
+    asked_of_input, asked_of_output = ("request", "recover", "route", "gateway"), ("response", "answer")
+    for command in (*asked_of_input, *asked_of_output, "rpc"):
+        yield Case(f"{command} by a checked schema", [command], File(json.dumps(job).encode()), Pipe(), 0, None)
+    for number, parts in re.findall(r"^(\d+)\. .* `(\".*)`$", page, re.M):
+        parts = json.loads(f"{{{parts}}}")
+        yield from broken(f"rule {number}", "ex#PutIn", parts, job, asked_of_input if int(number) < 27 else ())
+        if int(number) not in (2, 4, 5, 9, 14, 19, *range(20, 27)):
+            yield from broken(f"rule {number}", "ex#PutOut", parts, job, asked_of_output)
+
+
+def broken(rule, shape, parts, job, commands):
+    """The commands by a job whose shape these parts make break a rule."""
+    job = copy.deepcopy(job)
+    shapes = job["model"]["shapes"]
+    for key, value in parts.items():
+        others = {"type": shapes[shape], "smithy.api#http": shapes["ex#Put"]["traits"]}
+        others.get(key, shapes[shape]["members"])[key] = value
+    yield Case(f"{rule} of {shape} by rpc", ["rpc"], File(json.dumps(job).encode()), Pipe(), 0, None)
+    for command in commands:
+        yield Case(f"{rule} of {shape} by {command}", [command], File(json.dumps(job).encode()), Pipe(), 2, b"")
 
 
 def lengths():
@@ -307,7 +375,7 @@ def lengths():
 
 def failed_reads():
     """Standard input that can't be read, or not to its end."""
-    for command in ("request", "response", "rpc", "recover", "route"):
+    for command in ("request", "response", "rpc", "recover", "route", "gateway", "answer"):
         yield Case(f"{command} of a folder", [command], Path("/"), Pipe(), 4, b"")
         yield Case(f"{command} without standard input", [command], File(GET), Pipe(), 4, b"", None, close(0))
         for data in (b"", GET[:9], GET):
@@ -324,6 +392,7 @@ def failed_writes():
         ("a response", ["response"], GET),
         ("an input", ["recover"], GET),
         ("an operation and an input", ["route"], GET),
+        ("a request that is sent on", ["gateway"], GET),
         ("a text of 40,000 bytes", ["rpc"], job),
         ("generate 3", ["generate", "3"], b""),
         ("--help", ["--help"], b""),
@@ -348,7 +417,7 @@ def failed_writes():
 
 def without_memory():
     """An input for which there is not enough memory."""
-    for command in ("request", "response", "rpc", "recover", "route"):
+    for command in ("request", "response", "rpc", "recover", "route", "gateway", "answer"):
         first = limit(resource.RLIMIT_AS, MOST_READ)
         yield Case(f"{command} without memory", [command], File(GET.ljust(MOST_READ)), Pipe(), 6, b"", None, first)
 
@@ -396,7 +465,7 @@ def main(program=None):
         subprocess.run([ROOT / "smithy_bind", "--build"], check=True)
         program = ROOT / "crates" / "smithy_bind_program" / "out" / "smithy_bind_program"
     passed = failed = 0
-    for group in (words, inputs, lengths, failed_reads, failed_writes, without_memory):
+    for group in (words, inputs, mistakes, unchecked, lengths, failed_reads, failed_writes, without_memory):
         for case in group():
             how = differs(program, case)
             if how is None:

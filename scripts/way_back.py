@@ -256,7 +256,8 @@ def differs(run, row):
     return ""
 
 
-def main(rows, program=None):
+def count_rows(differs, rows, program=None):
+    """Tells how each row differs that does, and how many pass and fail; the status of the script."""
     if program is None:
         subprocess.run([ROOT / "smithy_bind", "--build"], check=True)
         program = ROOT / "crates" / "smithy_bind_program" / "out" / "smithy_bind_program"
@@ -280,4 +281,4 @@ def main(rows, program=None):
 
 
 if __name__ == "__main__":
-    sys.exit(main(*sys.argv[1:]))
+    sys.exit(count_rows(differs, *sys.argv[1:]))

@@ -1,0 +1,214 @@
+"""Runs the script ./smithy_bind as a user first meets it, over a made program and a made toolchain.
+
+    python3 scripts/entry.py
+
+It needs no proof and no toolchain. Each case that doesn't end as the script's head says has a line, and the last line is
+`N passed, M failed`.
+"""
+
+import collections
+import contextlib
+import os
+import pathlib
+import pty
+import re
+import shutil
+import subprocess
+import sys
+import tempfile
+
+ROOT = pathlib.Path(__file__).resolve().parent.parent
+TEXTS = pathlib.Path("crates") / "smithy_bind" / "src" / "texts.rt"
+PROGRAM = pathlib.Path("crates") / "smithy_bind_program"
+
+# A run: the words behind the script's name, what it is called by, where, and what stands on the path beside the system's tools; and
+# how it ends: the status, what it writes (None: that is not looked at), and the lines of standard error, as patterns. Standard input is a
+# file with a job, or a terminal that one is typed on.
+Case = collections.namedtuple("Case", "name words called where tools status text said terminal", defaults=(False,))
+
+# It writes what it reads, and ends with the status that ENDS names.
+MADE_PROGRAM = '#!/bin/sh\ncat\nexit "$ENDS"\n'
+# As `rt try`, of a program that writes what it reads.
+MADE_TOOLCHAIN = '#!/bin/sh\n[ "$1" = try ] || exit 9\ncat\necho "run=ended status=$ENDS" >&2\nexit "$ENDS"\n'
+NO_TOOLCHAIN = "#!/bin/sh\nexit 9\n"
+
+JOB = b'{"a job": [1, 2]}\n'
+COMMANDS = ("request", "rpc", "response", "recover", "route", "gateway", "answer")
+
+
+def constant(name):
+    """The text of a constant of the program's texts."""
+    source = (ROOT / TEXTS).read_text()
+    text = re.search(rf'^pub const {name}: &str = "(.*?)";$', source, re.M | re.S)[1]
+    return text.removeprefix("\\\n").replace("\\n", "\n").encode()
+
+
+def executable(path, text):
+    path.parent.mkdir(parents=True, exist_ok=True)
+    path.write_text(text)
+    path.chmod(0o755)
+    return path
+
+
+class Clone:
+    """A folder with the script, what it reads, and a made program where one is to be there."""
+
+    def __init__(self, folder, program=None):
+        self.folder = folder
+        (folder / TEXTS).parent.mkdir(parents=True)
+        (folder / PROGRAM / "src").mkdir(parents=True)
+        shutil.copy(ROOT / TEXTS, folder / TEXTS)
+        shutil.copy(ROOT / "crates.txt", folder)
+        shutil.copy(ROOT / "smithy_bind", folder)
+        self.script = folder / "smithy_bind"
+        if program is not None:
+            executable(folder / PROGRAM / "out" / "smithy_bind_program", program)
+
+    def link(self, path):
+        path.parent.mkdir(parents=True, exist_ok=True)
+        path.symlink_to(self.script)
+        return path
+
+
+def usage():
+    """The lines of standard error where the words are no command."""
+    lines = constant("HELP").decode().split("\n\n")[1].splitlines()
+    return [*map(re.escape, lines), "smithy_bind: --help tells what each does"]
+
+
+def why(status, folder):
+    """The lines of standard error where a command ends with this status."""
+    lines = {
+        2: rf"smithy_bind: status 2: no job of \w+, or .* not checked: see '.*' in {re.escape(str(folder))}/docs/JOBS.md",
+        4: "smithy_bind: status 4: reading .*",
+        5: "smithy_bind: status 5: writing .*",
+        6: "smithy_bind: status 6: .* memory",
+        7: "smithy_bind: status 7: .* 16,777,216 bytes",
+    }
+    return [lines[status]] if status in lines else []
+
+
+def texts(clone, tools):
+    """Words that are answered at once: there is no program, and the toolchain on the path can't be asked."""
+    for word in ("-h", "help", "--help"):
+        yield Case(word, [word], clone.script, "/", tools, 0, constant("HELP"), [])
+    for word in ("-V", "--version"):
+        yield Case(word, [word], clone.script, "/", tools, 0, constant("VERSION"), [])
+    yield Case("no word", [], clone.script, "/", tools, 1, b"", ["smithy_bind: a command is needed", *usage()])
+    for words in (
+        [""], ["post"], ["Request"], ["requests"], ["request", "request"], ["--help", "--help"], ["--"], ["a b"], ["*"],
+        ["generate"], ["generate", ""], ["generate", "100001"], ["generate", "0000003"], ["generate", "-1"],
+        ["generate", "3.0"], ["generate", "3", "3"], ["request < JOB"],
+    ):  # fmt: skip
+        said = [re.escape(f"smithy_bind: no command: {' '.join(words)}"), *usage()]
+        yield Case(f"the words {words}", words, clone.script, "/", tools, 1, b"", said)
+
+
+def places(clone, tools, work):
+    """Ways to call it."""
+    once, twice = clone.link(work / "bin" / "smithy_bind"), work / "a link"
+    twice.symlink_to(once)
+    for name, called, where in (
+        ("by its path", clone.script, "/"),
+        ("in its folder", "./smithy_bind", clone.folder),
+        ("from a folder in it", "../../smithy_bind", clone.folder / PROGRAM),
+        ("by a link", once, "/"),
+        ("by a link to a link", twice, "/"),
+        ("by a link's folder", "./smithy_bind", once.parent),
+    ):
+        yield Case(f"request, {name}", ["request"], called, where, tools, 0, JOB, [])
+        yield Case(f"--version, {name}", ["--version"], called, where, tools, 0, constant("VERSION"), [])
+    path = clone.link(work / "path" / "smithy_bind").parent
+    yield Case("request, on the path", ["request"], "smithy_bind", "/", path, 0, JOB, [])
+
+
+def statuses(clone, tools):
+    """What is said where the program ends with a status."""
+    for command in COMMANDS:
+        for status in range(8):
+            yield Case(f"{command} that ends with {status}", [command], clone.script, "/", tools, status, JOB, why(status, clone.folder))
+    for count in ("0", "000003", "100000"):
+        yield Case(f"generate {count}", ["generate", count], clone.script, "/", tools, 0, None, [])
+    said = ["smithy_bind: the proved build is newer .*"]
+    yield Case("--build, with a build", ["--build"], clone.script, "/", tools, 0, b"", said)
+    if os.path.exists("/dev/ptmx"):
+        said = ["smithy_bind: the job is read from the terminal: .*"]
+        yield Case("request of a terminal", ["request"], clone.script, "/", tools, 0, JOB, said, True)
+
+
+def unproved(clone, tools):
+    """The same without a program, by a made toolchain."""
+    note = ["smithy_bind: there is no proved build .*", "smithy_bind: more .*", "smithy_bind: which compiles .*"]
+    for status in range(8):
+        said = [*note, *why(status, clone.folder)]
+        yield Case(f"an unproved run that ends with {status}", ["request"], clone.script, "/", tools, status, JOB, said)
+
+
+def without_toolchain(clone, tools):
+    said = ["smithy_bind: there is no rt on the path: .*"]
+    yield Case("request without a toolchain", ["request"], clone.script, "/", tools, 70, b"", said)
+    yield Case("--build without a toolchain", ["--build"], clone.script, "/", tools, 70, b"", said)
+
+
+@contextlib.contextmanager
+def standard_input(is_terminal):
+    """A file with the job, or a terminal on which the job and the end of the file are typed."""
+    if is_terminal:
+        ours, theirs = pty.openpty()
+        os.write(ours, JOB + b"\x04")
+        yield theirs
+        os.close(ours)
+        os.close(theirs)
+    else:
+        with tempfile.TemporaryFile() as file:
+            file.write(JOB)
+            file.seek(0)
+            yield file
+
+
+def differs(case):
+    """How the end of a case differs from what it is to be, or None."""
+    path = f"{case.tools}:/usr/bin:/bin" if case.tools else "/usr/bin:/bin"
+    names = {**os.environ, "PATH": path, "ENDS": str(case.status)}
+    called = shutil.which(case.called, path=path) if case.called == "smithy_bind" else case.called
+    with standard_input(case.terminal) as given:
+        ended = subprocess.run([called, *case.words], cwd=case.where, env=names, stdin=given, capture_output=True, timeout=60)
+    said = ended.stderr.decode().splitlines()
+    if ended.returncode != case.status:
+        return f"ends with {ended.returncode} and not with {case.status}: {said}"
+    if case.text is not None and ended.stdout != case.text:
+        return f"writes {ended.stdout[:300]!r} and not {case.text[:300]!r}"
+    if len(said) != len(case.said) or not all(map(re.fullmatch, case.said, said)):
+        return f"says {said} and not {case.said}"
+    return None
+
+
+def cases(work):
+    """All cases, in folders with blanks and signs in their names."""
+    useless = executable(work / "useless" / "rt", NO_TOOLCHAIN).parent
+    trying = executable(work / "trying" / "rt", MADE_TOOLCHAIN).parent
+    bare, built = Clone(work / "a clone" / "without=a build"), Clone(work / "a clone" / "with a 'build'", MADE_PROGRAM)
+    yield from texts(bare, useless)
+    yield from places(built, useless, work)
+    yield from statuses(built, useless)
+    yield from unproved(bare, trying)
+    if shutil.which("rt", path="/usr/bin:/bin") is None:
+        yield from without_toolchain(bare, None)
+
+
+def main():
+    passed = failed = 0
+    with tempfile.TemporaryDirectory() as folder:
+        for case in cases(pathlib.Path(folder).resolve()):
+            how = differs(case)
+            if how is None:
+                passed += 1
+            else:
+                failed += 1
+                print(f"{case.name}: {how}", flush=True)
+    print(f"{passed} passed, {failed} failed")
+    return 1 if failed else 0
+
+
+if __name__ == "__main__":
+    sys.exit(main())
