@@ -27,6 +27,6 @@ AnswersBy text p schema ws endpoint omit result = Answers result (answer (protoc
 abbrev pub AnswersOutput : {C : Type 0} → (C → Document → List ℕ) → Parts C → SchemaRef → Writes → Result PlacedOutput SerdeError → Type 0
 AnswersOutput text p schema ws result = Answers result (placed_output (protocol_of text p) (schema_of schema) (list_of ws))
 
--- the same of an input that is posted whole
+-- an outcome of code is the request of an input that is posted whole, or the input's first fault
 abbrev pub AnswersCall : {C : Type 0} → (C → Document → List ℕ) → Parts C → Writes → List ℕ → OmitFlags → Result Request SerdeError → Type 0
 AnswersCall text p ws endpoint omit result = Answers result (rpc_answer (protocol_of text p) ws endpoint omit)

@@ -18,7 +18,7 @@ use std::alloc::Global;
 /// of `rpc`. Its document is nested at most 100 deep, as far as a codec reads back. The target and the headers of the
 /// request are not looked at.
 ///
-/// `NotPlaced` exactly where the method is not `POST` or there is no such input. So a body in another layout, a member that
+/// `NotPlaced` exactly where the method is not `POST` or there is no such input. So a body in another layout, a field that
 /// no member of the schema has, or a value that its member has in another form, as an empty list of a query member, is of no
 /// input. `OutOfMemory` where memory was wanted and not there. Takes memory: for what is read of the body, for a request
 /// that is placed and recovered, for the text of the input, and for the new request. Conditions: the schema stands in the
