@@ -1,15 +1,17 @@
 -- The place of each name.
-use Rattle.std.proofs.Common.{◌≡◌, refl, ap, sym, ◌∙◌, subst, ℕ, suc, zero, ◌+◌, arith, Bool, true, false, not, cond, List, [], ◌∷◌, ◌++◌, map, length, get_or, set, position, string_bytes, String, Option, Some, None, option_map, if◌then◌else◌}
+use Rattle.std.proofs.Common.{◌≡◌, refl, ap, sym, ◌∙◌, subst, ℕ, suc, zero, ◌+◌, ◌<◌, ◌≤◌, arith, Bool, true, false, not, cond, List, [], ◌∷◌, ◌++◌, map, length, get_or, set, position, string_bytes, String, Option, Some, None, option_map, unwrap_or, if◌then◌else◌}
 use Rattle.std.specs.Global.{Global}
 use Rattle.std.specs.BTreeMap.{BTreeMap, Updates, get_by_text}
 use Rattle.std.specs.String.{string_cmp}
 use Rattle.std.specs.Str.{bytes_eq}
+use Rattle.std.proofs.lemmas.List.{length-map}
 use Rattle.std.proofs.lemmas.Slice.Eq.{bytes_eq-Decides}
 use Rattle.std.proofs.lemmas.Map.Text.{btree_map_updates_text}
 use Rattle.smithy_types.specs.Texts.{same_text}
 use Rattle.smithy_types.proofs.Positions.{one_more, position-cons}
 use Rattle.smithy_http.specs.declared.pairs.Pair.{Pair}
 use Rattle.smithy_http.specs.Headers.{put, without}
+use Rattle.smithy_http.proofs.PutLemmas.{position_some}
 use Rattle.smithy_http.specs.views.Pairs.{pair_of, name_of, is_named, place_of, AreApart, IsIndex}
 
 -- where none passes, the first does not, and none behind it does
@@ -77,6 +79,58 @@ IsIndex-push m n key names index none updates =
     go name true e =
         sym (position-push_passes (λ n. same_text n name) names (string_bytes key) e (subst (λ t. place_of t names ≡ None) ((bytes_eq-Decides (string_bytes key) name).0 e) none))
     go name false e = index.at name ∙ sym (position-push_fails (λ n. same_text n name) names (string_bytes key) e)
+
+-- the place of a name, where it has one
+IsIndex-same : (m n : BTreeMap (String Global) ℕ) (key : String Global) (names : List (List ℕ)) (place : ℕ) → IsIndex m names → place_of (string_bytes key) names ≡ Some place → Updates string_cmp m n key (Some place) → IsIndex n names
+IsIndex-same m n key names place index some updates =
+    record {
+      at = λ name. btree_map_updates_text (string_bytes key) m n (Some place) updates name ∙ go name (bytes_eq (string_bytes key) name) refl;
+      apart = index.apart;
+    }
+  where
+    go : (name : List ℕ) (b : Bool) → bytes_eq (string_bytes key) name ≡ b → cond b (Some place) (get_by_text m name) ≡ place_of name names
+    go name true e = sym (subst (λ t. place_of t names ≡ Some place) ((bytes_eq-Decides (string_bytes key) name).0 e) some)
+    go name false e = index.at name
+
+-- what stands at a name after it got the place behind the pairs, unless it had one
+module _ (m n : BTreeMap (String Global) ℕ) (key : String Global) (pairs : List Pair) (place : ℕ) (index : IsIndex m (map name_of pairs)) where
+  named : position (is_named (string_bytes key)) pairs ≡ get_by_text m (string_bytes key)
+  named = sym (index.at (string_bytes key) ∙ position-map (λ n. same_text n (string_bytes key)) name_of pairs)
+
+  old : place ≡ unwrap_or (get_by_text m (string_bytes key)) (length pairs) → Updates string_cmp m n key (Some place) → place < length pairs
+      → (position (is_named (string_bytes key)) pairs ≡ Some place) × IsIndex n (map name_of pairs)
+  old put updates less = go (get_by_text m (string_bytes key)) refl
+    where
+      go : (o : Option ℕ) → get_by_text m (string_bytes key) ≡ o → (position (is_named (string_bytes key)) pairs ≡ Some place) × IsIndex n (map name_of pairs)
+      go None e = let bad : place ≡ length pairs = put ∙ ap (λ o. unwrap_or o (length pairs)) e in absurd (omega (arith, bad, less))
+      go (Some i) e =
+          let same : place ≡ i = put ∙ ap (λ o. unwrap_or o (length pairs)) e in
+          let at : get_by_text m (string_bytes key) ≡ Some place = e ∙ ap (λ k. Some k) (sym same) in
+          (named ∙ at, IsIndex-same m n key (map name_of pairs) place index (sym (index.at (string_bytes key)) ∙ at) updates)
+
+  new : place ≡ unwrap_or (get_by_text m (string_bytes key)) (length pairs) → Updates string_cmp m n key (Some place) → length pairs ≤ place
+      → (position (is_named (string_bytes key)) pairs ≡ None) × IsIndex n (map name_of pairs ++ string_bytes key ∷ [])
+  new put updates past = go (get_by_text m (string_bytes key)) refl
+    where
+      go : (o : Option ℕ) → get_by_text m (string_bytes key) ≡ o → (position (is_named (string_bytes key)) pairs ≡ None) × IsIndex n (map name_of pairs ++ string_bytes key ∷ [])
+      go None e =
+          let last : place ≡ length (map name_of pairs) = put ∙ ap (λ o. unwrap_or o (length pairs)) e ∙ sym (length-map pairs name_of) in
+          (named ∙ e, IsIndex-push m n key (map name_of pairs) index (sym (index.at (string_bytes key)) ∙ e) (subst (λ k. Updates string_cmp m n key (Some k)) last updates))
+      go (Some i) e =
+          let same : place ≡ i = put ∙ ap (λ o. unwrap_or o (length pairs)) e in
+          let within = position_some (is_named (string_bytes key)) pairs i (named ∙ e) in
+          absurd (omega (arith, same, past, within.0, within.1))
+
+  -- the same of the name's own bytes
+  pub claimed-old : (name : List ℕ) → string_bytes key ≡ name → place ≡ unwrap_or (get_by_text m name) (length pairs) → Updates string_cmp m n key (Some place) → place < length pairs
+      → (position (is_named name) pairs ≡ Some place) × IsIndex n (map name_of pairs)
+  claimed-old name is =
+      subst (λ (k : List ℕ). place ≡ unwrap_or (get_by_text m k) (length pairs) → Updates string_cmp m n key (Some place) → place < length pairs → (position (is_named k) pairs ≡ Some place) × IsIndex n (map name_of pairs)) is old
+
+  pub claimed-new : (name : List ℕ) → string_bytes key ≡ name → place ≡ unwrap_or (get_by_text m name) (length pairs) → Updates string_cmp m n key (Some place) → length pairs ≤ place
+      → (position (is_named name) pairs ≡ None) × IsIndex n (map name_of pairs ++ name ∷ [])
+  claimed-new name is =
+      subst (λ (k : List ℕ). place ≡ unwrap_or (get_by_text m k) (length pairs) → Updates string_cmp m n key (Some place) → length pairs ≤ place → (position (is_named k) pairs ≡ None) × IsIndex n (map name_of pairs ++ k ∷ [])) is new
 
 -- without a name that does not stand
 pub without-absent : (name : List ℕ) (xs : List Pair) → position (is_named name) xs ≡ None → without name (map pair_of xs) ≡ map pair_of xs

@@ -1,5 +1,5 @@
 // Pairs of a name and a value, in order, and the place of each name among them.
-ghost use Rattle.std.specs.Prelude.{◌≡◌, ◌∷◌, ◌++◌, [], map, position, string_bytes, false, true, ◌↔◌, IfOk, IfErr, OnOk, OnErr, IsErrOf, MatchOption, vec_capacity};
+ghost use Rattle.std.specs.Prelude.{◌≡◌, ◌∷◌, ◌++◌, [], map, position, string_bytes, false, true, ◌<◌, ◌↔◌, IfOk, IfErr, OnOk, OnErr, IsErrOf, MatchOption, vec_capacity, vec_len};
 ghost use Rattle.std.specs.Bool.{OnTrue};
 ghost use Rattle.std.specs.Cow.{cow_str_bytes};
 ghost use Rattle.std.specs.Option.{ForSome};
@@ -7,7 +7,7 @@ ghost use Rattle.std.specs.Str.{str_to_ascii_lowercase};
 ghost use Rattle.smithy_types.specs.Grammars as grammar;
 ghost use Rattle.smithy_types.specs.Texts.{same_text};
 ghost use Rattle.smithy_http.specs.Headers.{field, put, without};
-ghost use Rattle.smithy_http.specs.views.Pairs.{pair_of, name_of, shown, values_among, is_named, named_otherwise, place_of as place_of_name, AreApart, IsIndex, TakesFirst};
+ghost use Rattle.smithy_http.specs.views.Pairs.{pair_of, name_of, shown, values_among, is_named, named_otherwise, place_of as place_of_name, AreApart, IsIndex, TakesFirst, Claims};
 ghost use Rattle.smithy_http.specs.Refusals.{HasUnfitValue, IsPairRefusal};
 
 use crate::error::HttpError;
@@ -261,24 +261,6 @@ fn insert_place(places: &mut Places, pairs: &[Pair], name: String) -> Result<(),
     Ok(())
 }
 
-// Adds the place of a new name, where places are kept.
-fn add_place(
-    alloc: Global,
-    places: &mut Option<Places>,
-    pairs: &[Pair],
-    name: &str,
-) -> Result<(), OutOfMemory>
-    requires new { position (is_named name.now) pairs.now ≡ None }
-    requires index { ForSome places.old (λ m. IsIndex m (map name_of pairs.now)) }
-    ensures ok { OnOk result (ForSome places.new (λ m. IsIndex m (map name_of pairs.now ++ name.now ∷ []))) }
-    ensures err { OnErr result (ForSome places.new (λ m. IsIndex m (map name_of pairs.now))) }
-{
-    match places {
-        Some(places) => insert_place(places, pairs, String::from_str(alloc, name)?),
-        None => Ok(()),
-    }
-}
-
 // The place of each name, where none stands twice.
 fn indexed(alloc: Global, pairs: &[Pair]) -> Result<Option<Places>, OutOfMemory>
     ensures { IfOk result (λ places. ForSome places (λ m. IsIndex m (map name_of pairs.now))) }
@@ -310,23 +292,50 @@ fn keep_places(
     Ok(())
 }
 
-// Adds a pair of a new name at the end.
-fn push_new(
-    pairs: &mut Vec<Pair>,
-    places: &mut Option<Places>,
-    pair: Pair,
-) -> Result<(), OutOfMemory>
-    requires new { position (is_named (name_of pair)) pairs.old.items ≡ None }
-    requires index { ForSome places.old (λ m. IsIndex m (map name_of pairs.old.items)) }
-    ensures ok { OnOk result (pairs.new.items ≡ pairs.old.items ++ pair ∷ []) }
-    ensures err { OnErr result (pairs.new.items ≡ pairs.old.items) }
+// Makes room for one more pair.
+fn make_room(pairs: &mut Vec<Pair>, places: &mut Option<Places>) -> Result<(), OutOfMemory>
+    requires { ForSome places.old (λ m. IsIndex m (map name_of pairs.old.items)) }
+    ensures items { pairs.new.items ≡ pairs.old.items }
+    ensures room { OnOk result (vec_len pairs.new < vec_capacity pairs.new) }
     ensures index { ForSome places.new (λ m. IsIndex m (map name_of pairs.new.items)) }
 {
     pairs.reserve(if pairs.is_empty() { FIRST_ROOM } else { 1 })?;
-    keep_places(*pairs.allocator(), places, pairs)?;
-    add_place(*pairs.allocator(), places, pairs, pair.name.as_str())?;
-    pairs.push(pair).unwrap();
-    Ok(())
+    keep_places(*pairs.allocator(), places, pairs)
+}
+
+// The place of a name. A new name gets the one behind the pairs.
+fn claim_place(
+    alloc: Global,
+    places: &mut Places,
+    pairs: &[Pair],
+    name: &str,
+) -> Result<Option<usize>, OutOfMemory>
+    requires { IsIndex places.old (map name_of pairs.now) }
+    ensures { Claims name.now pairs.now (IsIndex places.new) result }
+{
+    let name = String::from_str(alloc, name)?;
+    let place = *places.entry(name)?.or_insert(pairs.len());
+    if place < pairs.len() {
+        Ok(Some(place))
+    } else {
+        Ok(None)
+    }
+}
+
+// The same where places may not be kept.
+fn claim(
+    alloc: Global,
+    places: &mut Option<Places>,
+    pairs: &[Pair],
+    name: &str,
+) -> Result<Option<usize>, OutOfMemory>
+    requires { ForSome places.old (λ m. IsIndex m (map name_of pairs.now)) }
+    ensures { Claims name.now pairs.now (λ names. ForSome places.new (λ m. IsIndex m names)) result }
+{
+    match places {
+        Some(places) => claim_place(alloc, places, pairs, name),
+        None => Ok(first_place(pairs, name)),
+    }
 }
 
 // Puts the pair at the first place of its name, or at the end.
@@ -342,8 +351,9 @@ pub(crate) fn put_pair(
     ensures err { OnErr result (shown pairs.new.items ≡ shown pairs.old.items) }
     ensures index { ForSome places.new (λ m. IsIndex m (map name_of pairs.new.items)) }
 {
-    match place_of(pairs, places, pair.name.as_str()) {
-        None => push_new(pairs, places, pair)?,
+    make_room(pairs, places)?;
+    match claim(*pairs.allocator(), places, pairs, pair.name.as_str())? {
+        None => pairs.push_reserved(pair),
         Some(place) => put_at(pairs, places, place, pair),
     }
     Ok(())
@@ -360,12 +370,11 @@ pub(crate) fn add_pair(
     ensures err { OnErr result (pairs.new.items ≡ pairs.old.items) }
     ensures index { ForSome places.new (λ m. IsIndex m (map name_of pairs.new.items)) }
 {
-    match place_of(pairs, places, pair.name.as_str()) {
-        None => push_new(pairs, places, pair),
-        Some(_) => {
-            pairs.push(pair)?;
-            *places = None;
-            Ok(())
-        }
+    make_room(pairs, places)?;
+    match claim(*pairs.allocator(), places, pairs, pair.name.as_str())? {
+        None => {}
+        Some(_) => *places = None,
     }
+    pairs.push_reserved(pair);
+    Ok(())
 }

@@ -8,7 +8,7 @@ use Rattle.smithy_types.specs.Texts.{same_text}
 use Rattle.smithy_http.specs.Facts.{Facts, facts, values_at, query_pieces, named_piece}
 use Rattle.smithy_http.specs.Requests.{Request}
 use Rattle.smithy_strings.proofs.UnescapeLaws.{same_self}
-use Rattle.smithy_recovery.specs.SameFacts.{same_texts, has_same_values, has_same_facts}
+use Rattle.smithy_recovery.specs.SameFacts.{same_texts, has_same_values, query_pairs, has_same_facts}
 
 all_from_test : {X : Type 0} (test : X → Bool) (xs : List X) → list_all test xs ≡ true → AllByRecursion (λ x. test x ≡ true) xs
 all_from_test test [] e = tt
@@ -58,6 +58,18 @@ pub test_from_values : (ps qs : List (List ℕ × List ℕ)) → ((name : List �
 unfolding has_same_values
 test_from_values ps qs same =
     every (λ p. same_texts (values_at p.0 ps) (values_at p.0 qs)) (ps ++ qs) (λ p. ap (λ us. same_texts (values_at p.0 ps) us) (sym (same p.0)) ∙ same_texts_self (values_at p.0 ps))
+
+-- Targets that are the same have one path and one query.
+
+pub path_of_same : (target other : List ℕ) → same_text target other ≡ true → true ≡ same_text (before_query target) (before_query other)
+path_of_same target other e =
+    let same : target ≡ other = same_from_test target other (sym e) in
+    sym (ap (λ t. same_text (before_query target) (before_query t)) (sym same) ∙ same_self (before_query target))
+
+pub query_of_same : (target other : List ℕ) → same_text target other ≡ true → true ≡ has_same_values (query_pairs target) (query_pairs other)
+query_of_same target other e =
+    let same : target ≡ other = same_from_test target other (sym e) in
+    sym (test_from_values (query_pairs target) (query_pairs other) (λ name. ap (λ t. values_at name (query_pairs t)) same))
 
 -- Facts.
 

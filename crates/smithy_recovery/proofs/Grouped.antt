@@ -1,5 +1,5 @@
 -- Texts that are kept by their names.
-use Rattle.std.proofs.Common.{◌≡◌, refl, sym, ◌∙◌, ap, cond, ℕ, zero, suc, drop, Bool, true, false, List, [], ◌∷◌, ◌++◌, map, find, Option, Some, None, option_map, is_some, not, Vec, Global, String}
+use Rattle.std.proofs.Common.{◌≡◌, refl, sym, ◌∙◌, ap, cond, ℕ, zero, suc, drop, Bool, true, false, List, [], ◌∷◌, ◌++◌, map, find, Option, Some, None, option_map, is_some, not, unwrap_or, Vec, Global, String}
 use Rattle.std.specs.Borrow.{Bor}
 use Rattle.std.specs.BTreeMap.{BTreeMap, get_by, get_by_text}
 use Rattle.std.specs.Cmp.Lexicographic.{slice_cmp, same_text as same_from_test}
@@ -22,16 +22,23 @@ group m name = get_by_text m name
 abbrev pub texts_in : Option (Vec (Bor (List ℕ)) Global) → List (List ℕ)
 texts_in o = option_map_or (λ v. map (λ p. p.now) v.items) o []
 
--- a group with one more text is put in place of the one that was taken out
-pub group_put : (old mid new : Groups) (name : List ℕ) (piece : Bor (List ℕ)) (before after : Vec (Bor (List ℕ)) Global)
-    → map (λ (p : Bor (List ℕ)). p.now) before.items ≡ texts_in (group old name) → after.items ≡ before.items ++ piece ∷ []
-    → ((q : List ℕ) → group mid q ≡ cond (bytes_eq name q) None (group old q)) → ((q : List ℕ) → group new q ≡ cond (bytes_eq name q) (Some after) (group mid q))
+-- the texts of the group of a name, or of an empty one
+held_or_new : (o : Option (Vec (Bor (List ℕ)) Global)) (fresh : Vec (Bor (List ℕ)) Global) → fresh.items ≡ [] → map (λ (p : Bor (List ℕ)). p.now) (unwrap_or o fresh).items ≡ texts_in o
+held_or_new None fresh empty = ap (map (λ (p : Bor (List ℕ)). p.now)) empty
+held_or_new (Some v) fresh empty = refl
+
+-- a text is added to the group of a name, or to a new one
+pub group_put : (old new : Groups) (name : List ℕ) (piece : Bor (List ℕ)) (fresh before after : Vec (Bor (List ℕ)) Global)
+    → fresh.items ≡ [] → before ≡ unwrap_or (group old name) fresh → after.items ≡ before.items ++ piece ∷ []
+    → ((q : List ℕ) → group new q ≡ cond (bytes_eq name q) (Some after) (group old q))
     → (q : List ℕ) → pieces_under new q ≡ pieces_under old q ++ values_at q ((name, piece.now) ∷ [])
 unfolding pieces_under
-group_put old mid new name piece before after held more taken put q =
-    ap texts_in (put q ∙ ap (cond (bytes_eq name q) (Some after)) (taken q)) ∙ go (bytes_eq name q) refl
+group_put old new name piece fresh before after empty is more put q = ap texts_in (put q) ∙ go (bytes_eq name q) refl
   where
-    go : (t : Bool) → bytes_eq name q ≡ t → texts_in (cond t (Some after) (cond t None (group old q))) ≡ texts_in (group old q) ++ map (λ (p : List ℕ × List ℕ). p.1) (cond t ((name, piece.now) ∷ []) [])
+    held : map (λ (p : Bor (List ℕ)). p.now) before.items ≡ texts_in (group old name)
+    held = ap (λ (v : Vec (Bor (List ℕ)) Global). map (λ (p : Bor (List ℕ)). p.now) v.items) is ∙ held_or_new (group old name) fresh empty
+
+    go : (t : Bool) → bytes_eq name q ≡ t → texts_in (cond t (Some after) (group old q)) ≡ texts_in (group old q) ++ map (λ (p : List ℕ × List ℕ). p.1) (cond t ((name, piece.now) ∷ []) [])
     go true e =
         let same : name ≡ q = same_from_test name q (sym e) in
         ap (map (λ (p : Bor (List ℕ)). p.now)) more ∙ map-append (λ (p : Bor (List ℕ)). p.now) before.items (piece ∷ []) ∙ ap (λ ts. ts ++ piece.now ∷ []) (held ∙ ap (λ n. texts_in (group old n)) same)

@@ -43,3 +43,4 @@ pub mod FieldNames
 pub mod InRange
 pub mod Nested
 pub mod Shaping
+pub mod Knowing

@@ -1,5 +1,5 @@
 -- Pairs in order of their names are known by the values of each name.
-use Rattle.std.proofs.Common.{◌≡◌, refl, sym, ◌∙◌, ap, ap₂, cond, ℕ, zero, suc, ◌<◌, ◌≤◌, Bool, true, false, not, ◌&&◌, arith, List, [], ◌∷◌, length, get_or, drop, map, filter}
+use Rattle.std.proofs.Common.{◌≡◌, refl, sym, ◌∙◌, ap, ap₂, cond, ℕ, zero, suc, ◌+◌, ◌<◌, ◌≤◌, Bool, true, false, not, ◌&&◌, ◌||◌, arith, List, [], ◌∷◌, length, get_or, drop, map, filter}
 use Rattle.std.specs.Borrow.{Bor}
 use Rattle.std.specs.Cmp.Lexicographic.{slice_cmp, same_text as same_from_test}
 use Rattle.std.specs.List.Sorted.{IsSortedByKey, IsStableByKey}
@@ -13,10 +13,10 @@ use Rattle.std.proofs.lemmas.Cmp.{nat_list_cmp_total}
 use Rattle.std.proofs.lemmas.List.MinMax.{ranks_by}
 use Rattle.std.proofs.lemmas.List.Sorted.{sorted_far}
 use Rattle.std.proofs.lemmas.Map.Text.{is_eq-slice_cmp}
-use Rattle.smithy_types.specs.Texts.{same_text}
+use Rattle.smithy_types.specs.Texts.{same_text, is_one_of, are_distinct}
 use Rattle.smithy_http.specs.Facts.{values_at}
 use Rattle.smithy_strings.proofs.UnescapeLaws.{same_self}
-use Rattle.smithy_recovery.specs.views.NameOrder.{named_seen, IsLow, Rises, IsInOrder, same_pairs}
+use Rattle.smithy_recovery.specs.views.NameOrder.{named_seen, IsLow, Rises, IsInOrder, same_pairs, first_below, rise}
 use Rattle.smithy_recovery.specs.declared.same_facts.Named.{Named}
 use Rattle.smithy_recovery.specs.SameFacts.{has_same_values}
 use Rattle.smithy_recovery.proofs.FactsTested.{values_from_test, test_from_values}
@@ -39,6 +39,18 @@ equal_of Greater a b is e f = absurd (cc f)
 same_of : (a b : List ℕ) → is_lt (order a b) ≡ false → is_lt (order b a) ≡ false → same_text a b ≡ true
 same_of a b e f = sym (is_eq-slice_cmp a b) ∙ equal_of (order a b) a b refl e (sym (ap is_lt (turned a b)) ∙ f)
 
+-- what is less than one that is less
+less_past : (a b c : List ℕ) → is_lt (order a b) ≡ true → is_lt (order b c) ≡ true → is_lt (order a c) ≡ true
+less_past a b c e f = ap is_lt (nat_list_cmp_total.trans a b c (less_is (order a b) e) (less_is (order b c) f))
+  where
+    less_is : (o : Ordering) → is_lt o ≡ true → o ≡ Less
+    less_is Less e = refl
+    less_is Equal e = absurd (cc e)
+    less_is Greater e = absurd (cc e)
+
+or_false : (a b : Bool) → a ≡ false → b ≡ false → (a || b) ≡ false
+or_false a b e f = rw (e, f) refl
+
 -- one that is less is another
 less_apart : (a b : List ℕ) → is_lt (order a b) ≡ true → same_text b a ≡ false
 less_apart a b less = go (order a b) refl less
@@ -47,6 +59,16 @@ less_apart a b less = go (order a b) refl less
     go Less is e = sym (is_eq-slice_cmp b a) ∙ ap is_eq (turned a b ∙ ap ordering_reverse is)
     go Equal is e = absurd (cc e)
     go Greater is e = absurd (cc e)
+
+not_same : (a b : List ℕ) → is_lt (order a b) ≡ true → same_text a b ≡ false
+not_same a b less = go (same_text a b) refl
+  where
+    go : (t : Bool) → same_text a b ≡ t → same_text a b ≡ false
+    go false e = e
+    go true e =
+        let same : a ≡ b = same_from_test a b (sym e) in
+        let bad : true ≡ false = sym (same_self b) ∙ ap (same_text b) (sym same) ∙ less_apart a b less in
+        absurd (cc bad)
 
 -- a name below all of these stands nowhere
 absent : (k m : List ℕ) (ps : Pairs) → is_lt (order k m) ≡ true → IsLow m ps → values_at k ps ≡ []
@@ -143,6 +165,10 @@ ordered_same ps qs us vs a b = go (same_pairs us vs) refl (has_same_values ps qs
         let test : same_pairs us vs ≡ true = ap (same_pairs us) (sym pairs) ∙ same_pairs_self us in
         let bad : false ≡ true = sym e ∙ test in absurd (cc bad)
 
+-- pairs that are the same in turn
+pub same_in_turn : (ps qs : Pairs) → true ≡ same_pairs ps qs → true ≡ has_same_values ps qs
+same_in_turn ps qs e = sym (test_from_values ps qs (λ k. ap (values_at k) (pairs_from_test ps qs (sym e))))
+
 -- Two lists of pairs, item by item.
 
 no_named : Named
@@ -214,3 +240,48 @@ is_in_order xs ys up stable =
           let x : Named = record { name = record { ref_ptr = (0, 0); now = name }; value = record { ref_ptr = (0, 0); now = [] } } in
           sym (values_of_ties x ys) ∙ ap (map (λ (n : Named). n.value.now)) (stable x) ∙ values_of_ties x xs;
     }
+
+-- ---- names that rise
+
+-- a name that is lower than the first is none of those behind it
+rise_past : (name first : List ℕ) (names : List (List ℕ)) → is_lt (order name first) ≡ true → rise (first ∷ names) ≡ true → is_one_of name names ≡ false
+rise_past name first [] less up = refl
+rise_past name first (next ∷ names) less up =
+    let parts = and_parts (is_lt (order first next)) (rise (next ∷ names)) up in
+    let lower = less_past name first next less parts.0 in
+    or_false (same_text name next) (is_one_of name names) (not_same name next lower) (rise_past name next names lower parts.1)
+
+distinct_up : (name : List ℕ) (names : List (List ℕ)) → rise (name ∷ names) ≡ true → are_distinct (name ∷ names) ≡ true
+distinct_up name [] up = refl
+distinct_up name (next ∷ names) up =
+    let parts = and_parts (is_lt (order name next)) (rise (next ∷ names)) up in
+    and_from (not (is_one_of name (next ∷ names))) (are_distinct (next ∷ names))
+    (ap not (or_false (same_text name next) (is_one_of name names) (not_same name next parts.0) (rise_past name next names parts.0 parts.1)))
+    (distinct_up next names parts.1)
+
+pub distinct_rise : (names : List (List ℕ)) → rise names ≡ true → are_distinct names ≡ true
+distinct_rise [] up = refl
+distinct_rise (name ∷ names) up = distinct_up name names up
+
+-- name by name
+
+abbrev pub shown : List (Bor (List ℕ)) → List (List ℕ)
+shown names = map (λ n. n.now) names
+
+no_name : Bor (List ℕ)
+no_name = record { ref_ptr = (0, 0); now = [] }
+
+module _ (names : List (Bor (List ℕ))) (i : ℕ) where
+  rise_at : (b : Bool) → i < length names → first_below (shown (drop i names)) ≡ b → rise (shown (drop i names)) ≡ (b && rise (shown (drop (i + 1) names)))
+  rise_at b within e =
+      let at = drop_more names i no_name within in
+      ap (λ ns. rise (shown ns)) at ∙ ap (λ t. t && rise (shown (drop (i + 1) names))) (sym (ap (λ ns. first_below (shown ns)) at) ∙ e)
+
+  pub rise_more : i < length names → first_below (shown (drop i names)) ≡ true → rise (shown (drop (i + 1) names)) ≡ rise (shown (drop i names))
+  rise_more within e = sym (rise_at true within e)
+
+  pub rise_stop : i < length names → first_below (shown (drop i names)) ≡ false → false ≡ rise (shown (drop i names))
+  rise_stop within e = sym (rise_at false within e)
+
+  pub rise_end : length names ≤ i → true ≡ rise (shown (drop i names))
+  rise_end past = sym (ap (λ ns. rise (shown ns)) (drop_of_length-le names past))

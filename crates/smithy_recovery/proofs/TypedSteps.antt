@@ -1,8 +1,11 @@
 -- The tests of writes, a write at a time.
-use Rattle.std.proofs.Common.{◌≡◌, refl, sym, ◌∙◌, ap, ℕ, ◌+◌, ◌*◌, ◌/◌, ◌<◌, ◌≤◌, Bool, true, false, not, ◌&&◌, List, [], ◌∷◌, ◌++◌, length, Option, Some, None, option_map, IfSome, Result, Ok, Err}
-use Rattle.std.specs.List.{list_all}
+use Rattle.std.proofs.Common.{◌≡◌, refl, sym, ◌∙◌, ap, ℕ, ◌+◌, ◌*◌, ◌/◌, ◌<◌, ◌≤◌, Bool, true, false, not, ◌&&◌, ◌||◌, ◌==◌, eq-eqb, List, [], ◌∷◌, ◌++◌, length, Option, Some, None, option_map, IfSome, Result, Ok, Err}
+use Rattle.std.specs.Cmp.Lexicographic.{same_text as same_from_test}
+use Rattle.std.specs.List.{list_all, list_any}
 use Rattle.std.specs.Str.{str_to_ascii_lowercase}
-use Rattle.smithy_types.specs.Texts.{is_one_of}
+use Rattle.std.specs.Char.{to_ascii_lowercase}
+use Rattle.std.proofs.lemmas.List.{length-map, length-append}
+use Rattle.smithy_types.specs.Texts.{is_one_of, same_text}
 use Rattle.smithy_ids.specs.declared.traits.TimestampFormat.{TimestampFormat}
 use Rattle.smithy_schema.specs.Nodes.{Node, Schema, Table, node_at, cited}
 use Rattle.smithy_schema.specs.References.{schema_of}
@@ -15,8 +18,8 @@ use Rattle.smithy_binding.proofs.MapEntries.{headers_from, headers-at, headers-e
 use Rattle.smithy_binding.specs.Checked.{same_format}
 use Rattle.smithy_binding.specs.Typed.{default_names}
 use Rattle.smithy_binding.specs.views.Entries.{text_at}
-use Rattle.smithy_recovery.specs.views.Testing.{Tests}
-use Rattle.smithy_recovery.specs.TypedWrites.{have_format, is_typed_text, has_no_default, is_typed_entries, is_typed_write, has_typed_writes}
+use Rattle.smithy_recovery.specs.views.Testing.{Tests, may_be_default}
+use Rattle.smithy_recovery.specs.TypedWrites.{have_format, is_typed_text, has_no_default, is_typed_entries, is_default_behind, is_typed_write, has_typed_writes}
 
 -- a member stands in the table of its schema
 pub cited_table : (s : Schema) (place : Option ℕ) (o : Option SchemaRef) → option_map schema_of o ≡ cited s place → IfSome o (λ m. (schema_of m).table ≡ s.table)
@@ -67,3 +70,30 @@ names-end prefix ws i all high = ap (list_all (λ (p : List ℕ × List ℕ). no
 pub entries-tested : {E : Type 0} (prefix : List ℕ) (m : SchemaRef) (t : Table) (v : ShapeValue) (r : Result Bool E) → is_typed_text (schema_of m) (value_in t v) ≡ true → Tests (has_no_default prefix) m t v r → Tests (is_typed_entries prefix) m t v r
 entries-tested prefix m t v (Ok b) text names = names ∙ ap (λ x. x && has_no_default prefix (schema_of m) (value_in t v)) (sym text)
 entries-tested prefix m t v (Err e) text names = tt
+
+-- ---- a name of another length is no default's
+
+neither : (a b : Bool) → (a || b) ≡ false → (a ≡ false) × (b ≡ false)
+neither false b e = (refl, e)
+neither true b e = absurd (cc e)
+
+other_length : (text name : List ℕ) → (length text == length name) ≡ false → same_text text name ≡ false
+other_length text name e = go (same_text text name) refl
+  where
+    go : (t : Bool) → same_text text name ≡ t → same_text text name ≡ false
+    go false f = f
+    go true f =
+        let same : text ≡ name = same_from_test text name (sym f) in
+        let bad : true ≡ false = sym (eq-eqb (length text) (length name) (ap length same)) ∙ e in
+        absurd (cc bad)
+
+none_so_long : (text : List ℕ) (names : List (List ℕ)) → list_any (λ name. length text == length name) names ≡ false → is_one_of text names ≡ false
+none_so_long text [] e = refl
+none_so_long text (name ∷ names) e =
+    let parts = neither (length text == length name) (list_any (λ other. length text == length other) names) e in
+    ap (λ b. b || is_one_of text names) (other_length text name parts.0) ∙ none_so_long text names parts.1
+
+pub no_default_so_long : (prefix key : List ℕ) → may_be_default (length prefix + length key) ≡ false → false ≡ is_default_behind prefix key
+no_default_so_long prefix key e =
+    let lower : length (str_to_ascii_lowercase (prefix ++ key)) ≡ length prefix + length key = length-map (prefix ++ key) to_ascii_lowercase ∙ length-append prefix key in
+    sym (none_so_long (str_to_ascii_lowercase (prefix ++ key)) default_names (ap may_be_default lower ∙ e))

@@ -6,6 +6,7 @@ pub mod KeptEntries
 pub mod KeptLabels
 pub mod KeptMembers
 pub mod KeptQueries
+pub mod KnownShapes
 pub mod NameOrder
 pub mod ShapedParts
 pub mod Testing

@@ -22,6 +22,20 @@ use smithy_strings::{Place, format_in};
 use smithy_types::{Format, Longs, Words};
 use std::alloc::Global;
 
+// So many headers are searched through by a name in any case: that costs less than a copy of the name in lower case.
+const FEW_HEADERS: usize = 16;
+
+/// Whether the headers are so few that a name is found as it stands.
+pub fn are_few(headers: &Headers) -> bool {
+    let mut pairs = headers.iter_bytes();
+    for _ in 0..FEW_HEADERS {
+        if pairs.next().is_none() {
+            return true;
+        }
+    }
+    pairs.next().is_none()
+}
+
 // The texts that the values of a header spell.
 fn texts_in(alloc: Global, headers: &Headers, name: &str) -> Result<Words, RecoverError>
     ensures { Finds (λ w. w) result (result_ok (tokens_of (values_of_name name.now headers.now))) }
@@ -167,9 +181,8 @@ fn named_value(
     }
 }
 
-/// The value of a header member: none where no header of its name stands. `NotPlaced` where there are several, or where
-/// the text is none of a value. Takes memory.
-pub fn header_part(
+// The same by the name in lower case, for which no search is needed where there are many headers.
+fn lowered_value(
     alloc: Global,
     headers: &Headers,
     name: &str,
@@ -179,4 +192,22 @@ pub fn header_part(
 {
     let lower = name.to_ascii_lowercase(alloc)?;
     named_value(alloc, headers, lower.as_str(), member)
+}
+
+/// The value of a header member: none where no header of its name stands. `NotPlaced` where there are several, or where
+/// the text is none of a value. Where the headers are few, the name is looked up as it stands. Takes memory.
+pub fn header_part(
+    alloc: Global,
+    headers: &Headers,
+    few: bool,
+    name: &str,
+    member: SchemaRef<'_>,
+) -> Result<Option<ShapeValue>, RecoverError>
+    ensures { KeepsPartOf (schema_of member.entry) (named_header name.now headers.now) result }
+{
+    if few {
+        named_value(alloc, headers, name, member)
+    } else {
+        lowered_value(alloc, headers, name, member)
+    }
 }

@@ -7,6 +7,7 @@ mod document_ranges;
 mod entry_values;
 mod error;
 mod header_values;
+mod known_shapes;
 mod label_values;
 pub mod laws;
 mod map_writes;

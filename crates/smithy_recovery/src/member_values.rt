@@ -12,7 +12,7 @@ ghost use Rattle.smithy_recovery.specs.views.KeptMembers.{query_read, KeepsMembe
 
 use crate::body_writes::{body_writes, payload_part};
 use crate::error::RecoverError;
-use crate::header_values::header_part;
+use crate::header_values::{are_few, header_part};
 use crate::label_values::label_part;
 use crate::path_texts::{LabelText, NamedTexts, by_name, path_texts};
 use crate::prefix_entries::prefix_part;
@@ -31,6 +31,8 @@ use std::alloc::Global;
 struct CutRequest<'c, 's> {
     request: &'s Request,
     table: &'s Schemas,
+    // Whether the request has so few headers that a name is looked up as it stands.
+    few_headers: bool,
     // The texts of the labels.
     labels: &'c NamedTexts<'s>,
     // The pieces of the template's own query, and those of the request's.
@@ -68,7 +70,7 @@ fn bound_part<'s, C: Codec>(
     let request = cut.request;
     let headers = request.headers();
     match member.request_binding() {
-        Binding::Header(name) => header_part(alloc, headers, name, member),
+        Binding::Header(name) => header_part(alloc, headers, cut.few_headers, name, member),
         Binding::Prefix(prefix) => prefix_part(alloc, headers, member, prefix),
         Binding::Query(name) => query_member(alloc, cut, name, member),
         Binding::QueryMap => {
@@ -171,6 +173,7 @@ fn labelled_writes<'s, C: Codec>(
     let parts = CutRequest {
         request,
         table,
+        few_headers: are_few(request.headers()),
         labels: &labels,
         own: &own,
         pieces: &pieces,

@@ -23,12 +23,8 @@ fn add<'q>(alloc: Global, pieces: &mut NamedPieces<'q>, piece: &'q str) -> Resul
     ensures { OnOk result (AddsPiece piece.now pieces.old pieces.new) }
 {
     let name = String::from_str(alloc, name_of(piece))?;
-    let mut named = match pieces.remove(name.as_str()) {
-        Some(named) => named,
-        None => Vec::new(alloc),
-    };
+    let named = pieces.entry(name)?.or_insert(Vec::new(alloc));
     named.push(piece)?;
-    pieces.insert(name, named)?;
     Ok(())
 }
 

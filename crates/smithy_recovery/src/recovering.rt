@@ -34,10 +34,10 @@ use std::alloc::Global;
 /// `OutOfMemory` where memory was wanted and not there; then nothing is known of the request.
 ///
 /// Takes memory: for the input, for what the codec's reader keeps, and for the request of the input, which is placed once
-/// and compared. Its time is that of reading the request, of placing one and of sorting both by names: linear in the
-/// request up to the logarithm of the number of headers, of pieces of the query, and of members, and for each structure
-/// in the body also in the members of its shape. Conditions: the schema stands in the table, `checked_input` holds of it,
-/// and the codec is lawful.
+/// and compared. Its time is that of reading the request, of placing one and, where their headers or queries stand in
+/// another order, of sorting these by names: linear in the request and in the shapes of the structures in its body, up to
+/// the logarithm of the number of headers, of pieces of the query, and of members. Conditions: the schema stands in the
+/// table, `checked_input` holds of it, and the codec is lawful.
 pub fn recover_request<'t, C: Codec>(
     alloc: Global,
     protocol: &HttpBindingProtocol<C>,

@@ -48,9 +48,18 @@ fn has_same_method(request: &Request, other: &Request) -> bool
     request.method() == other.method()
 }
 
+fn is_same_target(target: &str, other: &str) -> bool
+    ensures { result ≡ same_text target.now other.now }
+{
+    target == other
+}
+
 fn has_same_path(target: &str, other: &str) -> bool
     ensures { result ≡ same_text (before_query target.now) (before_query other.now) }
 {
+    if is_same_target(target, other) {
+        return true;
+    }
     before_query(target) == before_query(other)
 }
 
@@ -60,9 +69,40 @@ fn has_same_body(request: &Request, other: &Request) -> bool
     request.body().as_slice() == other.body().as_slice()
 }
 
+// Whether headers have the same names and values, in turn.
+fn are_same_headers(headers: HeaderPairs<'_>, mut others: HeaderPairs<'_>) -> bool
+    ensures { result ≡ same_pairs headers.entry others.entry }
+{
+    for (name, value) in headers {
+        let Some((other_name, other_value)) = others.next() else {
+            return false;
+        };
+        if name != other_name {
+            return false;
+        }
+        if value != other_value {
+            return false;
+        }
+    }
+    match others.next() {
+        Some(_) => false,
+        None => true,
+    }
+}
+
+fn has_headers_in_turn(request: &Request, other: &Request) -> bool
+    ensures { result ≡ same_pairs request.now.headers other.now.headers }
+{
+    are_same_headers(request.headers().iter_bytes(), other.headers().iter_bytes())
+}
+
+// Headers that are the same in turn, as those of a request that was placed mostly are, aren't put in order.
 fn has_same_headers(alloc: Global, request: &Request, other: &Request) -> Result<bool, OutOfMemory>
     ensures { IfOk result (λ b. b ≡ has_same_values request.now.headers other.now.headers) }
 {
+    if has_headers_in_turn(request, other) {
+        return Ok(true);
+    }
     let pairs = header_pairs(alloc, request.headers().iter_bytes())?;
     let others = header_pairs(alloc, other.headers().iter_bytes())?;
     has_same_values(pairs, others)
@@ -71,6 +111,9 @@ fn has_same_headers(alloc: Global, request: &Request, other: &Request) -> Result
 fn has_same_queries(alloc: Global, target: &str, other: &str) -> Result<bool, OutOfMemory>
     ensures { IfOk result (λ b. b ≡ has_same_values (query_pairs target.now) (query_pairs other.now)) }
 {
+    if is_same_target(target, other) {
+        return Ok(true);
+    }
     let pieces = query_pairs(alloc, target)?;
     let others = query_pairs(alloc, other)?;
     has_same_values(pieces, others)

@@ -9,10 +9,12 @@ ghost use Rattle.smithy_serde.specs.Ranges.{is_in_range, are_writes_in_range};
 ghost use Rattle.smithy_serde.specs.Shaped.{is_kind, has_distinct_fields, is_shaped, are_shaped, are_fields_shaped, are_entries_shaped};
 ghost use Rattle.smithy_serde.specs.StoredValues.{label_at, value_in, writes_in, is_scalar, IsDefined, AreDefined};
 ghost use Rattle.smithy_serde.specs.Values.{text_of_key, keys_of};
+ghost use Rattle.smithy_recovery.specs.views.KnownShapes.{AreKnown};
 ghost use Rattle.smithy_recovery.specs.views.ShapedParts.{takes_structure};
 ghost use Rattle.smithy_recovery.specs.views.Testing.{member_at, HasFieldNames, HasKeys, TestsMap, TestsPart, TestsSound, TestsWrites};
 
 use crate::distinct::are_distinct;
+use crate::known_shapes::{KnownShapes, is_known, keep};
 use crate::ranges::is_in_range;
 use smithy_ids::ShapeType;
 use smithy_schema::{SchemaIndex, SchemaRef, Schemas};
@@ -72,16 +74,28 @@ fn field_names<'t>(
     Ok(names)
 }
 
+// Whether the members of a structure's shape have each name once.
 fn has_distinct_fields(
     alloc: Global,
     table: &Schemas,
+    known: &mut KnownShapes,
     node: SchemaRef<'_>,
 ) -> Result<bool, OutOfMemory>
-    requires { (schema_of node).table ≡ table.now }
-    ensures { IfOk result (λ b. b ≡ has_distinct_fields (Some (schema_of node.entry))) }
+    requires table { (schema_of node).table ≡ table.now }
+    requires known { AreKnown table.now known.old }
+    ensures test { IfOk result (λ b. b ≡ has_distinct_fields (Some (schema_of node.entry))) }
+    ensures known { AreKnown table.now known.new }
 {
+    let shape = shape_of(node);
+    if is_known(known, shape) {
+        return Ok(true);
+    }
     let names = field_names(alloc, table, node)?;
-    are_distinct(alloc, names.as_slice())
+    if !are_distinct(alloc, names.as_slice())? {
+        return Ok(false);
+    }
+    keep(known, shape)?;
+    Ok(true)
 }
 
 /// The text, and the empty one of what is no text.
@@ -165,16 +179,19 @@ fn takes_map(
 fn takes_structure(
     alloc: Global,
     table: &Schemas,
+    known: &mut KnownShapes,
     node: SchemaRef<'_>,
     value: &ShapeValue,
 ) -> Result<bool, OutOfMemory>
-    requires { (schema_of node).table ≡ table.now }
-    ensures { IfOk result (λ b. b ≡ takes_structure (schema_of node.entry) (value_in table.now value.now)) }
+    requires table { (schema_of node).table ≡ table.now }
+    requires known { AreKnown table.now known.old }
+    ensures test { IfOk result (λ b. b ≡ takes_structure (schema_of node.entry) (value_in table.now value.now)) }
+    ensures known { AreKnown table.now known.new }
 {
     if !fits(node, value) {
         return Ok(false);
     }
-    has_distinct_fields(alloc, table, node)
+    has_distinct_fields(alloc, table, known, node)
 }
 
 /// Whether a value follows a node at every depth: a null follows any; a scalar or a document is of the node's kind; and
@@ -183,17 +200,20 @@ fn takes_structure(
 pub fn is_shaped(
     alloc: Global,
     table: &Schemas,
+    known: &mut KnownShapes,
     node: SchemaRef<'_>,
     value: &ShapeValue,
 ) -> Result<bool, OutOfMemory>
     requires table { (schema_of node).table ≡ table.now }
     requires defined { IsDefined table.now value.now }
-    ensures { IfOk result (λ b. b ≡ is_shaped (Some (schema_of node.entry)) (value_in table.now value.now)) }
+    requires known { AreKnown table.now known.old }
+    ensures test { IfOk result (λ b. b ≡ is_shaped (Some (schema_of node.entry)) (value_in table.now value.now)) }
+    ensures known { AreKnown table.now known.new }
 {
     if !is_in_range(value) {
         return Ok(false);
     }
-    is_followed(alloc, table, node, value)
+    is_followed(alloc, table, known, node, value)
 }
 
 // The same of a value in range.
@@ -201,13 +221,16 @@ pub fn is_shaped(
 fn is_followed(
     alloc: Global,
     table: &Schemas,
+    known: &mut KnownShapes,
     node: SchemaRef<'_>,
     value: &ShapeValue,
 ) -> Result<bool, OutOfMemory>
     requires table { (schema_of node).table ≡ table.now }
     requires defined { IsDefined table.now value.now }
     requires in_range { IsTrue (is_in_range (value_in table.now value.now)) }
-    ensures { IfOk result (λ b. b ≡ is_shaped (Some (schema_of node.entry)) (value_in table.now value.now)) }
+    requires known { AreKnown table.now known.old }
+    ensures test { IfOk result (λ b. b ≡ is_shaped (Some (schema_of node.entry)) (value_in table.now value.now)) }
+    ensures known { AreKnown table.now known.new }
 {
     match value {
         ShapeValue::List(elements) => {
@@ -215,7 +238,7 @@ fn is_followed(
                 return Ok(false);
             }
             match node.element() {
-                Some(element) => are_elements_followed(alloc, table, element, elements),
+                Some(element) => are_elements_followed(alloc, table, known, element, elements),
                 None => Ok(false),
             }
         }
@@ -224,15 +247,15 @@ fn is_followed(
                 return Ok(false);
             }
             match node.value() {
-                Some(entry) => are_entries_followed(alloc, table, entry, entries),
+                Some(entry) => are_entries_followed(alloc, table, known, entry, entries),
                 None => Ok(false),
             }
         }
         ShapeValue::Struct(fields) => {
-            if !takes_structure(alloc, table, node, value)? {
+            if !takes_structure(alloc, table, known, node, value)? {
                 return Ok(false);
             }
-            are_fields_followed(alloc, table, node, fields)
+            are_fields_followed(alloc, table, known, node, fields)
         }
         _ => Ok(is_shaped_scalar(node, value)),
     }
@@ -242,16 +265,19 @@ fn is_followed(
 fn are_elements_followed(
     alloc: Global,
     table: &Schemas,
+    known: &mut KnownShapes,
     element: SchemaRef<'_>,
     elements: &WriteList,
 ) -> Result<bool, OutOfMemory>
     requires table { (schema_of element).table ≡ table.now }
     requires defined { AreDefined table.now elements.now }
     requires in_range { IsTrue (are_writes_in_range (writes_in table.now elements.now)) }
-    ensures { TestsWrites are_shaped element.entry table.now elements.now result }
+    requires known { AreKnown table.now known.old }
+    ensures test { TestsWrites are_shaped element.entry table.now elements.now result }
+    ensures known { AreKnown table.now known.new }
 {
     'parts: for (_, part) in elements.iter() {
-        if !is_followed(alloc, table, element, part)? {
+        if !is_followed(alloc, table, known, element, part)? {
             return Ok(false);
         }
     }
@@ -263,6 +289,7 @@ fn are_elements_followed(
 fn is_part_followed(
     alloc: Global,
     table: &Schemas,
+    known: &mut KnownShapes,
     entry: SchemaRef<'_>,
     is_key: bool,
     part: &ShapeValue,
@@ -270,29 +297,34 @@ fn is_part_followed(
     requires table { (schema_of entry).table ≡ table.now }
     requires defined { IsDefined table.now part.now }
     requires in_range { IsTrue (is_in_range (value_in table.now part.now)) }
-    ensures { TestsPart is_key entry.entry table.now part.now result }
+    requires known { AreKnown table.now known.old }
+    ensures test { TestsPart is_key entry.entry table.now part.now result }
+    ensures known { AreKnown table.now known.new }
 {
     if is_key {
         return Ok(part.fits(ShapeType::String));
     }
-    is_followed(alloc, table, entry, part)
+    is_followed(alloc, table, known, entry, part)
 }
 
 #[cycle(shaped)]
 fn are_entries_followed(
     alloc: Global,
     table: &Schemas,
+    known: &mut KnownShapes,
     entry: SchemaRef<'_>,
     entries: &WriteList,
 ) -> Result<bool, OutOfMemory>
     requires table { (schema_of entry).table ≡ table.now }
     requires defined { AreDefined table.now entries.now }
     requires in_range { IsTrue (are_writes_in_range (writes_in table.now entries.now)) }
-    ensures { TestsWrites are_entries_shaped entry.entry table.now entries.now result }
+    requires known { AreKnown table.now known.old }
+    ensures test { TestsWrites are_entries_shaped entry.entry table.now entries.now result }
+    ensures known { AreKnown table.now known.new }
 {
     let mut is_key = true;
     'parts: for (_, part) in entries.iter() {
-        if !is_part_followed(alloc, table, entry, is_key, part)? {
+        if !is_part_followed(alloc, table, known, entry, is_key, part)? {
             return Ok(false);
         }
         is_key = !is_key;
@@ -304,19 +336,22 @@ fn are_entries_followed(
 fn are_fields_followed(
     alloc: Global,
     table: &Schemas,
+    known: &mut KnownShapes,
     node: SchemaRef<'_>,
     fields: &WriteList,
 ) -> Result<bool, OutOfMemory>
     requires table { (schema_of node).table ≡ table.now }
     requires defined { AreDefined table.now fields.now }
     requires in_range { IsTrue (are_writes_in_range (writes_in table.now fields.now)) }
-    ensures { TestsWrites are_fields_shaped node.entry table.now fields.now result }
+    requires known { AreKnown table.now known.old }
+    ensures test { TestsWrites are_fields_shaped node.entry table.now fields.now result }
+    ensures known { AreKnown table.now known.new }
 {
     'parts: for (place, part) in fields.iter() {
         let Some(member) = member_of(table, node, place) else {
             return Ok(false);
         };
-        if !is_followed(alloc, table, member, part)? {
+        if !is_followed(alloc, table, known, member, part)? {
             return Ok(false);
         }
     }

@@ -8,9 +8,11 @@ ghost use Rattle.smithy_binding.specs.Bodies.{is_codec_kind};
 ghost use Rattle.smithy_binding.specs.Checked.{same_format};
 ghost use Rattle.smithy_binding.specs.Typed.{element_format};
 ghost use Rattle.smithy_binding.specs.views.Entries.{text_at};
-ghost use Rattle.smithy_recovery.specs.views.Testing.{Tests, member_in, TestsNames, TestsWrite, TestsInput};
+ghost use Rattle.smithy_recovery.specs.views.KnownShapes.{AreKnown};
+ghost use Rattle.smithy_recovery.specs.views.Testing.{Tests, member_in, may_be_default, TestsNames, TestsWrite, TestsInput};
 ghost use Rattle.smithy_recovery.specs.TypedWrites.{is_typed_document, is_typed_payload, have_format, has_sound_parts, is_typed_text, has_no_default, is_typed_entries, is_default_behind, is_typed_at, is_typed_value};
 
+use crate::known_shapes::{KnownShapes, no_shapes};
 use crate::prefix_entries::is_default;
 use crate::ranges::is_in_range;
 use crate::shallow::is_shallow;
@@ -43,33 +45,39 @@ fn is_codec_kind(kind: ShapeType) -> bool
 fn is_typed_document(
     alloc: Global,
     table: &Schemas,
+    known: &mut KnownShapes,
     member: SchemaRef<'_>,
     value: &ShapeValue,
     levels: usize,
 ) -> Result<bool, OutOfMemory>
     requires table { (schema_of member).table ≡ table.now }
     requires defined { IsDefined table.now value.now }
-    ensures { Tests (is_typed_document levels) member.entry table.now value.now result }
+    requires known { AreKnown table.now known.old }
+    ensures test { Tests (is_typed_document levels) member.entry table.now value.now result }
+    ensures known { AreKnown table.now known.new }
 {
     if !is_shallow(value, levels) {
         return Ok(false);
     }
-    is_shaped(alloc, table, member, value)
+    is_shaped(alloc, table, known, member, value)
 }
 
 // The same of a payload, where its document is the body.
 fn is_typed_payload(
     alloc: Global,
     table: &Schemas,
+    known: &mut KnownShapes,
     member: SchemaRef<'_>,
     value: &ShapeValue,
 ) -> Result<bool, OutOfMemory>
     requires table { (schema_of member).table ≡ table.now }
     requires defined { IsDefined table.now value.now }
-    ensures { Tests is_typed_payload member.entry table.now value.now result }
+    requires known { AreKnown table.now known.old }
+    ensures test { Tests is_typed_payload member.entry table.now value.now result }
+    ensures known { AreKnown table.now known.new }
 {
     if is_codec_kind(member.shape_type()) {
-        is_typed_document(alloc, table, member, value, MAX_NESTING)
+        is_typed_document(alloc, table, known, member, value, MAX_NESTING)
     } else {
         Ok(is_in_range(value))
     }
@@ -149,11 +157,25 @@ fn text_at<'w>(entries: &'w WriteList, place: usize) -> &'w str
     }
 }
 
+// Whether a name of so many bytes may be that of a header that is added by default.
+fn may_be_default(length: usize) -> bool
+    ensures { result ≡ may_be_default length }
+{
+    if length == "content-type".len() {
+        return true;
+    }
+    length == "content-length".len()
+}
+
 // Whether the header of an entry has the name of one that is added by default.
 fn is_default_behind(alloc: Global, prefix: &str, key: &str) -> Result<bool, OutOfMemory>
     ensures { IfOk result (λ b. b ≡ is_default_behind prefix.now key.now) }
 {
-    let mut name = String::with_capacity(alloc, prefix.len() + key.len())?;
+    let length = prefix.len() + key.len();
+    if !may_be_default(length) {
+        return Ok(false);
+    }
+    let mut name = String::with_capacity(alloc, length)?;
     name.push_str(prefix)?;
     name.push_str(key)?;
     let lower = name.as_str().to_ascii_lowercase(alloc)?;
@@ -213,18 +235,21 @@ fn is_typed_entries(
 fn is_typed_at(
     alloc: Global,
     table: &Schemas,
+    known: &mut KnownShapes,
     member: SchemaRef<'_>,
     binding: Binding<'_>,
     value: &ShapeValue,
 ) -> Result<bool, OutOfMemory>
     requires table { (schema_of member).table ≡ table.now }
     requires defined { IsDefined table.now value.now }
-    ensures { Tests (is_typed_at (binding_shown binding.entry)) member.entry table.now value.now result }
+    requires known { AreKnown table.now known.old }
+    ensures test { Tests (is_typed_at (binding_shown binding.entry)) member.entry table.now value.now result }
+    ensures known { AreKnown table.now known.new }
 {
     match binding {
         Binding::Prefix(prefix) => is_typed_entries(alloc, table, member, prefix, value),
-        Binding::Payload => is_typed_payload(alloc, table, member, value),
-        Binding::Body => is_typed_document(alloc, table, member, value, MAX_NESTING - 1),
+        Binding::Payload => is_typed_payload(alloc, table, known, member, value),
+        Binding::Body => is_typed_document(alloc, table, known, member, value, MAX_NESTING - 1),
         Binding::Header(_) | Binding::Query(_) | Binding::QueryMap | Binding::Label => {
             is_typed_text(alloc, table, member, value)
         }
@@ -234,14 +259,17 @@ fn is_typed_at(
 fn is_typed_value(
     alloc: Global,
     table: &Schemas,
+    known: &mut KnownShapes,
     member: SchemaRef<'_>,
     value: &ShapeValue,
 ) -> Result<bool, OutOfMemory>
     requires table { (schema_of member).table ≡ table.now }
     requires defined { IsDefined table.now value.now }
-    ensures { Tests is_typed_value member.entry table.now value.now result }
+    requires known { AreKnown table.now known.old }
+    ensures test { Tests is_typed_value member.entry table.now value.now result }
+    ensures known { AreKnown table.now known.new }
 {
-    is_typed_at(alloc, table, member, member.request_binding(), value)
+    is_typed_at(alloc, table, known, member, member.request_binding(), value)
 }
 
 // The member of a schema at the index that a node has.
@@ -260,16 +288,19 @@ fn member_by_index<'t>(
 fn is_typed_write(
     alloc: Global,
     table: &Schemas,
+    known: &mut KnownShapes,
     schema: SchemaRef<'_>,
     node: SchemaIndex,
     value: &ShapeValue,
 ) -> Result<bool, OutOfMemory>
     requires table { (schema_of schema).table ≡ table.now }
     requires defined { IsDefined table.now value.now }
-    ensures { TestsWrite schema.entry table.now node value.now result }
+    requires known { AreKnown table.now known.old }
+    ensures test { TestsWrite schema.entry table.now node value.now result }
+    ensures known { AreKnown table.now known.new }
 {
     match member_by_index(table, schema, node) {
-        Some(member) => is_typed_value(alloc, table, member, value),
+        Some(member) => is_typed_value(alloc, table, known, member, value),
         None => Ok(false),
     }
 }
@@ -288,8 +319,9 @@ pub fn has_typed_writes(
     requires defined { AreDefined table.now writes.now }
     ensures { TestsInput schema.entry table.now writes.now result }
 {
+    let mut known = no_shapes(alloc);
     for (node, value) in writes.iter() {
-        if !is_typed_write(alloc, table, schema, node, value)? {
+        if !is_typed_write(alloc, table, &mut known, schema, node, value)? {
             return Ok(false);
         }
     }

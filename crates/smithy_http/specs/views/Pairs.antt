@@ -1,5 +1,5 @@
 -- How headers are kept: as pairs, with the place of each name as long as each stands once.
-use Rattle.std.specs.Prelude.{◌≡◌, ℕ, Bool, not, List, [], ◌∷◌, Option, None, filter, map, position, String, string_bytes, MatchOption}
+use Rattle.std.specs.Prelude.{◌≡◌, ℕ, Bool, not, List, [], ◌∷◌, ◌++◌, Option, Some, None, Result, Ok, Err, filter, map, position, String, string_bytes, MatchOption}
 use Rattle.std.specs.Borrow.{Bor}
 use Rattle.std.specs.Global.{Global}
 use Rattle.std.specs.BTreeMap.{BTreeMap, get_by_text}
@@ -49,3 +49,9 @@ AreApart (name ∷ names) = (place_of name names ≡ None) × AreApart names
 pub record IsIndex (places : BTreeMap (String Global) ℕ) (names : List (List ℕ)) : Type 0 where
   pub at : (name : List ℕ) → get_by_text places name ≡ place_of name names
   pub apart : AreApart names
+
+-- the place of a name is told; a new name has got the one behind the pairs, and the index is of the names with it
+abbrev pub Claims : {E : Type 0} → List ℕ → List Pair → (List (List ℕ) → Type 0) → Result (Option ℕ) E → Type 0
+Claims name pairs IsIndexed (Ok None) = (position (is_named name) pairs ≡ None) × IsIndexed (map name_of pairs ++ name ∷ [])
+Claims name pairs IsIndexed (Ok (Some place)) = (position (is_named name) pairs ≡ Some place) × IsIndexed (map name_of pairs)
+Claims name pairs IsIndexed (Err e) = IsIndexed (map name_of pairs)

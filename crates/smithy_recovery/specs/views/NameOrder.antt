@@ -35,3 +35,14 @@ same_pairs [] [] = true
 same_pairs [] (q ∷ qs) = false
 same_pairs (p ∷ ps) [] = false
 same_pairs (p ∷ ps) (q ∷ qs) = same_text p.0 q.0 && (same_text p.1 q.1 && same_pairs ps qs)
+
+-- the first name is lower than the second, if there are two
+abbrev pub first_below : List (List ℕ) → Bool
+first_below [] = true
+first_below (name ∷ []) = true
+first_below (name ∷ next ∷ names) = is_lt (slice_cmp nat_cmp name next)
+
+-- each name is lower than the next
+abbrev pub rise : List (List ℕ) → Bool
+rise [] = true
+rise (name ∷ names) = first_below (name ∷ names) && rise names

@@ -1,7 +1,8 @@
 -- What the code of a test of stored values answers, and of what it asks on the way.
-use Rattle.std.specs.Prelude.{◌≡◌, ℕ, Bool, List, Option, Some, Result, Vec, IfOk, IsTrue, map, filter_map}
+use Rattle.std.specs.Prelude.{◌≡◌, ◌==◌, ℕ, Bool, List, Option, Some, Result, Vec, IfOk, IsTrue, length, map, filter_map}
 use Rattle.std.specs.Borrow.{Bor}
 use Rattle.std.specs.Global.{Global}
+use Rattle.std.specs.List.{list_any}
 use Rattle.smithy_schema.specs.Nodes.{Schema, Table, shape, members_of}
 use Rattle.smithy_schema.specs.References.{schema_of}
 use Rattle.smithy_schema.specs.declared.parts.SchemaIndex.{SchemaIndex}
@@ -13,6 +14,7 @@ use Rattle.smithy_serde.specs.Values as value
 use Rattle.smithy_serde.specs.Values.{Label, Value, Writes, list_of, keys_of}
 use Rattle.smithy_serde.specs.declared.value.ShapeValue.{ShapeValue}
 use Rattle.smithy_serde.specs.declared.value.WriteList.{WriteList}
+use Rattle.smithy_binding.specs.Typed.{default_names}
 use Rattle.smithy_recovery.specs.views.ShapedParts.{takes_map, is_part_shaped}
 use Rattle.smithy_recovery.specs.TypedWrites.{has_no_default, member_by_index, is_typed_write, has_typed_writes}
 
@@ -40,6 +42,10 @@ TestsPart is_key node t v result = IfOk result (λ b. b ≡ is_part_shaped is_ke
 abbrev pub TestsNames : {E : Type 0} → List ℕ → SchemaRef → Table → WriteList → Result Bool E → Type 0
 TestsNames prefix member t entries result =
     IfOk result (λ b. b ≡ has_no_default prefix (schema_of member) (value.map (writes_in t entries)))
+
+-- a name of so many bytes may be a default's
+abbrev pub may_be_default : (length : ℕ) → Bool
+may_be_default bytes = list_any (λ name. bytes == length name) default_names
 
 -- of a write, whether it is a typed input's
 abbrev pub TestsWrite : {E : Type 0} → SchemaRef → Table → SchemaIndex → ShapeValue → Result Bool E → Type 0

@@ -14,6 +14,7 @@ loop-node-init c =
     record {
       same = ap (λ (us : Writes). has_typed_writes (schema_of c.args.schema) (list_of us)) (ap (listed t) taken ∙ sym (c.iter-node-items.ensures.writes t));
       defined = subst (AreListedDefined t) (sym taken) (c.iter-node-items.ensures.defined t c.requires.defined);
+      known = c.no_shapes-known.ensures t;
     }
 
 pub is_typed_write-requires-clause-defined : goal.is_typed_write-requires-clause-defined
@@ -23,13 +24,14 @@ pub loop-node-preserved : goal.loop-node-preserved
 loop-node-preserved c =
     let t = c.args.table.now in
     record {
-      same = sym (writes-more t (schema_of c.args.schema) _ _ _ c.in-Some.ensures.steps (sym c.in_ok-is_typed_write.ensures ∙ c.if-not-branch.false)) ∙ c.loop-node.invariant.same;
+      same = sym (writes-more t (schema_of c.args.schema) _ _ _ c.in-Some.ensures.steps (sym c.in_ok-is_typed_write.ensures.test ∙ c.if-not-branch.false)) ∙ c.loop-node.invariant.same;
       defined = (first-defined t _ _ _ c.in-Some.ensures.steps c.loop-node.invariant.defined).2;
+      known = c.in_ok-is_typed_write.ensures.known;
     }
 
 pub returns-then-not-branch : goal.returns-then-not-branch
 returns-then-not-branch c =
-    sym (writes-stop c.args.table.now (schema_of c.args.schema) _ _ _ c.in-Some.ensures.steps (sym c.in_ok-is_typed_write.ensures ∙ c.if-not-branch.true)) ∙ c.loop-node.invariant.same
+    sym (writes-stop c.args.table.now (schema_of c.args.schema) _ _ _ c.in-Some.ensures.steps (sym c.in_ok-is_typed_write.ensures.test ∙ c.if-not-branch.true)) ∙ c.loop-node.invariant.same
 
 pub returns : goal.returns
 returns c = sym (writes-end c.args.table.now (schema_of c.args.schema) _ c.in-None.ensures.steps.0) ∙ c.loop-node.invariant.same

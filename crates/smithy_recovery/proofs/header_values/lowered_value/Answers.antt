@@ -5,7 +5,7 @@ use Rattle.smithy_http.specs.Facts.{values_at}
 use Rattle.smithy_schema.specs.References.{schema_of}
 use Rattle.smithy_recovery.specs.HeaderParts.{header_part}
 use Rattle.smithy_recovery.specs.views.Keeping.{KeepsPart}
-use Rattle.smithy_recovery.proofs.header_values.header_part.Goals as goal
+use Rattle.smithy_recovery.proofs.header_values.lowered_value.Goals as goal
 
 pub returns : goal.returns
 returns c =

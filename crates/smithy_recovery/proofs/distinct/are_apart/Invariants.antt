@@ -1,5 +1,5 @@
 use Rattle.smithy_binding.proofs.Common.{◌≡◌, ◌≤◌, ℕ, List, true, length, drop, map, is_some, are_distinct, is_one_of, get_by, slice_cmp, nat_cmp}
-use Rattle.smithy_recovery.proofs.distinct.are_distinct.Given as goal
+use Rattle.smithy_recovery.proofs.distinct.are_apart.Given as goal
 
 -- the names behind are in the map, and no two of them are the same
 abbrev pub invariant-loop-i : goal.invariant-loop-i
