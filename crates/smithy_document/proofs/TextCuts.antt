@@ -18,14 +18,14 @@ cuts_kept : (bs xs : List ℕ) (cuts : List Cut) → IsUtf8 xs → AreCuts bs cu
 cuts_kept bs xs [] utf8 h = tt
 cuts_kept bs xs (c ∷ cuts) utf8 h = (h.0, boundary_kept bs xs c.0 utf8 h.1, boundary_kept bs xs c.1 utf8 h.2, cuts_kept bs xs cuts utf8 h.3)
 
-piece_kept : (bs xs : List ℕ) (c : Cut) → c.0 ≤ c.1 → c.1 ≤ length bs → slice_range (bs ++ xs) c.0 c.1 ≡ slice_range bs c.0 c.1
+pub piece_kept : (bs xs : List ℕ) (c : Cut) → c.0 ≤ c.1 → c.1 ≤ length bs → slice_range (bs ++ xs) c.0 c.1 ≡ slice_range bs c.0 c.1
 piece_kept bs xs c ascends within = rw (drop-append-le c.0 bs xs (omega arith)) (take-append-le (c.1 - c.0) (drop c.0 bs) xs (rw length-drop (omega (arith, ascends, within))))
 
 pieces_kept : (bs xs : List ℕ) (cuts : List Cut) → AreCuts bs cuts → pieces (bs ++ xs) cuts ≡ pieces bs cuts
 pieces_kept bs xs [] h = refl
 pieces_kept bs xs (c ∷ cuts) h = ap₂ (λ p ps. p ∷ ps) (piece_kept bs xs c h.0 h.2.0) (pieces_kept bs xs cuts h.3)
 
-piece_added : (bs xs : List ℕ) → slice_range (bs ++ xs) (length bs) (length (bs ++ xs)) ≡ xs
+pub piece_added : (bs xs : List ℕ) → slice_range (bs ++ xs) (length bs) (length (bs ++ xs)) ≡ xs
 piece_added bs xs = rw drop-append_seam (take_all (length (bs ++ xs) - length bs) xs (rw length-append (omega arith)))
 
 pub pieces_more : (bs xs : List ℕ) (cuts : List Cut) → AreCuts bs cuts → pieces (bs ++ xs) (cuts ++ (length bs, length (bs ++ xs)) ∷ []) ≡ pieces bs cuts ++ xs ∷ []

@@ -3,8 +3,11 @@ pub mod CursorView
 pub mod DocumentHand
 pub mod Finished
 pub mod Frames
+pub mod JsonFields
 pub mod JsonHand
 pub mod JsonSeen
+pub mod JsonShown
+pub mod JsonStanding
 pub mod JsonTree
 pub mod KnownParts
 pub mod Paths
