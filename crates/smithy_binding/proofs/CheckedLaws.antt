@@ -1,5 +1,5 @@
 -- What the test of an input schema says.
-use Rattle.smithy_binding.proofs.Common.{are_distinct, ◌≡◌, ◌↔◌, sym, ◌∙◌, Bool, true, ◌&&◌, List, is_some, IsTrue, All, not, ◌||◌, list_all, and_parts, AllPass-from_list_all, list_all-from_AllPass, Schema, cites_nodes, members_of, member_names, is_bound_once, is_writable, has_bound_kind, has_plain_elements, is_text_map, is_query_map, has_prefix_kind, has_map_kind, is_sound_member, members_with, has_at_most_one, has_sound_payload, has_sound_maps, has_sound_names, has_true_flags, has_sound_http, has_defined_members, has_named_members, checked_input, IsCheckedInput}
+use Rattle.smithy_binding.proofs.Common.{are_distinct, ◌≡◌, ◌↔◌, sym, ◌∙◌, Bool, true, ◌&&◌, List, is_some, IsTrue, All, list_all, and_parts, AllPass-from_list_all, list_all-from_AllPass, Schema, cites_nodes, members_of, member_names, is_bound_once, is_writable, has_bound_kind, has_plain_elements, is_text_map, is_query_map, has_prefix_kind, has_query_map_kind, has_map_kind, is_sound_member, members_with, has_at_most_one, has_sound_payload, has_sound_maps, has_sound_names, has_true_flags, has_sound_http, has_defined_members, has_named_members, checked_input, IsCheckedInput}
 use Rattle.smithy_binding.proofs.JointTests.{both, all-both, all-parts, all-filter}
 use Rattle.smithy_binding.proofs.Tests.{structure_from_test, structure_test, AreDistinct-from_test, are_distinct-from_facts}
 
@@ -24,9 +24,6 @@ module _ (once kinds plain : Schema → Bool) (ms : List Schema) where
 
 pub prefix_kinds : (schema : Schema) → list_all is_text_map (members_with (λ t. is_some t.http_prefix_headers) schema) ≡ list_all has_prefix_kind (members_of schema)
 prefix_kinds schema = all-filter is_text_map (λ m. is_some m.node.traits.http_prefix_headers) (members_of schema)
-
-abbrev has_query_map_kind : Schema → Bool
-has_query_map_kind m = not m.node.traits.http_query_params || is_query_map m
 
 query_kinds : (schema : Schema) → list_all is_query_map (members_with (λ t. t.http_query_params) schema) ≡ list_all has_query_map_kind (members_of schema)
 query_kinds schema = all-filter is_query_map (λ m. m.node.traits.http_query_params) (members_of schema)

@@ -7,22 +7,29 @@ pub use Rattle.smithy_binding.specs.Bindings.{query_names, texts}
 pub use Rattle.smithy_binding.specs.Bodies.{Body, BodyParts, body_parts, bytes_by, document_by, form_in, has_unbound_member, is_codec}
 unfoldable pub use Rattle.smithy_binding.specs.Bodies.{body, document_value}
 pub use Rattle.smithy_binding.specs.Bodies.{is_payload, payload_kind, text_of_document}
+pub use Rattle.smithy_binding.specs.Bodies.{is_codec_kind, is_raw_kind}
+pub use Rattle.smithy_binding.specs.Broken.{Broken, are_label_holes, cut_rule, broken_header, by_member, by_members, by_schema, has_query_map_kind}
+unfoldable pub use Rattle.smithy_binding.specs.Broken.{broken_input, broken_output}
+pub use Rattle.smithy_binding.specs.Broken.{has_true_flag, has_true_hint, header_rule, hole_rule, http_rule, joint_rule, member_rule}
+pub use Rattle.smithy_binding.specs.Broken.{method_rule, named_rule, path_rule, payload_rule, prefix_map_rule, prefix_rule}
+pub use Rattle.smithy_binding.specs.Broken.{response_joint_rule, response_member_rule, template_rule}
 pub use Rattle.smithy_binding.specs.Checked.{IsCheckedInput, has_at_most_one, has_bound_kind, has_defined_members, has_element}
 unfoldable pub use Rattle.smithy_binding.specs.Checked.{checked_input}
 pub use Rattle.smithy_binding.specs.Checked.{has_header_kind, has_label_kind, has_map_kind, has_named_members, has_plain_elements}
 pub use Rattle.smithy_binding.specs.Checked.{has_prefix_kind, has_query_kind, has_sound_headers, has_sound_http, has_sound_maps}
 pub use Rattle.smithy_binding.specs.Checked.{has_sound_names, has_sound_payload, has_true_flags, is_bound_once, is_header_kind}
 pub use Rattle.smithy_binding.specs.Checked.{is_plain_list, is_plain_string, is_query_map, is_sound_member, is_text_map, is_writable}
-pub use Rattle.smithy_binding.specs.Checked.{member_names, members_with}
+pub use Rattle.smithy_binding.specs.Checked.{is_sound_payload, lower_header_names, member_names, members_with}
 pub use Rattle.smithy_binding.specs.CheckedOutput.{IsCheckedOutput, has_code_kind, has_plain_header_elements, has_sound_response_payload}
 unfoldable pub use Rattle.smithy_binding.specs.CheckedOutput.{checked_output}
+pub use Rattle.smithy_binding.specs.CheckedOutput.{has_response_body_member, response_payload_kind}
 pub use Rattle.smithy_binding.specs.CheckedOutput.{is_response_bound_once, is_sound_response_member}
 pub use Rattle.smithy_binding.specs.Clear.{are_whole_segments, filled_by_a, has_whole_authority, holes_named, is_greedy_last}
 unfoldable pub use Rattle.smithy_binding.specs.Clear.{is_clear}
 pub use Rattle.smithy_binding.specs.Faults.{Fault, behind, bound_fault, custom, element_fault, ends_with_value, entry_fault, fault}
 unfoldable pub use Rattle.smithy_binding.specs.Faults.{body_fault, legal_target, writes_fault}
-pub use Rattle.smithy_binding.specs.Faults.{fault_of_document, hole_fault, is_placed_at, item_fault, key_fault, legal_fault, legal_or_fault}
-pub use Rattle.smithy_binding.specs.Faults.{missing_hole, nested_fault, no_member, no_year, pair_fault, pairs_fault, part_fault}
+pub use Rattle.smithy_binding.specs.Faults.{fault_of_document, filled_fault, is_placed_at, item_fault, key_fault, legal_fault, legal_or_fault}
+pub use Rattle.smithy_binding.specs.Faults.{too_long, not_legal, missing_hole, nested_fault, no_member, no_year, pair_fault, pairs_fault, part_fault}
 pub use Rattle.smithy_binding.specs.Faults.{resolved_fault_by, value_fault, wrong_header, wrong_item_kind, wrong_kind, writes_fault_by}
 pub use Rattle.smithy_binding.specs.Directions.{directed_node, directed_schema, directed_table}
 pub use Rattle.smithy_binding.specs.Filling.{fill, fill_rest, filled_by, keep_slashes}
@@ -36,7 +43,11 @@ pub use Rattle.smithy_binding.specs.Refusing.{Answers, TellsFault}
 pub use Rattle.smithy_binding.specs.ResponseCodes.{code_write, is_label, status_value}
 unfoldable pub use Rattle.smithy_binding.specs.ResponseCodes.{written_code}
 pub use Rattle.smithy_binding.specs.declared.direction.Direction.{Direction}
+pub use Rattle.smithy_binding.specs.declared.rules.Rule.{Rule}
 pub use Rattle.smithy_binding.specs.declared.template.CutHole.{CutHole}
+pub use Rattle.smithy_binding.specs.views.Breaking.{broken_among, broken_of, broken_response_among, broken_shown, have_holes, http_rule_among}
+pub use Rattle.smithy_binding.specs.views.Breaking.{broken_header_of, broken_prefix_of, cut_rule_for, hole_rule_for, lower_headers, member_rule_in, method_rule_among}
+pub use Rattle.smithy_binding.specs.views.Breaking.{path_rule_for, template_rule_among, template_rule_for}
 pub use Rattle.smithy_binding.specs.views.Checking.{are_sound, are_sound_response, count_of, have_sound_headers, have_sound_names}
 unfoldable pub use Rattle.smithy_binding.specs.views.Checking.{payload_in, shown}
 pub use Rattle.smithy_binding.specs.views.Checking.{is_bound_in, is_clear_among, is_sound_in, is_sound_prefix_of, lower_names, names_under}
@@ -52,7 +63,7 @@ unfoldable pub use Rattle.smithy_binding.specs.views.Gather.{gather, gather_one}
 pub use Rattle.smithy_binding.specs.views.Gather.{ok_unless, pairs_of, placed}
 pub use Rattle.smithy_binding.specs.views.KeptWrites.{AreDefinedWrites, IsEmpty, IsKeptDefined, keep, keep_all, kept_at, kept_in, no_parts}
 pub use Rattle.smithy_binding.specs.views.KeptWrites.{told, unbound_in, write_in}
-pub use Rattle.smithy_binding.specs.views.LabelTexts.{text_under}
+pub use Rattle.smithy_binding.specs.views.LabelTexts.{is_text, long_fault, text_under}
 unfoldable pub use Rattle.smithy_binding.specs.views.LabelTexts.{text_in_map}
 pub use Rattle.smithy_binding.specs.views.Placed.{IsSingle, first_fault, has_placed_kind, is_list_binding, is_text_binding, placed_first}
 pub use Rattle.smithy_binding.specs.views.Placed.{takes_map, write_of}
@@ -87,7 +98,8 @@ pub use Rattle.smithy_serde.specs.Writes.{Resolved, all_resolved, firsts, firsts
 pub use Rattle.smithy_serde.specs.Writing.{Tells, label}
 pub use Rattle.smithy_serde.specs.declared.error.SerdeError.{SerdeError}
 pub use Rattle.smithy_serde.specs.declared.value.OneWrite.{OneWrite}
-pub use Rattle.smithy_types.specs.Grammars.{is_between, is_header_value, is_header_value_byte, is_legal_target, is_token, is_token_byte}
+pub use Rattle.smithy_types.specs.Grammars.{is_between, is_header_value, is_header_value_byte, is_legal_target, is_short_target, is_target, is_token, is_token_byte}
+pub use Rattle.smithy_types.specs.Grammars.{max_target_len}
 pub use Rattle.smithy_types.specs.Results.{each, first_of_all, then_give, then_try, unless}
 pub use Rattle.smithy_types.specs.Texts.{AreDistinct, are_distinct, found, has_byte, is_one_of, same_text}
 pub use Rattle.std.proofs.Common.{All, Bool, Err, IfErr, IfOk, IfSome, IsErr, IsSome, IsTrue, List, MatchOption, None, Ok, Option, Result}

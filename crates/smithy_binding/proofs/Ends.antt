@@ -1,5 +1,5 @@
 -- The end: the target, and the request.
-use Rattle.smithy_binding.proofs.Common.{◌≡◌, refl, ap, sym, ◌∙◌, ℕ, List, [], ◌∷◌, ◌++◌, append_assoc, map, Result, Ok, Err, Option, Some, None, join_with_byte, append-nil, has_byte, option_or, then_give, Schema, pieces, Write, fill, pairs, labels, body, Protocol, OmitFlags, target_of, template_of, method_of, with_query, pair_text, request_at, answer, legal_request, Fault, behind, bound_fault, legal_fault, legal_target, legal_or_fault, writes_fault, writes_fault_by, body_fault, hole_fault, message_fault, message_headers, separator, queries, target_behind, target_with}
+use Rattle.smithy_binding.proofs.Common.{◌≡◌, refl, ap, sym, ◌∙◌, ℕ, List, [], ◌∷◌, ◌++◌, append_assoc, map, Result, Ok, Err, Option, Some, None, join_with_byte, append-nil, has_byte, option_or, unless, is_target, not_legal, then_give, Schema, pieces, Write, fill, pairs, labels, body, Protocol, OmitFlags, target_of, template_of, method_of, with_query, pair_text, request_at, answer, legal_request, Fault, behind, bound_fault, legal_fault, legal_target, legal_or_fault, writes_fault, writes_fault_by, body_fault, filled_fault, message_fault, message_headers, separator, queries, target_behind, target_with}
 
 joined_queries : (p : List ℕ × List ℕ) (ps : List (List ℕ × List ℕ)) → join_with_byte 38 (map pair_text (p ∷ ps)) ≡ pair_text p ++ queries ps
 joined_queries p [] = sym (append-nil (pair_text p))
@@ -52,11 +52,11 @@ module _ (protocol : Protocol) (schema : Schema) (ws : List Write) (endpoint : L
       go None (Some g) r given = absurd (cc given)
       go None None r given = refl
 
-  pub answer-hole : (f : Fault) → hole_fault (target_by schema endpoint own query) ≡ Some f → answer protocol schema ws endpoint omit ≡ Err f
-  answer-hole f given = answer-err protocol schema ws endpoint omit f (target-decides ∙ go (target_by schema endpoint own query) given)
+  pub answer-filled : (f : Fault) → filled_fault (target_by schema endpoint own query) ≡ Some f → answer protocol schema ws endpoint omit ≡ Err f
+  answer-filled f given = answer-err protocol schema ws endpoint omit f (target-decides ∙ go (target_by schema endpoint own query) given)
     where
-      go : (r : Result (List ℕ) (List ℕ)) → hole_fault r ≡ Some f → legal_or_fault r ≡ Err f
-      go (Ok t) given = absurd (cc given)
+      go : (r : Result (List ℕ) (List ℕ)) → filled_fault r ≡ Some f → legal_or_fault r ≡ Err f
+      go (Ok t) given = ap (λ (o : Option Fault). behind (option_or o (unless (is_target t) not_legal)) (Ok t)) given
       go (Err h) given = ap (λ (o : Option Fault). behind o (Ok [])) given
 
   request-is : (target : List ℕ)

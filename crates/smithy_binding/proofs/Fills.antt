@@ -1,5 +1,8 @@
 -- A template, cut and filled hole by hole.
-use Rattle.smithy_binding.proofs.Common.{◌≡◌, ◌≢◌, refl, ap, sym, ◌∙◌, ℕ, ◌+◌, ◌<◌, Bool, true, false, List, [], ◌∷◌, ◌++◌, append_assoc, length, Result, Ok, Err, if◌then◌else◌, codes, arith, cond, not, suc, ◌||◌, ◌-◌, Option, Some, None, MatchOption, lit<, drop, take, length-drop, nat_eq, Bor, slice_split, before_first, after_first, position_or_len, onto_first, ends_with, append-nil, take-append-drop, length-append, IsSplitOnceResult, split_once_first, has_byte, then_try, then_give, Hole, Template, hole_of, behind_hole, literal_alone, fill_rest, filled_by, Fault, hole_fault, is_close, is_open, text_in}
+use Rattle.smithy_binding.proofs.Common.{◌≡◌, ◌≢◌, refl, ap, sym, ◌∙◌, ℕ, ◌+◌, ◌<◌, Bool, true, false, List, [], ◌∷◌, ◌++◌, append_assoc, length, Result, Ok, Err, if◌then◌else◌, codes, arith, cond, not, suc, ◌||◌, ◌-◌, Option, Some, None, MatchOption, lit<, drop, take, length-drop, nat_eq, Bor, slice_split, before_first, after_first, position_or_len, onto_first, ends_with, append-nil, take-append-drop, length-append, IsSplitOnceResult, split_once_first, has_byte, then_try, then_give, Hole, Template, hole_of, behind_hole, literal_alone, fill_rest, filled_by, Fault, filled_fault, long_fault, too_long, unless, is_text, max_target_len, is_short_target, separator, target_behind, ◌==◌, ne_eqb, is_close, is_open, text_in}
+use Rattle.smithy_binding.specs.Filling.{filled_hole}
+use Rattle.std.proofs.lemmas.Bool.Decides.{nat_tests}
+use Rattle.std.specs.Result.{result_err}
 use Rattle.std.specs.Cmp.Lexicographic.{same_text as same_from_test}
 use Rattle.std.proofs.Math.Seq.{drop-append_seam, take-append_seam}
 use Rattle.std.proofs.lemmas.List.Splits.{slice_split_first}
@@ -94,10 +97,64 @@ not_greedy text no_name = go (ends_with nat_eq text (codes "+")) refl
     go true e = absurd (no_name (take (length text - 1) text) (sym (take-append-drop (length text - 1) text) ∙ ap (λ t. take (length text - 1) text ++ t) (sym (same_from_test (codes "+") (drop (length text - 1) text) (sym e)))))
     go false e = refl
 
--- the fault of a hole, with what stands behind the template
-pub hole-given : (r : Result (List ℕ) (List ℕ)) (behind : List ℕ → List ℕ) (f : Fault) → hole_fault r ≡ Some f → hole_fault (then_give r behind) ≡ Some f
-hole-given (Ok t) behind f e = absurd (cc e)
-hole-given (Err h) behind f e = e
+-- a hole that has a text is not the one that lacks it
+pub missing-more : (texts : List ℕ → Option (List ℕ)) (literal : List ℕ) (hole : Hole) (t u : Template) → u ≡ behind_hole literal hole t → is_text (texts hole.name) ≡ true
+    → result_err (filled_by texts u) ≡ result_err (filled_by texts t)
+missing-more texts literal hole t u e has = rw e (go (texts hole.name) has (fill_rest texts t.rest))
+  where
+    go : (text : Option (List ℕ)) → is_text text ≡ true → (later : Result (List ℕ) (List ℕ))
+        → result_err (then_give (then_try (filled_hole hole text) (λ x. then_give later (λ y. x ++ t.first ++ y))) (λ y. literal ++ y)) ≡ result_err (then_give later (λ y. t.first ++ y))
+    go None has later = absurd (cc has)
+    go (Some []) has later = absurd (cc has)
+    go (Some (b ∷ text)) has (Err h) = refl
+    go (Some (b ∷ text)) has (Ok y) = refl
+
+-- and one that has none is
+pub missing-here : (texts : List ℕ → Option (List ℕ)) (literal : List ℕ) (hole : Hole) (t u : Template) → u ≡ behind_hole literal hole t → is_text (texts hole.name) ≡ false
+    → result_err (filled_by texts u) ≡ Some hole.name
+missing-here texts literal hole t u e lacks = rw e (go (texts hole.name) lacks)
+  where
+    go : (text : Option (List ℕ)) → is_text text ≡ false
+        → result_err (then_give (then_try (filled_hole hole text) (λ x. then_give (fill_rest texts t.rest) (λ y. x ++ t.first ++ y))) (λ y. literal ++ y)) ≡ Some hole.name
+    go None lacks = refl
+    go (Some []) lacks = refl
+    go (Some (b ∷ text)) lacks = let q : true ≡ false = sym (ap not (ne_eqb (length (b ∷ text)) 0 (λ h. omega arith))) ∙ lacks in absurd (cc q)
+
+pub missing-end : (texts : List ℕ → Option (List ℕ)) (rest : List ℕ) (u : Template) → u ≡ literal_alone rest → result_err (filled_by texts u) ≡ None
+missing-end texts rest u e = rw e refl
+
+-- what is too long stays so with more behind it
+
+past : (text : List ℕ) → max_target_len < length text → is_short_target text ≡ false
+past text long = grind (arith, nat_tests)
+
+past-is : (text : List ℕ) → is_short_target text ≡ false → max_target_len < length text
+past-is text e = grind (arith, nat_tests)
+
+longer : (text more : List ℕ) → max_target_len < length text → is_short_target (text ++ more) ≡ false
+longer text more long = let n : length (text ++ more) ≡ length text + length more = length-append text more in past (text ++ more) (omega (arith, n, long))
+
+behind-long : (path query : List ℕ) → is_short_target path ≡ false → is_short_target (target_behind path query) ≡ false
+behind-long path [] e = e
+behind-long path (b ∷ query) e = go (b == 38)
+  where
+    go : (first : Bool) → is_short_target (if first then path ++ (separator (has_byte 63 path) ++ query) else path) ≡ false
+    go true = longer path (separator (has_byte 63 path) ++ query) (past-is path e)
+    go false = e
+
+-- a target that is too long before a hole has the fault of what is left
+pub long-before : (rest whole : Result (List ℕ) (List ℕ)) (out : List ℕ) → max_target_len < length out → then_give rest (λ t. out ++ t) ≡ whole → (f : Fault) → f ≡ long_fault rest → filled_fault whole ≡ Some f
+long-before (Err h) whole out long e f same = sym (ap filled_fault e) ∙ ap (λ (x : Fault). Some x) (sym same)
+long-before (Ok t) whole out long e f same = sym (ap filled_fault e) ∙ ap (λ b. unless b too_long) (longer out t long) ∙ ap (λ (x : Fault). Some x) (sym same)
+
+-- the fault of a filled template is that of the target
+pub filled-given : (r : Result (List ℕ) (List ℕ)) (query : List ℕ) (f : Fault) → filled_fault r ≡ Some f → filled_fault (then_give r (λ path. target_behind path query)) ≡ Some f
+filled-given (Err h) query f e = e
+filled-given (Ok path) query f e = go (is_short_target path) refl e
+  where
+    go : (b : Bool) → is_short_target path ≡ b → unless b too_long ≡ Some f → unless (is_short_target (target_behind path query)) too_long ≡ Some f
+    go true short e = absurd (cc e)
+    go false short e = ap (λ b. unless b too_long) (behind-long path query short) ∙ e
 
 abbrev pub is_plain : List ℕ → Hole → Type 0
 is_plain text hole = hole ≡ record { name = text; greedy = false }
@@ -111,3 +168,5 @@ greedy_cases text None h = not_greedy text h
 greedy_cases text (Some x) h = rw h (greedy x.now)
 
 pub ruleset filling = (fill-more, fill-end)
+
+pub ruleset missing = (missing-more, missing-here, missing-end)

@@ -1,5 +1,7 @@
 pub mod Codes
 pub mod Common
+pub mod BrokenGroups
+pub mod BrokenLaws
 pub mod CheckedLaws
 pub mod CheckedMethods
 pub mod CheckedOutputLaws

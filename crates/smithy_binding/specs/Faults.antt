@@ -153,13 +153,14 @@ body_fault schema ws = fault_of_document (document_value schema ws)
 abbrev pub missing_hole : List ℕ → Fault
 missing_hole hole = invalid_input (hole ++ codes " was missing: cannot be empty or unset")
 
--- the first hole without a text
-abbrev pub hole_fault : Result (List ℕ) (List ℕ) → Option Fault
-hole_fault target = option_map missing_hole (result_err target)
-
 -- a target that is too long
 abbrev pub too_long : Fault
 too_long = custom (codes "invalid endpoint URI: longer than 65534 bytes")
+
+-- of a template that is filled, or not: the first hole without a text, or else that it is too long
+abbrev pub filled_fault : Result (List ℕ) (List ℕ) → Option Fault
+filled_fault (Err hole) = Some (missing_hole hole)
+filled_fault (Ok target) = unless (is_short_target target) too_long
 
 -- a target that breaks the grammar (RFC 7230, section 5.3)
 abbrev pub not_legal : Fault

@@ -3,6 +3,7 @@ use Rattle.std.specs.Prelude.{◌≡◌, ◌↔◌, ℕ, List, map, Some, None, 
 use Rattle.smithy_binding.specs.Words.{AreDistinct, Request, Schema, Write}
 use Rattle.smithy_binding.specs.Checked.{checked_input, IsCheckedInput}
 use Rattle.smithy_binding.specs.CheckedOutput.{checked_output, IsCheckedOutput}
+use Rattle.smithy_binding.specs.Broken.{broken_input, broken_output}
 use Rattle.smithy_binding.specs.Faults.{fault}
 use Rattle.smithy_binding.specs.Answer.{place}
 use Rattle.smithy_binding.specs.Placing.{Protocol, OmitFlags}
@@ -14,6 +15,14 @@ CheckedInputIff = (schema : Schema) → IsTrue (checked_input schema) ↔ IsChec
 -- the test of an output schema and its facts say the same
 abbrev pub CheckedOutputIff : Type 0
 CheckedOutputIff = (schema : Schema) → IsTrue (checked_output schema) ↔ IsCheckedOutput schema
+
+-- an input schema breaks no rule exactly where the test passes
+abbrev pub BrokenInputIff : Type 0
+BrokenInputIff = (schema : Schema) → broken_input schema ≡ None ↔ IsTrue (checked_input schema)
+
+-- an output schema breaks no rule exactly where the test passes
+abbrev pub BrokenOutputIff : Type 0
+BrokenOutputIff = (schema : Schema) → broken_output schema ≡ None ↔ IsTrue (checked_output schema)
 
 -- an input without a fault has a request
 abbrev pub ConformingIsPlaced : Type 0

@@ -2,6 +2,7 @@ pub mod Words
 pub mod Answer
 pub mod Bindings
 pub mod Bodies
+pub mod Broken
 pub mod Checked
 pub mod CheckedOutput
 pub mod Clear
@@ -18,6 +19,7 @@ pub mod Protocols
 pub mod Refusing
 pub mod ResponseCodes
 pub mod Rpc
+pub mod RuleTexts
 pub mod ServiceNames
 pub mod Typed
 pub mod views

@@ -1,4 +1,5 @@
 -- What the buffers, lists and cuts of the code stand for, in the words of the definitions.
+pub mod Breaking
 pub mod Checking
 pub mod ClearParts
 pub mod CutTemplate

@@ -2,7 +2,7 @@
 ghost use Rattle.std.specs.Prelude.{◌≡◌, IfOk, false};
 ghost use Rattle.smithy_binding.specs.Words.{option_map_or, is_structure_or_union, members_of, schema_of};
 ghost use Rattle.smithy_binding.specs.Checked.{checked_input, agrees, has_sound_http};
-ghost use Rattle.smithy_binding.specs.views.Checking.{shown, are_sound, is_sound_input, has_true_flags_for};
+ghost use Rattle.smithy_binding.specs.views.Checking.{shown, are_sound, is_sound_input, has_true_flag_for, has_true_hint_for};
 
 use crate::clear_template::is_clear_among;
 use crate::direction::Direction;
@@ -37,13 +37,19 @@ fn agrees(hint: PayloadHint, has_struct_payload: bool) -> bool
     }
 }
 
-// The flag of no body members and the payload hint say what holds.
-fn has_true_flags(schema: SchemaRef<'_>, members: &[SchemaRef<'_>]) -> bool
-    ensures { result ≡ has_true_flags_for (schema_of schema.entry) (shown members.now) }
+/// Whether the flag of no body members says what holds.
+pub fn has_true_flag(schema: SchemaRef<'_>, members: &[SchemaRef<'_>]) -> bool
+    ensures { result ≡ has_true_flag_for (schema_of schema.entry) (shown members.now) }
+{
+    schema.has_body_members() || !has_unbound_member(members, Direction::Request)
+}
+
+/// Whether the payload hint says what holds.
+pub fn has_true_hint(schema: SchemaRef<'_>, members: &[SchemaRef<'_>]) -> bool
+    ensures { result ≡ has_true_hint_for (schema_of schema.entry) (shown members.now) }
 {
     let payload = payload_kind(members, Direction::Request);
-    (schema.has_body_members() || !has_unbound_member(members, Direction::Request))
-        && agrees(schema.payload_hint(), is_struct_payload(payload))
+    agrees(schema.payload_hint(), is_struct_payload(payload))
 }
 
 // What needs no memory.
@@ -54,7 +60,8 @@ fn are_sound(schema: SchemaRef<'_>, members: &[SchemaRef<'_>]) -> bool
         && has_sound_payload(members, Direction::Request)
         && count(members, Counted::Prefix) <= 1
         && count(members, Counted::QueryMap) <= 1
-        && has_true_flags(schema, members)
+        && has_true_flag(schema, members)
+        && has_true_hint(schema, members)
 }
 
 // With `@http` the method is a token, and the template is clear and begins with `/`.

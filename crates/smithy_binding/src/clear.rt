@@ -157,7 +157,8 @@ pub fn have_one_hole<'t>(
     Ok(are_once(&once, names))
 }
 
-fn hole_count(template: &CutTemplate<'_>) -> usize
+/// How many holes the template has.
+pub fn hole_count(template: &CutTemplate<'_>) -> usize
     ensures { result ≡ length (holes_of (template_shown template.now)) }
 {
     template.holes.as_slice().len()

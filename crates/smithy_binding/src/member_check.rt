@@ -4,6 +4,7 @@ ghost use Rattle.smithy_binding.specs.Words.{same_kind, is_scalar, is_unwritable
 ghost use Rattle.smithy_ids.specs.declared.shape_type.ShapeType.TheVariants as kind;
 ghost use Rattle.smithy_binding.specs.Checked.{one_if, is_bound_once, is_header_kind, has_label_kind, has_query_kind, has_header_kind, is_element_plain, has_plain_elements, is_plain_string, is_plain_list, is_text_map, is_query_map, has_prefix_kind, has_map_kind, is_sound_member};
 ghost use Rattle.smithy_binding.specs.CheckedOutput.{is_response_bound_once, has_plain_header_elements, has_code_kind, is_sound_response_member};
+ghost use Rattle.smithy_binding.specs.Broken.{has_query_map_kind};
 ghost use Rattle.smithy_binding.specs.views.Checking.{list_element, is_sound_in, is_payload_in, is_bound_in};
 ghost use Rattle.smithy_binding.specs.Bodies.{is_payload, is_raw_kind, is_codec_kind};
 
@@ -20,8 +21,8 @@ fn one_if(test: bool) -> u8
     if test { 1 } else { 0 }
 }
 
-// At most one binding of a request.
-fn is_bound_once(member: SchemaRef<'_>) -> bool
+/// Whether it has at most one binding of a request.
+pub fn is_bound_once(member: SchemaRef<'_>) -> bool
     ensures { result ≡ is_bound_once (schema_of member.entry) }
 {
     let count = one_if(member.http_header().is_some())
@@ -33,8 +34,8 @@ fn is_bound_once(member: SchemaRef<'_>) -> bool
     count <= 1
 }
 
-// At most one binding of a response.
-fn is_response_bound_once(member: SchemaRef<'_>) -> bool
+/// Whether it has at most one binding of a response.
+pub fn is_response_bound_once(member: SchemaRef<'_>) -> bool
     ensures { result ≡ is_response_bound_once (schema_of member.entry) }
 {
     let count = one_if(member.http_header().is_some())
@@ -60,8 +61,8 @@ fn is_header_kind(kind: ShapeType) -> bool
     }
 }
 
-// The kinds of no value here.
-fn is_unwritable(kind: ShapeType) -> bool
+/// The kinds of no value here.
+pub fn is_unwritable(kind: ShapeType) -> bool
     ensures { result ≡ is_unwritable kind }
 {
     kind.is_unwritable()
@@ -91,13 +92,15 @@ fn list_element<'t>(member: SchemaRef<'t>) -> Option<SchemaRef<'t>>
     }
 }
 
-fn has_label_kind(member: SchemaRef<'_>) -> bool
+/// Whether a label is of a kind that labels take.
+pub fn has_label_kind(member: SchemaRef<'_>) -> bool
     ensures { result ≡ has_label_kind (schema_of member.entry) }
 {
     member.http_label().is_none() || is_scalar(member.shape_type())
 }
 
-fn has_query_kind(member: SchemaRef<'_>) -> bool
+/// Whether a query member is of a kind that the query takes.
+pub fn has_query_kind(member: SchemaRef<'_>) -> bool
     ensures { result ≡ has_query_kind (schema_of member.entry) }
 {
     if member.http_query().is_none() || is_scalar(member.shape_type()) {
@@ -109,7 +112,8 @@ fn has_query_kind(member: SchemaRef<'_>) -> bool
     }
 }
 
-fn has_header_kind(member: SchemaRef<'_>) -> bool
+/// Whether a header member is of a kind that headers take.
+pub fn has_header_kind(member: SchemaRef<'_>) -> bool
     ensures { result ≡ has_header_kind (schema_of member.entry) }
 {
     if member.http_header().is_none() || is_header_kind(member.shape_type()) {
@@ -133,15 +137,15 @@ fn is_element_plain(member: SchemaRef<'_>) -> bool
     }
 }
 
-// So are those of a list in a header or the query.
-fn has_plain_elements(member: SchemaRef<'_>) -> bool
+/// Whether the elements of a list in a header or the query have no media type and the list's time format.
+pub fn has_plain_elements(member: SchemaRef<'_>) -> bool
     ensures { result ≡ has_plain_elements (schema_of member.entry) }
 {
     (member.http_query().is_none() && member.http_header().is_none()) || is_element_plain(member)
 }
 
-// So are those of a list in a header.
-fn has_plain_header_elements(member: SchemaRef<'_>) -> bool
+/// The same of a list in a header alone.
+pub fn has_plain_header_elements(member: SchemaRef<'_>) -> bool
     ensures { result ≡ has_plain_header_elements (schema_of member.entry) }
 {
     member.http_header().is_none() || is_element_plain(member)
@@ -195,16 +199,24 @@ fn is_query_map(member: SchemaRef<'_>) -> bool
     }
 }
 
-fn has_prefix_kind(member: SchemaRef<'_>) -> bool
+/// Whether a map of headers is one from texts to texts.
+pub fn has_prefix_kind(member: SchemaRef<'_>) -> bool
     ensures { result ≡ has_prefix_kind (schema_of member.entry) }
 {
     member.http_prefix_headers().is_none() || is_text_map(member)
 }
 
+/// Whether a map of the query is one from texts to texts or to lists of these.
+pub fn has_query_map_kind(member: SchemaRef<'_>) -> bool
+    ensures { result ≡ has_query_map_kind (schema_of member.entry) }
+{
+    member.http_query_params().is_none() || is_query_map(member)
+}
+
 fn has_map_kind(member: SchemaRef<'_>) -> bool
     ensures { result ≡ has_map_kind (schema_of member.entry) }
 {
-    has_prefix_kind(member) && (member.http_query_params().is_none() || is_query_map(member))
+    has_prefix_kind(member) && has_query_map_kind(member)
 }
 
 // What is asked of each member of an input.
@@ -227,7 +239,8 @@ fn is_integer(member: SchemaRef<'_>) -> bool
     matches!(member.shape_type(), ShapeType::Integer)
 }
 
-fn has_code_kind(member: SchemaRef<'_>) -> bool
+/// Whether a response code is an Integer.
+pub fn has_code_kind(member: SchemaRef<'_>) -> bool
     ensures { result ≡ has_code_kind (schema_of member.entry) }
 {
     member.http_response_code().is_none() || is_integer(member)

@@ -91,14 +91,15 @@ pub fn has_sound_payload(members: &[SchemaRef<'_>], way: Direction) -> bool
         && is_sound_payload(payload_kind(members, way), has_unbound_member(members, way))
 }
 
-fn is_structure(schema: SchemaRef<'_>) -> bool
+/// Whether it is a structure.
+pub fn is_structure(schema: SchemaRef<'_>) -> bool
     ensures { result ≡ same_kind (schema_of schema.entry).node.kind kind.Structure }
 {
     matches!(schema.shape_type(), ShapeType::Structure)
 }
 
-// The members, if each of their places has a node.
-fn defined_members<'t>(
+/// The members, if each of their places has a node. Takes memory.
+pub fn defined_members<'t>(
     alloc: Global,
     schema: SchemaRef<'t>,
 ) -> Result<Option<Vec<SchemaRef<'t>>>, AllocError>

@@ -19,8 +19,8 @@ pub enum NameKind {
     Query,
 }
 
-// The name of this kind that the member has.
-fn name_under<'t>(member: SchemaRef<'t>, kind: NameKind) -> Option<&'t str>
+/// The name of this kind that the member has.
+pub fn name_under<'t>(member: SchemaRef<'t>, kind: NameKind) -> Option<&'t str>
     ensures { option_map (λ n. n.now) result ≡ name_under kind (schema_of member.entry) }
 {
     match kind {
@@ -93,8 +93,8 @@ pub fn are_distinct<'t>(alloc: Global, names: &[&'t str]) -> Result<bool, AllocE
     Ok(true)
 }
 
-// The names in lower case.
-fn lower_names(alloc: Global, names: &[&str]) -> Result<Vec<String>, AllocError>
+/// The names in lower case. Takes memory.
+pub fn lower_names(alloc: Global, names: &[&str]) -> Result<Vec<String>, AllocError>
     ensures { IfOk result (λ v. map string_bytes v.items ≡ lower_names (texts_shown names.now)) }
 {
     let mut lower = Vec::with_capacity(alloc, names.len())?;
@@ -104,7 +104,8 @@ fn lower_names(alloc: Global, names: &[&str]) -> Result<Vec<String>, AllocError>
     Ok(lower)
 }
 
-fn as_texts<'s>(alloc: Global, names: &'s [String]) -> Result<Vec<&'s str>, AllocError>
+/// The names as texts. Takes memory.
+pub fn as_texts<'s>(alloc: Global, names: &'s [String]) -> Result<Vec<&'s str>, AllocError>
     ensures { IfOk result (λ v. texts_shown v.items ≡ map string_bytes names.now) }
 {
     let mut texts = Vec::with_capacity(alloc, names.len())?;
@@ -120,8 +121,8 @@ fn are_tokens(names: &[&str]) -> bool
     names.iter().all(|name| is_token(name))
 }
 
-// Whether the prefix begins one of the names.
-fn begins_any(prefix: &str, names: &[&str]) -> bool
+/// Whether the prefix begins one of the names.
+pub fn begins_any(prefix: &str, names: &[&str]) -> bool
     ensures { result ≡ list_any (λ name. starts_with nat_eq name prefix.now) (texts_shown names.now) }
 {
     names

@@ -1,20 +1,20 @@
 // A request target: the template with its holes filled (Smithy, HTTP protocol bindings, httpLabel).
-ghost use Rattle.std.specs.Prelude.{◌≡◌, ◌++◌, IfOk, IfErr, OnOk, Ok, map, string_bytes};
+ghost use Rattle.std.specs.Prelude.{◌≡◌, ◌++◌, IfOk, IfErr, OnOk, Ok, map, option_map, string_bytes};
 ghost use Rattle.smithy_binding.specs.Words.{has_byte, pieces};
 ghost use Rattle.smithy_binding.specs.Filling.{fill, filled_by, keep_slashes};
-ghost use Rattle.smithy_binding.specs.Faults.{hole_fault};
-ghost use Rattle.smithy_binding.specs.Refusing.{IsTold};
+ghost use Rattle.smithy_binding.specs.Faults.{filled_fault};
+ghost use Rattle.smithy_binding.specs.Refusing.{IsTold, Says};
 ghost use Rattle.smithy_binding.specs.views.Seen.{label_pair};
-ghost use Rattle.smithy_binding.specs.views.LabelTexts.{text_under, label_text, target_in, Extends, LacksLabel};
+ghost use Rattle.smithy_binding.specs.views.LabelTexts.{text_under, label_text, is_text, missing_in, long_fault, target_in, Extends, LacksLabel};
 ghost use Rattle.smithy_binding.specs.views.TargetParts.{separator, target_behind, text_by, one_query, IsBehindFirst};
 
 use crate::labels::{Label, LabelTexts, text_of_label, texts_by_name};
-use crate::refusal::missing_hole;
+use crate::refusal::{missing_hole, too_long};
 use crate::template::cut_hole;
 use percent_encoding::{AsciiSet, NON_ALPHANUMERIC, ascii_set, utf8_percent_encode};
 use smithy_serde::SerdeError;
 use smithy_strings::push_escaped;
-use smithy_types::OutOfMemory;
+use smithy_types::{MAX_TARGET_LEN, OutOfMemory};
 use std::alloc::Global;
 
 const ESCAPED_BUT_SLASH: AsciiSet = ascii_set!(
@@ -64,7 +64,43 @@ fn push_label<'l>(
     Ok(())
 }
 
-// The template with the text of each hole.
+// Whether a label of this name has a text that is not empty.
+fn has_text<'l>(texts: &LabelTexts<'l>, name: &'l str) -> bool
+    ensures { result ≡ is_text (text_under texts.now name.now) }
+{
+    match text_of_label(texts, name) {
+        Some(text) => !text.is_empty(),
+        None => false,
+    }
+}
+
+// The name of the first hole without a text.
+#[tactic(auto, using(crate::proofs::Fills::missing))]
+fn first_missing<'l>(template: &'l str, texts: &LabelTexts<'l>) -> Option<&'l str>
+    ensures { option_map (λ name. name.now) result ≡ missing_in texts.now template.now }
+{
+    let mut rest = template;
+    while let Some((hole, behind)) = cut_hole(rest) {
+        if !has_text(texts, hole.name) {
+            return Some(hole.name);
+        }
+        rest = behind;
+    }
+    None
+}
+
+// The refusal of a target that is too long before this rest of its template, in which a hole without a text comes first.
+fn too_long_before<'l>(alloc: Global, rest: &'l str, texts: &LabelTexts<'l>) -> SerdeError
+    ensures { Says result
+        (long_fault (filled_by (text_under texts.now) (pieces rest.now))) }
+{
+    match first_missing(rest, texts) {
+        Some(name) => missing_hole(alloc, name),
+        None => too_long(alloc),
+    }
+}
+
+// The template with the text of each hole, which is not written further than a target goes.
 #[tactic(auto, using(crate::proofs::Fills::filling))]
 fn fill_by<'l>(
     alloc: Global,
@@ -75,13 +111,16 @@ fn fill_by<'l>(
     ensures ok { IfOk result
         (λ t. filled_by (text_under texts.now) (pieces template.now) ≡ Ok (string_bytes t)) }
     ensures err { IfErr result
-        (IsTold (hole_fault (filled_by (text_under texts.now) (pieces template.now)))) }
+        (IsTold (filled_fault (filled_by (text_under texts.now) (pieces template.now)))) }
 {
     let mut out = String::with_capacity(alloc, room)?;
     let mut rest = template;
     while let Some((hole, behind)) = cut_hole(rest) {
         out.push_str(hole.literal)?;
         push_label(alloc, &mut out, hole.name, hole.is_greedy, texts)?;
+        if out.len() > MAX_TARGET_LEN {
+            return Err(too_long_before(alloc, behind, texts));
+        }
         rest = behind;
     }
     out.push_str(rest)?;
@@ -98,7 +137,7 @@ fn fill<'l>(
     ensures ok { IfOk result
         (λ t. fill (pieces template.now) (map label_pair labels.now) ≡ Ok (string_bytes t)) }
     ensures err { IfErr result
-        (IsTold (hole_fault (fill (pieces template.now) (map label_pair labels.now)))) }
+        (IsTold (filled_fault (fill (pieces template.now) (map label_pair labels.now)))) }
 {
     let texts = texts_by_name(alloc, labels)?;
     fill_by(alloc, template, &texts, room)
@@ -147,7 +186,8 @@ fn push_query(path: &mut String, query: &str) -> Result<(), OutOfMemory>
 
 /// The target: the template with its holes filled, and behind it the pairs of a query that each stand behind a `&`.
 ///
-/// `InvalidInput` at the first hole without a non-empty text. Takes memory.
+/// `InvalidInput` at the first hole without a non-empty text, and else `Custom` where the template goes past 65,534
+/// bytes by a hole. Takes memory: of labels no more than that and one text.
 pub fn whole_target<'l>(
     alloc: Global,
     template: &'l str,
@@ -157,7 +197,7 @@ pub fn whole_target<'l>(
     ensures ok { IfOk result
         (λ t. target_in template.now labels.now query.now ≡ Ok (string_bytes t)) }
     ensures err { IfErr result
-        (IsTold (hole_fault (target_in template.now labels.now query.now))) }
+        (IsTold (filled_fault (target_in template.now labels.now query.now))) }
 {
     let room = template.len() + query.len();
     let mut target = fill(alloc, template, labels, room)?;

@@ -61,11 +61,17 @@ has_unbound_in way ms = list_any (λ m. not (is_bound_in way m)) ms
 abbrev pub has_sound_payload_in : Direction → List Schema → Bool
 has_sound_payload_in way ms = nat_le (count_of counted.Payload ms) 1 && is_sound_payload (payload_in way ms) (has_unbound_in way ms)
 
+-- the flag of an input says what holds
+abbrev pub has_true_flag_for : Schema → List Schema → Bool
+has_true_flag_for schema ms = not schema.node.has_no_body_members || not (has_unbound_in direction.Request ms)
+
+-- and the hint
+abbrev pub has_true_hint_for : Schema → List Schema → Bool
+has_true_hint_for schema ms = agrees schema.node.hint (option_map_or is_structure_or_union (payload_in direction.Request ms) false)
+
 -- the flag and the hint of an input say what holds
 abbrev pub has_true_flags_for : Schema → List Schema → Bool
-has_true_flags_for schema ms =
-    (not schema.node.has_no_body_members || not (has_unbound_in direction.Request ms))
-    && agrees schema.node.hint (option_map_or is_structure_or_union (payload_in direction.Request ms) false)
+has_true_flags_for schema ms = has_true_flag_for schema ms && has_true_hint_for schema ms
 
 -- what needs no memory, over the members of an input
 abbrev pub are_sound : Schema → List Schema → Bool

@@ -1,7 +1,9 @@
 -- The texts of labels, found by name.
-use Rattle.std.specs.Prelude.{◌≡◌, ℕ, Bool, List, ◌++◌, map, String, string_bytes, Option, Some, None, option_map, Result, Ok, Err}
-use Rattle.smithy_binding.specs.Words.{Bor, BTreeMap, get_by, slice_cmp, nat_cmp, found, then_give, SerdeError}
-use Rattle.smithy_binding.specs.Faults.{missing_hole}
+use Rattle.std.specs.Prelude.{◌≡◌, ℕ, Bool, false, not, ◌==◌, List, ◌++◌, length, map, String, string_bytes, Option, Some, None, option_map, Result, Ok, Err}
+use Rattle.smithy_binding.specs.Words.{Bor, BTreeMap, get_by, slice_cmp, nat_cmp, option_map_or, pieces, found, then_give, SerdeError}
+use Rattle.std.specs.Result.{result_err}
+use Rattle.smithy_binding.specs.Faults.{Fault, missing_hole, too_long}
+use Rattle.smithy_binding.specs.Filling.{filled_by}
 use Rattle.smithy_binding.specs.Refusing.{TellsFault}
 use Rattle.smithy_binding.specs.views.TargetParts.{text_in, target_with}
 use Rattle.smithy_binding.specs.views.Seen.{label_pair}
@@ -32,6 +34,18 @@ Extends part old new = then_give part (λ t. string_bytes old ++ t) ≡ Ok (stri
 -- the hole of this name has no text, and the refusal tells it
 abbrev pub LacksLabel : List ℕ → Result (List ℕ) (List ℕ) → SerdeError → Type 0
 LacksLabel name text = λ e. TellsFault e (λ f. (f ≡ missing_hole name) × (text ≡ Err name))
+
+-- there is a text, and it is not empty
+abbrev pub is_text : Option (List ℕ) → Bool
+is_text text = option_map_or (λ t. not (length t == 0)) text false
+
+-- the name of the first hole of a template without a text
+abbrev pub missing_in : LabelTexts → List ℕ → Option (List ℕ)
+missing_in texts template = result_err (filled_by (text_under texts) (pieces template))
+
+-- the fault of a target that is too long before the rest of its template: the first hole of that without a text comes first
+abbrev pub long_fault : Result (List ℕ) (List ℕ) → Fault
+long_fault rest = option_map_or missing_hole (result_err rest) too_long
 
 -- the target of a template, of these labels, and of pairs that each stand behind a `&`
 abbrev pub target_in : List ℕ → List Label → List ℕ → Result (List ℕ) (List ℕ)

@@ -1,7 +1,7 @@
-use Rattle.smithy_binding.proofs.Common.{rules, ◌≡◌, sym, ◌∙◌, subst, Result, Some, IfErr, map, string_bytes, schema_of, writes_in, list_of, Request, Fault, bound_fault, hole_fault, Protocol, message_fault, directed_schema, TellsFault, Answers, label_pair, target_with}
+use Rattle.smithy_binding.proofs.Common.{rules, ◌≡◌, sym, ◌∙◌, subst, Result, Some, IfErr, map, string_bytes, schema_of, writes_in, list_of, Request, Fault, bound_fault, filled_fault, Protocol, message_fault, directed_schema, TellsFault, Answers, label_pair, target_with}
 use Rattle.smithy_binding.specs.declared.direction.Direction.TheVariants as direction
 use Rattle.smithy_binding.proofs.CheckedMethods.{is_token-method_of}
-use Rattle.smithy_binding.proofs.Ends.{answer-message, answer-hole, answer-is, same_request}
+use Rattle.smithy_binding.proofs.Ends.{answer-message, answer-filled, answer-is, same_request}
 use Rattle.smithy_binding.proofs.PlacedKinds.{placed-kinds}
 use Rattle.smithy_binding.proofs.Refusals.{Answers-err}
 use Rattle.smithy_binding.proofs.place.place_writes.Goals as goal
@@ -19,9 +19,9 @@ returns-in_err-message g c =
 pub returns-in_err-target : goal.returns-in_err-target
 returns-in_err-target g c =
     let message = c.in_ok-message.ensures.ok in
-    let told : IfErr c.from_residual-in_err-target.result (λ e. TellsFault e (λ f. hole_fault (target_with c.template_of-template.result.now (map label_pair c.as_slice.result.now) c.as_str.result.now) ≡ Some f)) = search rules in
+    let told : IfErr c.from_residual-in_err-target.result (λ e. TellsFault e (λ f. filled_fault (target_with c.template_of-template.result.now (map label_pair c.as_slice.result.now) c.as_str.result.now) ≡ Some f)) = search rules in
     Answers-err c.from_residual-in_err-target.result _ _ (search rules)
-    (λ f e. answer-hole _ (schema_of c.args.plan.schema) _ c.args.plan.endpoint.now _ _ _ message.faultless message.labels message.query f
+    (λ f e. answer-filled _ (schema_of c.args.plan.schema) _ c.args.plan.endpoint.now _ _ _ message.faultless message.labels message.query f
     (rw (c.template_of-template.ensures, c.as_slice.ensures.value, c.as_str.ensures.value) at e)) told
 
 pub request_with-requires : goal.request_with-requires

@@ -1,4 +1,4 @@
-use Rattle.smithy_binding.proofs.Common.{ap, sym, ◌∙◌, IfOk-weaker, hole_fault, filled_by, pieces}
+use Rattle.smithy_binding.proofs.Common.{ap, sym, ◌∙◌, IfOk-weaker, filled_fault, filled_by, pieces}
 use Rattle.smithy_binding.proofs.Refusals.{IfErr-then}
 use Rattle.smithy_binding.proofs.target.fill.Goals as goal
 
@@ -12,4 +12,4 @@ pub returns-clause-err : goal.returns-clause-err
 returns-clause-err c =
     let template = c.args.template.now in
     let same = sym (ap (λ texts. filled_by texts (pieces template)) c.in_ok-texts.ensures) in
-    IfErr-then c.fill_by.result _ _ (λ f e. ap hole_fault same ∙ e) c.fill_by.ensures.err
+    IfErr-then c.fill_by.result _ _ (λ f e. ap filled_fault same ∙ e) c.fill_by.ensures.err

@@ -1,5 +1,5 @@
-use Rattle.smithy_binding.proofs.Common.{rules, ◌≡◌, refl, Some, IfErr, map, pieces, hole_fault, fill, TellsFault, label_pair, target_behind}
-use Rattle.smithy_binding.proofs.Fills.{hole-given}
+use Rattle.smithy_binding.proofs.Common.{rules, ◌≡◌, refl, Some, IfErr, map, pieces, filled_fault, fill, TellsFault, label_pair}
+use Rattle.smithy_binding.proofs.Fills.{filled-given}
 use Rattle.smithy_binding.proofs.Refusals.{IfErr-then}
 use Rattle.smithy_binding.proofs.target.whole_target.Goals as goal
 
@@ -9,5 +9,5 @@ returns-clause-ok c = rw (c.in_ok-target.ensures.ok, c.in_ok-push_query.ensures)
 pub returns-in_err-target-clause-err : goal.returns-in_err-target-clause-err
 returns-in_err-target-clause-err c =
     let filled = fill (pieces c.args.template.now) (map label_pair c.args.labels.now) in
-    let told : IfErr c.from_residual.result (λ e. TellsFault e (λ f. hole_fault filled ≡ Some f)) = search rules in
-    IfErr-then c.from_residual.result _ _ (λ f e. hole-given filled (λ path. target_behind path c.args.query.now) f e) told
+    let told : IfErr c.from_residual.result (λ e. TellsFault e (λ f. filled_fault filled ≡ Some f)) = search rules in
+    IfErr-then c.from_residual.result _ _ (λ f e. filled-given filled c.args.query.now f e) told
