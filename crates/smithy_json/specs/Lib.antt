@@ -1,6 +1,8 @@
 pub mod FromData
 pub mod FromText
 pub mod Integers
+pub mod JsonEnd
+pub mod NextPlaces
 pub mod Ordered
 pub mod PutMembers
 pub mod Reads
