@@ -1,6 +1,5 @@
 -- The job of a JSON value, from its parts.
 use Rattle.std.proofs.Common.{◌≡◌, refl, ℕ, codes, List, Option, Some, None, option_map, Result, Err}
-use Rattle.std.specs.Borrow.{Bor}
 use Rattle.serde_json.specs.Data.{Data}
 use Rattle.smithy_serde.specs.declared.header_omit_settings.OmitFlags.{OmitFlags}
 use Rattle.smithy_model.specs.Models as models

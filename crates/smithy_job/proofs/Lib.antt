@@ -4,10 +4,13 @@ pub mod CycleLemmas
 pub mod GatewayLemmas
 pub mod InputLemmas
 pub mod JobLemmas
+pub mod PlacesLead
 pub mod ReceivedLemmas
 pub mod RecoveringLemmas
+pub mod RoutedPlaces
 pub mod RoutingLemmas
 pub mod ScalarLemmas
 pub mod TableLemmas
 pub mod ValueLemmas
 pub mod WrittenLemmas
+pub mod WrongLemmas

@@ -9,6 +9,9 @@ pub mod Routing
 pub mod Scalars
 pub mod Settings
 pub mod Values
+pub mod WrongInputs
+pub mod WrongJobs
+pub mod WrongMessages
 pub mod views
 pub use Rattle.smithy_job.specs.views.GatewayView
 pub use Rattle.smithy_job.specs.views.JobView

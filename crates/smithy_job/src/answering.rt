@@ -44,8 +44,8 @@ fn three_digits(code: u16) -> Result<u16, JobError>
     }
 }
 
-// The code of a job's operation.
-fn operation_code(alloc: Global, job: &JsonValue<'_>) -> Result<u16, JobError>
+/// The code of a job's operation, three digits. Takes memory. No job where it has another.
+pub fn operation_code(alloc: Global, job: &JsonValue<'_>) -> Result<u16, JobError>
     ensures value { Reads (λ c. c) (operation_code (view job.now)) result }
     ensures digits { IfOk result (λ c. (100 ≤ c) × (c ≤ 999)) }
 {

@@ -41,7 +41,8 @@ fn sending_named(name: &str) -> Option<Sending>
     }
 }
 
-fn sending_of(job: &JsonValue<'_>) -> Option<Sending>
+/// How the input is sent on. None where it isn't said. Takes no memory.
+pub fn sending_of(job: &JsonValue<'_>) -> Option<Sending>
     ensures { result ≡ sending (view job.now) }
 {
     sending_named(text_of(job, "to")?)

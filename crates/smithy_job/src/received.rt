@@ -52,7 +52,8 @@ struct ExpectedIn<'t> {
     expected: Expected<'t>,
 }
 
-fn full_name<'t>(value: &JsonValue<'t>) -> Option<&'t str>
+/// A text that is a full name. Takes no memory.
+pub fn full_name<'t>(value: &JsonValue<'t>) -> Option<&'t str>
     ensures { option_map (λ t. t.now) result ≡ full_name_in (view value.now) }
 {
     let name = value.as_str()?;
@@ -72,8 +73,8 @@ fn names_in<'t>(alloc: Global, items: &[JsonValue<'t>]) -> Result<Vec<&'t str>, 
     Ok(names)
 }
 
-// The full names of the service's errors.
-fn service_errors<'t>(alloc: Global, job: &JsonValue<'t>) -> Result<Vec<&'t str>, JobError>
+/// The full names of the service's errors. Takes memory. No job where they are none.
+pub fn service_errors<'t>(alloc: Global, job: &JsonValue<'t>) -> Result<Vec<&'t str>, JobError>
     ensures { Reads (λ v. texts v.items) (names_given (get (codes "serviceErrors") (view job.now))) result }
 {
     let Some(names) = job.get("serviceErrors") else {

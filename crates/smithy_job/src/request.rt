@@ -13,8 +13,8 @@ use smithy_model::{JobError, text_of};
 use smithy_types::{Blob, Text, is_token};
 use std::alloc::Global;
 
-// The method, a token.
-fn method_of<'t>(request: &JsonValue<'t>) -> Option<&'t str>
+/// The method, a token. None where there is none. Takes no memory.
+pub fn method_of<'t>(request: &JsonValue<'t>) -> Option<&'t str>
     ensures value { option_map (λ t. t.now) result ≡ method_in (view request.now) }
     ensures token { IfSome result (λ t. IsTrue (is_token t.now)) }
 {

@@ -28,8 +28,8 @@ fn decoded(alloc: Global, text: &str) -> Result<Vec<u8>, JobError>
     }
 }
 
-// The bytes of a text, or of a text in base64.
-fn bytes_of(alloc: Global, value: &JsonValue<'_>) -> Result<Vec<u8>, JobError>
+/// The bytes of a text, or of a text in base64. Takes memory. No job where it is neither.
+pub fn bytes_of(alloc: Global, value: &JsonValue<'_>) -> Result<Vec<u8>, JobError>
     ensures { Reads (λ v. v.items) (bytes_in (view value.now)) result }
 {
     if let Some(text) = value.as_str() {

@@ -25,3 +25,8 @@ next_name names xs found ys r e f h =
     ∙ slice_get-map (λ t. t.now) xs (length ys)
     ∙ ap (option_map (λ t. t.now)) (sym (item_at xs (length ys) r h))
     ∙ text_at r
+
+-- the name at a position
+pub name_at : (names xs : List (Bor (List ℕ))) (i : ℕ) (r : Option (Bor (Bor (List ℕ)))) → xs ≡ names → IsItemAt xs i r → slice_get (texts names) i ≡ option_map (λ x. x.now.now) r
+name_at names xs i r e h =
+    ap (λ ns. slice_get (texts ns) i) (sym e) ∙ slice_get-map (λ t. t.now) xs i ∙ ap (option_map (λ t. t.now)) (sym (item_at xs i r h)) ∙ text_at r

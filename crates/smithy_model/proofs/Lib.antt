@@ -1,12 +1,15 @@
 pub mod Each
 pub mod FilledLemmas
+pub mod FirstPlaces
 pub mod FurtherLemmas
 pub mod Items
 pub mod Lists
 pub mod NameLemmas
 pub mod NameOrder
+pub mod NamesReached
 pub mod NoShapes
 pub mod NodeLemmas
+pub mod PointerLemmas
 pub mod ReachedLemmas
 pub mod Reading
 pub mod SpotLemmas

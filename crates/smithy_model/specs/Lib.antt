@@ -10,7 +10,10 @@ pub mod Reached
 pub mod Reads
 pub mod Shapes
 pub mod Traits
+pub mod Wrong
+pub mod WrongModels
 pub mod views
 pub use Rattle.smithy_model.specs.views.ModelView
 pub use Rattle.smithy_model.specs.views.NameView
 pub use Rattle.smithy_model.specs.views.PlacedView
+pub use Rattle.smithy_model.specs.views.WrongView

@@ -4,3 +4,4 @@ pub mod NodeView
 pub mod PlacedView
 pub mod ReachedView
 pub mod SpotView
+pub mod WrongView

@@ -74,7 +74,8 @@ fn http_of<'t>(operation: &JsonValue<'t>) -> Option<Option<HttpTrait<'t>>>
     http_among(traits)
 }
 
-fn is_operation(shape: &JsonValue<'_>) -> bool
+/// Whether a shape is an operation without mixins. Takes no memory.
+pub fn is_operation(shape: &JsonValue<'_>) -> bool
     ensures { result ≡ is_operation (view shape.now) }
 {
     let has_type = match text_of(shape, "type") {

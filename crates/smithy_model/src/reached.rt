@@ -57,8 +57,8 @@ fn meet<'t>(
     }
 }
 
-// Adds the names of the targets of these members.
-fn meet_targets<'t>(
+/// Adds the names of the targets of these members that aren't there yet, with their positions. Takes memory.
+pub fn meet_targets<'t>(
     names: &mut Vec<&'t str>,
     positions: &mut BTreeMap<&'t str, usize>,
     members: &[Member<'_, 't>],
@@ -73,8 +73,8 @@ fn meet_targets<'t>(
     Ok(())
 }
 
-// Adds these names.
-fn meet_names<'t>(
+/// Adds those of these names that aren't there yet, with their positions. Takes memory.
+pub fn meet_names<'t>(
     names: &mut Vec<&'t str>,
     positions: &mut BTreeMap<&'t str, usize>,
     more: &[&'t str],

@@ -114,8 +114,9 @@ fn members_by<'v, 't>(
     }
 }
 
+/// The kind of shapes of this type, which have a schema. Takes no memory.
 #[tactic(auto, unfolding(crate::specs::Shapes::kind_named))]
-fn kind_named(name: &str) -> Option<ShapeType>
+pub fn kind_named(name: &str) -> Option<ShapeType>
     ensures { result ≡ kind_named name.now }
 {
     match name {
@@ -143,7 +144,8 @@ fn kind_named(name: &str) -> Option<ShapeType>
     }
 }
 
-fn kind_of(shape: &JsonValue<'_>) -> Option<ShapeType>
+/// The kind of a shape that has a schema. Takes no memory.
+pub fn kind_of(shape: &JsonValue<'_>) -> Option<ShapeType>
     ensures { result ≡ kind_in (view shape.now) }
 {
     kind_named(text_of(shape, "type")?)

@@ -59,7 +59,8 @@ fn time_format_of(value: &JsonValue<'_>) -> Option<TimestampFormat>
     time_format(value.as_str()?)
 }
 
-fn has_form(id: &str, value: &JsonValue<'_>) -> bool
+/// Whether a trait's value has the form that the trait asks. Takes no memory.
+pub fn has_form(id: &str, value: &JsonValue<'_>) -> bool
     ensures { result ≡ has_form id.now (view value.now) }
 {
     if is_text_trait(id) {
@@ -178,7 +179,8 @@ pub fn traits_of<'v, 't>(shape: &'v JsonValue<'t>) -> Option<ShapeTraits<'v, 't>
     }
 }
 
-fn code_of(value: &JsonValue<'_>) -> Option<u16>
+/// The code of `@http`, 200 where there is none. None where it hasn't its form. Takes no memory.
+pub fn code_of(value: &JsonValue<'_>) -> Option<u16>
     ensures { result ≡ code_at (get (codes "code") (view value.now)) }
 {
     match value.get("code") {
