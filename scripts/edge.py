@@ -262,6 +262,7 @@ def words():
         [], [""], ["post"], ["Request"], ["request "], ["request", "request"], ["--help", "--help"], ["--"], ["-h"],
         ["generate"], ["generate", ""], ["generate", "100001"], ["generate", "0000003"], ["generate", "-1"],
         ["generate", "+3"], ["generate", "3.0"], ["generate", "3", "3"], ["generate", "٣"],
+        ["explain"], ["explain", ""], ["explain", "explain"], ["explain", "generate"], ["explain", "request", "rpc"],
         ["\udcff"], ["request\udcff"], ["request", "\udcff"], ["\udcff", "request"], ["generate", "3\udcc3"],
     ):  # fmt: skip
         yield Case(f"the words {them}", them, given, Pipe(), 1, b"", 0)
@@ -292,11 +293,15 @@ def inputs():
         ("a call that is sent on", "gateway", CALLED, 0, GOTTEN),
         ("a request of no input, sent on", "gateway", WITHOUT_LABEL, 3, NO_INPUT),
         ("a text of 40,000 bytes", "rpc", job, 0, request),
+        ("a job that is explained", "explain request", GET, 0, b"Job\n"),
+        ("no bytes, explained", "explain route", b"", 0, b"NotJson: byte 0\n"),
+        ("a job without its end, explained", "explain answer", GET[:-1], 0, b"NotJson: byte %d\n" % (len(GET) - 1)),
+        ("a job and a word, explained", "explain rpc", GET + b"x", 0, b"NotJson: byte %d\n" % len(GET)),
     ]
     for name, command, data, status, text in ends:
-        yield Case(f"{name}, by a file", [command], File(data), Pipe(), status, text, len(data))
+        yield Case(f"{name}, by a file", command.split(), File(data), Pipe(), status, text, len(data))
         for piece in (1, 4095, 4096, 4097):
-            yield Case(f"{name}, in pieces of {piece}", [command], Pieces(data, piece), Pipe(), status, text)
+            yield Case(f"{name}, in pieces of {piece}", command.split(), Pieces(data, piece), Pipe(), status, text)
 
 
 def mistakes():
@@ -368,6 +373,9 @@ def lengths():
         ("a job of 16,777,217 bytes", padded + b" ", 7, b""),
         ("a job of 20,000,000 bytes", GET.ljust(20_000_000), 7, b""),
     ):
+        line = b"Job\n" if text else b"NotJson: byte %d\n" % len(data)
+        explained = (7, b"") if status == 7 else (0, line)
+        yield Case(f"{name}, explained", ["explain", "request"], File(data), Pipe(), *explained, MOST_READ + 1)
         yield Case(f"{name}, by a file", ["request"], File(data), Pipe(), status, text, MOST_READ + 1)
         yield Case(f"{name}, by a pipe", ["request"], Pieces(data, 65_536), Pipe(), status, text)
     yield Case("bytes without an end", ["request"], Path("/dev/zero"), Pipe(), 7, b"")
@@ -375,11 +383,11 @@ def lengths():
 
 def failed_reads():
     """Standard input that can't be read, or not to its end."""
-    for command in ("request", "response", "rpc", "recover", "route", "gateway", "answer"):
-        yield Case(f"{command} of a folder", [command], Path("/"), Pipe(), 4, b"")
-        yield Case(f"{command} without standard input", [command], File(GET), Pipe(), 4, b"", None, close(0))
+    for command in ("request", "response", "rpc", "recover", "route", "gateway", "answer", "explain request"):
+        yield Case(f"{command} of a folder", command.split(), Path("/"), Pipe(), 4, b"")
+        yield Case(f"{command} without standard input", command.split(), File(GET), Pipe(), 4, b"", None, close(0))
         for data in (b"", GET[:9], GET):
-            yield Case(f"{command} that stalls behind {len(data)} bytes", [command], Stalled(data), Pipe(), 4, b"")
+            yield Case(f"{command} that stalls behind {len(data)} bytes", command.split(), Stalled(data), Pipe(), 4, b"")
     yield Case("generate 3 beside a folder", ["generate", "3"], Path("/"), Pipe(), 0, generated(3))
 
 
@@ -393,6 +401,7 @@ def failed_writes():
         ("an input", ["recover"], GET),
         ("an operation and an input", ["route"], GET),
         ("a request that is sent on", ["gateway"], GET),
+        ("the line of a job", ["explain", "request"], GET),
         ("a text of 40,000 bytes", ["rpc"], job),
         ("generate 3", ["generate", "3"], b""),
         ("--help", ["--help"], b""),
@@ -417,9 +426,9 @@ def failed_writes():
 
 def without_memory():
     """An input for which there is not enough memory."""
-    for command in ("request", "response", "rpc", "recover", "route", "gateway", "answer"):
+    for command in ("request", "response", "rpc", "recover", "route", "gateway", "answer", "explain request"):
         first = limit(resource.RLIMIT_AS, MOST_READ)
-        yield Case(f"{command} without memory", [command], File(GET.ljust(MOST_READ)), Pipe(), 6, b"", None, first)
+        yield Case(f"{command} without memory", command.split(), File(GET.ljust(MOST_READ)), Pipe(), 6, b"", None, first)
 
 
 # How a case ends.

@@ -26,10 +26,13 @@ PROGRAM = pathlib.Path("crates") / "smithy_bind_program"
 # file with a job, or a terminal that one is typed on.
 Case = collections.namedtuple("Case", "name words called where tools status text said terminal", defaults=(False,))
 
-# It writes what it reads, and ends with the status that ENDS names.
-MADE_PROGRAM = '#!/bin/sh\ncat\nexit "$ENDS"\n'
-# As `rt try`, of a program that writes what it reads.
-MADE_TOOLCHAIN = '#!/bin/sh\n[ "$1" = try ] || exit 9\ncat\necho "run=ended status=$ENDS" >&2\nexit "$ENDS"\n'
+# It writes what it reads, and ends with the status that ENDS names; `explain` names its command before that, and ends with 0.
+MADE_PROGRAM = '#!/bin/sh\nif [ "$1" = explain ]; then ENDS=0; printf "%s of " "$2"; fi\ncat\nexit "$ENDS"\n'
+# As `rt try`, of such a program.
+MADE_TOOLCHAIN = (
+    '#!/bin/sh\n[ "$1" = try ] && shift && shift || exit 9\n'
+    'if [ "$1" = explain ]; then ENDS=0; printf "%s of " "$2"; fi\ncat\necho "run=ended status=$ENDS" >&2\nexit "$ENDS"\n'
+)
 NO_TOOLCHAIN = "#!/bin/sh\nexit 9\n"
 
 JOB = b'{"a job": [1, 2]}\n'
@@ -76,16 +79,19 @@ def usage():
     return [*map(re.escape, lines), "smithy_bind: --help tells what each does"]
 
 
-def why(status, folder):
+def why(status, command, folder):
     """The lines of standard error where a command ends with this status."""
     lines = {
-        2: rf"smithy_bind: status 2: no job of \w+, or .* not checked: see '.*' in {re.escape(str(folder))}/docs/JOBS.md",
-        4: "smithy_bind: status 4: reading .*",
-        5: "smithy_bind: status 5: writing .*",
-        6: "smithy_bind: status 6: .* memory",
-        7: "smithy_bind: status 7: .* 16,777,216 bytes",
+        2: [
+            rf"smithy_bind: status 2: {command} of {re.escape(JOB.decode().strip())}",
+            rf"smithy_bind: see '.*' in {re.escape(str(folder))}/docs/JOBS.md",
+        ],
+        4: ["smithy_bind: status 4: reading .*"],
+        5: ["smithy_bind: status 5: writing .*"],
+        6: ["smithy_bind: status 6: .* memory"],
+        7: ["smithy_bind: status 7: .* 16,777,216 bytes"],
     }
-    return [lines[status]] if status in lines else []
+    return lines.get(status, [])
 
 
 def texts(clone, tools):
@@ -99,6 +105,7 @@ def texts(clone, tools):
         [""], ["post"], ["Request"], ["requests"], ["request", "request"], ["--help", "--help"], ["--"], ["a b"], ["*"],
         ["generate"], ["generate", ""], ["generate", "100001"], ["generate", "0000003"], ["generate", "-1"],
         ["generate", "3.0"], ["generate", "3", "3"], ["request < JOB"],
+        ["explain"], ["explain", ""], ["explain", "explain"], ["explain", "generate"], ["explain", "request", "rpc"],
     ):  # fmt: skip
         said = [re.escape(f"smithy_bind: no command: {' '.join(words)}"), *usage()]
         yield Case(f"the words {words}", words, clone.script, "/", tools, 1, b"", said)
@@ -126,7 +133,8 @@ def statuses(clone, tools):
     """What is said where the program ends with a status."""
     for command in COMMANDS:
         for status in range(8):
-            yield Case(f"{command} that ends with {status}", [command], clone.script, "/", tools, status, JOB, why(status, clone.folder))
+            yield Case(f"{command} that ends with {status}", [command], clone.script, "/", tools, status, JOB, why(status, command, clone.folder))
+        yield Case(f"explain {command}", ["explain", command], clone.script, "/", tools, 0, f"{command} of ".encode() + JOB, [])
     for count in ("0", "000003", "100000"):
         yield Case(f"generate {count}", ["generate", count], clone.script, "/", tools, 0, None, [])
     said = ["smithy_bind: the proved build is newer .*"]
@@ -140,7 +148,8 @@ def unproved(clone, tools):
     """The same without a program, by a made toolchain."""
     note = ["smithy_bind: there is no proved build .*", "smithy_bind: more .*", "smithy_bind: which compiles .*"]
     for status in range(8):
-        said = [*note, *why(status, clone.folder)]
+        second = ["smithy_bind: status 2: a second run .*"] if status == 2 else []
+        said = [*note, *second, *why(status, "request", clone.folder)]
         yield Case(f"an unproved run that ends with {status}", ["request"], clone.script, "/", tools, status, JOB, said)
 
 

@@ -4,8 +4,10 @@ use Rattle.std.specs.Option.{option_map_or}
 use Rattle.std.specs.Str.Parse.{digits_value}
 use Rattle.smithy_types.specs.BigNumbers.{are_digits}
 use Rattle.smithy_model.specs.Names.{is}
+use Rattle.smithy_job.specs.declared.job_kind.JobKind.{JobKind}
+use Rattle.smithy_job.specs.declared.job_kind.JobKind.TheVariants as kind
 use Rattle.smithy_bind.specs.declared.command.Command.{Command}
-use Rattle.smithy_bind.specs.declared.command.Command.TheVariants.{Request, Response, Rpc, Recover, Route, Gateway, Answer, Generate, Help, Version}
+use Rattle.smithy_bind.specs.declared.command.Command.TheVariants.{Request, Response, Rpc, Recover, Route, Gateway, Answer, Explain, Generate, Help, Version}
 
 -- the commands that are one word
 abbrev pub named : List (List ℕ × Command)
@@ -21,28 +23,56 @@ named =
     ∷ (codes "--version", Version)
     ∷ []
 
+-- the commands of a job, each as `explain` names it
+abbrev pub jobs : List (List ℕ × JobKind)
+jobs =
+    (codes "request", kind.Request)
+    ∷ (codes "rpc", kind.Rpc)
+    ∷ (codes "response", kind.Response)
+    ∷ (codes "recover", kind.Recover)
+    ∷ (codes "route", kind.Route)
+    ∷ (codes "gateway", kind.Gateway)
+    ∷ (codes "answer", kind.Answer)
+    ∷ []
+
 -- the first of these that the word names
-abbrev pub named_in : List (List ℕ × Command) → List ℕ → Option Command
+abbrev pub named_in : {A : Type 0} → List (List ℕ × A) → List ℕ → Option A
 named_in [] word = None
 named_in (c ∷ cs) word = if is word c.0 then Some c.1 else named_in cs word
 
 abbrev pub command_named : List ℕ → Option Command
 command_named word = named_in named word
 
+abbrev pub job_named : List ℕ → Option JobKind
+job_named word = named_in jobs word
+
 -- one to six digits that write at most 100,000
 unfoldable pub count_of : List ℕ → Option ℕ
 count_of word =
     if are_digits word && nat_le (length word) 6 && nat_le (digits_value 10 word) 100000 then Some (digits_value 10 word) else None
 
--- the command of a word with a count behind it
-abbrev pub counted : List ℕ → List ℕ → Option Command
-counted word count = if is word (codes "generate") then option_map Generate (count_of count) else None
+-- the command of a word with a count, or with the command of a job, behind it
+abbrev pub command_with : List ℕ → List ℕ → Option Command
+command_with word further =
+    if is word (codes "generate") then option_map Generate (count_of further)
+    else if is word (codes "explain") then option_map Explain (job_named further)
+    else None
 
--- the command that the words are, one word each, but for a count
+-- the command that the words are, of one word or of two
 abbrev pub command_of : List (List ℕ) → Option Command
 command_of (word ∷ []) = command_named word
-command_of (word ∷ count ∷ []) = counted word count
+command_of (word ∷ further ∷ []) = command_with word further
 command_of _ = None
+
+-- the command of a job
+abbrev pub command_for : JobKind → Command
+command_for kind.Request = Request
+command_for kind.Rpc = Rpc
+command_for kind.Response = Response
+command_for kind.Recover = Recover
+command_for kind.Route = Route
+command_for kind.Gateway = Gateway
+command_for kind.Answer = Answer
 
 -- the command reads its input
 abbrev pub reads_input : Command → Bool

@@ -23,6 +23,7 @@ use Rattle.smithy_gateway.specs.Calls.{Calling}
 use Rattle.smithy_bind.specs.Shown.{shown}
 use Rattle.smithy_bind.specs.Commands.{command_of, reads_input}
 use Rattle.smithy_bind.specs.Told.{Outcome, usage, no_job, output, told_by, outcome_of, by_json}
+use Rattle.smithy_bind.specs.Explaining.{line_of_value, not_json}
 use Rattle.smithy_bind.specs.Gateway.{gatewayed_by}
 use Rattle.smithy_bind.specs.Recovering.{recovered_by}
 use Rattle.smithy_bind.specs.Responding.{responded_to}
@@ -124,13 +125,23 @@ answer_to bodies command.Recover d = recovered_to d
 answer_to bodies command.Route d = routed_to d
 answer_to bodies command.Gateway d = gatewayed_to d
 answer_to bodies command.Answer d = served_to bodies d
+answer_to bodies (command.Explain kind) d = output (line_of_value kind d)
 answer_to bodies (command.Generate n) d = generated_by bodies n
 answer_to bodies command.Help d = output help_text
 answer_to bodies command.Version d = output version_text
 
+-- What a command answers to bytes that are no JSON: they are no job, which `explain` tells.
+abbrev pub unread : Command → List ℕ → Outcome
+unread (command.Explain kind) bytes = output (not_json bytes)
+unread _ bytes = no_job
+
+-- what a command that reads its input answers to the bytes of it
+abbrev pub answer_read : Protocol → Command → List ℕ → Outcome
+answer_read bodies c bytes = by_json (answer_to bodies c) (unread c bytes) bytes
+
 -- what a command answers to the bytes of its input
 abbrev pub answer_over : Protocol → Command → List ℕ → Outcome
-answer_over bodies c bytes = if reads_input c then by_json (answer_to bodies c) bytes else answer_to bodies c null
+answer_over bodies c bytes = if reads_input c then answer_read bodies c bytes else answer_to bodies c null
 
 abbrev pub outcome_by : Option Command → List ℕ → Outcome
 outcome_by None bytes = usage

@@ -1,5 +1,6 @@
 -- What can be told of a job.
 use Rattle.std.specs.Prelude.{ℕ, List, Option, Some, None, Result, Ok, Err}
+use Rattle.std.specs.Option.{option_map_or}
 use Rattle.serde_json.specs.Data.{Data}
 use Rattle.smithy_json.specs.FromText.{json_of}
 use Rattle.smithy_binding.specs.Faults.{Fault}
@@ -21,6 +22,6 @@ abbrev pub outcome_of : {J : Type 0} → (J → Outcome) → Option J → Outcom
 outcome_of answer None = no_job
 outcome_of answer (Some j) = answer j
 
--- what is answered to bytes, by the answer to their JSON value
-abbrev pub by_json : (Data → Outcome) → List ℕ → Outcome
-by_json answer bytes = outcome_of answer (json_of bytes)
+-- what is answered to bytes, by the answer to their JSON value, and by that to bytes that are none
+abbrev pub by_json : (Data → Outcome) → Outcome → List ℕ → Outcome
+by_json answer unread bytes = option_map_or answer (json_of bytes) unread

@@ -1,10 +1,10 @@
 // The commands as one table: what each answers to the JSON value of its input.
 ghost use Rattle.smithy_json.specs.JsonView.{view};
-ghost use Rattle.smithy_bind.specs.Outcome.{answer_to, json_bodies};
-ghost use Rattle.smithy_bind.specs.Told.{by_json};
+ghost use Rattle.smithy_bind.specs.Outcome.{answer_read, answer_to, json_bodies};
 ghost use Rattle.smithy_bind.specs.views.AnswerView.{Gives};
 
 use crate::command::Command;
+use crate::explaining::{explained, unread};
 use crate::gatewayed::gatewayed;
 use crate::generate::generated;
 use crate::recovered::recovered;
@@ -15,7 +15,7 @@ use crate::served::served;
 use crate::texts::{help, version};
 use crate::told::{Answer, said};
 use smithy_job::Sending;
-use smithy_json::{JsonValue, Scratch, read_json};
+use smithy_json::{JsonError, JsonValue, Scratch, read_json};
 use smithy_model::JobError;
 use smithy_serde::Codec;
 use std::alloc::Global;
@@ -39,6 +39,7 @@ pub fn answer<C: Codec + Drop>(
         Command::Route => routed(alloc, value),
         Command::Gateway => gatewayed(alloc, value),
         Command::Answer => served(alloc, codec, value),
+        Command::Explain(kind) => explained(alloc, kind, value),
         Command::Generate(count) => generated(alloc, codec, count),
         Command::Help => said(alloc, help()),
         Command::Version => said(alloc, version()),
@@ -46,7 +47,7 @@ pub fn answer<C: Codec + Drop>(
 }
 
 /// The same to the bytes of a job, whose texts with escapes are written to the scratch. No job also where they are no JSON in
-/// UTF-8 (RFC 8259).
+/// UTF-8 (RFC 8259), but for `explain`, which tells that.
 pub fn answer_text<C: Codec + Drop>(
     alloc: Global,
     scratch: &mut Scratch,
@@ -55,8 +56,11 @@ pub fn answer_text<C: Codec + Drop>(
     bytes: &[u8],
 ) -> Result<Answer, JobError>
     requires { C.lawful codec }
-    ensures { Gives (by_json (answer_to (json_bodies (C.text codec)) command) bytes.now) result }
+    ensures { Gives (answer_read (json_bodies (C.text codec)) command bytes.now) result }
 {
-    let value = read_json(alloc, bytes, scratch)?;
-    answer(alloc, command, codec, &value)
+    match read_json(alloc, bytes, scratch) {
+        Ok(value) => answer(alloc, command, codec, &value),
+        Err(JsonError::Unreadable) => unread(alloc, command, bytes),
+        Err(JsonError::OutOfMemory) => Err(JobError::OutOfMemory),
+    }
 }

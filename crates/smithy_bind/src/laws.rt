@@ -1,6 +1,7 @@
 //! What follows from the contracts of this crate.
 
 ghost use Rattle.std.specs.Prelude.{◌≡◌, [], Some};
+ghost use Rattle.smithy_bind.specs.Explained.{ExplainIsExact};
 ghost use Rattle.smithy_bind.specs.Runs.{RanInMemory};
 
 use crate::ended::Status;
@@ -22,3 +23,10 @@ pub fn run_in_memory(
 {
     run(alloc, words, source, sink)
 }
+
+/// `explain` tells of bytes that they are a job exactly where the command that it is about doesn't end with `Status::Job` over them,
+/// and that they are no JSON exactly where no value is read of them.
+#[tactic(auto, using(crate::proofs::ExplainedLaws::explains))]
+pub fn explain_is_exact()
+    ensures { ExplainIsExact }
+{}

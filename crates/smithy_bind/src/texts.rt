@@ -13,6 +13,7 @@ Usage: smithy_bind request < JOB
        smithy_bind route < JOB
        smithy_bind gateway < JOB
        smithy_bind answer < JOB
+       smithy_bind explain COMMAND < JOB
        smithy_bind generate N
        smithy_bind --help
        smithy_bind --version
@@ -38,6 +39,11 @@ no input has it, it writes one line that says so.
 `answer` reads a job with an output, and writes the response: a line of the
 status, a line for each header, an empty line, and the body. Where the output
 can't be written, it writes one line that says why.
+`explain` reads what is to be the job of one of these commands, and writes one
+line: `Job` where it is one. Where the command would end with 2 that is
+`NotJson`, with the place of the first byte that can't stand there, counted from
+0; `NotChecked`, with the rule that the schema breaks; or `NoJob`, with a JSON
+Pointer to the first place that has not the form asked, and what is asked there.
 `generate` reads nothing: it makes the request of an input of N numbers, N from
 0 to 100000, and writes its target, the number of its headers, the length of
 its body and the sum of the body's bytes, each in a line.

@@ -4,7 +4,7 @@
 ghost use Rattle.std.specs.Prelude.{◌≡◌};
 ghost use Rattle.smithy_bind_c.specs.Buffers.{Answers, filled};
 
-use smithy_bind::{Command, answer_bytes};
+use smithy_bind::{Command, JobKind, answer_bytes};
 use std::alloc::Global;
 
 /// The HTTP request of a job's input by AWS restJson1, or the line of its first fault: the text that the program's
@@ -107,6 +107,134 @@ pub extern "C" fn smithy_bind_answer(
     ensures { Answers Command.Answer job.now result text_len.new text.old text.new }
 {
     answer_into(alloc, Command::Answer, job, text, text_len)
+}
+
+/// Whether the bytes are a job of the command `request`, or why they are none: the line that the program's command
+/// `explain request` writes. What it answers and leaves is as `smithy_bind_request` says. Takes memory.
+#[unsafe(no_mangle)]
+pub extern "C" fn smithy_bind_explain_request(
+    alloc: Global,
+    job: &[u8],
+    text: &mut [u8],
+    text_len: &mut usize,
+) -> u8
+    ensures { Answers (Command.Explain JobKind.Request) job.now result text_len.new text.old text.new }
+{
+    answer_into(
+        alloc,
+        Command::Explain(JobKind::Request),
+        job,
+        text,
+        text_len,
+    )
+}
+
+/// The same of the command `rpc`: the line that `explain rpc` writes. What it answers and leaves is as
+/// `smithy_bind_request` says. Takes memory.
+#[unsafe(no_mangle)]
+pub extern "C" fn smithy_bind_explain_rpc(
+    alloc: Global,
+    job: &[u8],
+    text: &mut [u8],
+    text_len: &mut usize,
+) -> u8
+    ensures { Answers (Command.Explain JobKind.Rpc) job.now result text_len.new text.old text.new }
+{
+    answer_into(alloc, Command::Explain(JobKind::Rpc), job, text, text_len)
+}
+
+/// The same of the command `response`: the line that `explain response` writes. What it answers and leaves is as
+/// `smithy_bind_request` says. Takes memory.
+#[unsafe(no_mangle)]
+pub extern "C" fn smithy_bind_explain_response(
+    alloc: Global,
+    job: &[u8],
+    text: &mut [u8],
+    text_len: &mut usize,
+) -> u8
+    ensures { Answers (Command.Explain JobKind.Response) job.now result text_len.new text.old text.new }
+{
+    answer_into(
+        alloc,
+        Command::Explain(JobKind::Response),
+        job,
+        text,
+        text_len,
+    )
+}
+
+/// The same of the command `recover`: the line that `explain recover` writes. What it answers and leaves is as
+/// `smithy_bind_request` says. Takes memory.
+#[unsafe(no_mangle)]
+pub extern "C" fn smithy_bind_explain_recover(
+    alloc: Global,
+    job: &[u8],
+    text: &mut [u8],
+    text_len: &mut usize,
+) -> u8
+    ensures { Answers (Command.Explain JobKind.Recover) job.now result text_len.new text.old text.new }
+{
+    answer_into(
+        alloc,
+        Command::Explain(JobKind::Recover),
+        job,
+        text,
+        text_len,
+    )
+}
+
+/// The same of the command `route`: the line that `explain route` writes. What it answers and leaves is as
+/// `smithy_bind_request` says. Takes memory.
+#[unsafe(no_mangle)]
+pub extern "C" fn smithy_bind_explain_route(
+    alloc: Global,
+    job: &[u8],
+    text: &mut [u8],
+    text_len: &mut usize,
+) -> u8
+    ensures { Answers (Command.Explain JobKind.Route) job.now result text_len.new text.old text.new }
+{
+    answer_into(alloc, Command::Explain(JobKind::Route), job, text, text_len)
+}
+
+/// The same of the command `gateway`: the line that `explain gateway` writes. What it answers and leaves is as
+/// `smithy_bind_request` says. Takes memory.
+#[unsafe(no_mangle)]
+pub extern "C" fn smithy_bind_explain_gateway(
+    alloc: Global,
+    job: &[u8],
+    text: &mut [u8],
+    text_len: &mut usize,
+) -> u8
+    ensures { Answers (Command.Explain JobKind.Gateway) job.now result text_len.new text.old text.new }
+{
+    answer_into(
+        alloc,
+        Command::Explain(JobKind::Gateway),
+        job,
+        text,
+        text_len,
+    )
+}
+
+/// The same of the command `answer`: the line that `explain answer` writes. What it answers and leaves is as
+/// `smithy_bind_request` says. Takes memory.
+#[unsafe(no_mangle)]
+pub extern "C" fn smithy_bind_explain_answer(
+    alloc: Global,
+    job: &[u8],
+    text: &mut [u8],
+    text_len: &mut usize,
+) -> u8
+    ensures { Answers (Command.Explain JobKind.Answer) job.now result text_len.new text.old text.new }
+{
+    answer_into(
+        alloc,
+        Command::Explain(JobKind::Answer),
+        job,
+        text,
+        text_len,
+    )
 }
 
 // Answers the command: the code of its end, the length of its text, and the text where it fits.

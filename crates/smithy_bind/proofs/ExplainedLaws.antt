@@ -1,0 +1,283 @@
+-- What `explain` tells is exact.
+use Rattle.std.proofs.Common.{◌≡◌, ◌≢◌, ◌↔◌, refl, sym, ap, subst, ◌∙◌, arith, ℕ, List, [], ◌∷◌, get_or, Bool, true, false, cond, ◌&&◌, IsTrue, Option, Some, None, option_map, option_and_then, Result, Ok, Err, if◌then◌else◌}
+use Rattle.std.specs.Option.{option_map_or, option_or}
+use Rattle.std.proofs.lemmas.Bool.{and_parts}
+use Rattle.serde_json.specs.Data.{Data}
+use Rattle.smithy_json.specs.FromText.{json_of}
+use Rattle.smithy_types.specs.Documents.{Document}
+use Rattle.smithy_types.specs.Texts.{same_text}
+use Rattle.smithy_http.specs.Requests.{Request}
+use Rattle.smithy_http.specs.Responses.{Response}
+use Rattle.smithy_http.specs.declared.non_utf8.NonUtf8HeaderHandling.{NonUtf8HeaderHandling}
+use Rattle.smithy_schema.specs.Nodes.{Schema}
+use Rattle.smithy_serde.specs.DocumentOf.{DocumentFault}
+use Rattle.smithy_serde.specs.Values.{Value, Write}
+use Rattle.smithy_serde.specs.declared.error.SerdeError.{SerdeError}
+use Rattle.smithy_serde.specs.declared.header_omit_settings.OmitFlags.{OmitFlags}
+use Rattle.smithy_document.specs.JsonText.{json_text}
+use Rattle.smithy_binding.specs.Broken.{Broken, broken_input, broken_output}
+use Rattle.smithy_binding.specs.Checked.{checked_input}
+use Rattle.smithy_binding.specs.CheckedOutput.{checked_output}
+use Rattle.smithy_binding.specs.Faults.{Fault}
+use Rattle.smithy_binding.specs.Placing.{Protocol}
+use Rattle.smithy_binding.proofs.BrokenLaws.{broken_input_iff, broken_output_iff}
+use Rattle.smithy_recovery.specs.Recovered.{Reading, recovered}
+use Rattle.smithy_response.specs.ResponseValue.{value_of_response}
+use Rattle.smithy_router.specs.Tables.{Entry}
+use Rattle.smithy_model.specs.Wrong.{Wrong}
+use Rattle.smithy_job.specs.Answering.{Answering, answering}
+use Rattle.smithy_job.specs.Gateway.{Gateway, gateway}
+use Rattle.smithy_job.specs.Jobs as jobs
+use Rattle.smithy_job.specs.Jobs.{Job, Received, job, received}
+use Rattle.smithy_job.specs.Recovering.{Recovering, recovering}
+use Rattle.smithy_job.specs.Routing.{Operation, Routing, routing}
+use Rattle.smithy_job.specs.WrongJobs.{wrong_in_job}
+use Rattle.smithy_job.specs.declared.job_kind.JobKind.{JobKind}
+use Rattle.smithy_job.specs.declared.job_kind.JobKind.TheVariants as kind
+use Rattle.smithy_bind.specs.Commands.{command_for}
+use Rattle.smithy_bind.specs.Explained.{Explains}
+use Rattle.smithy_bind.specs.Explaining.{broken_expected, broken_operation, explained, job_line, line_of_rule, line_of_value, not_checked, not_job, not_json, rule_in}
+use Rattle.smithy_bind.specs.Gateway.{gatewayed_by, shown_request}
+use Rattle.smithy_bind.specs.Outcome.{answer_to, answered, called, gatewayed_job, gatewayed_to, json_bodies, json_reading, json_requests, outcome_by, recovered_job, recovered_to, routed_to, sent_job, served_to}
+use Rattle.smithy_bind.specs.Recovering.{recovered_by, shown_input}
+use Rattle.smithy_bind.specs.Responding.{behind_name, body_held, error_of, read_as, read_by, read_found, read_received, responded_to, shown_document, shown_value}
+use Rattle.smithy_bind.specs.Routing.{are_checked, found_or_refused, no_route, operation_found, operation_named, routed_by, told_input, with_operations}
+use Rattle.smithy_bind.specs.Serving.{served_by, served_job}
+use Rattle.smithy_bind.specs.Shown.{shown, shown_response}
+use Rattle.smithy_bind.specs.Told.{Outcome, usage, no_job, fault_line, output, told_by, outcome_of}
+
+-- ---- the lines differ
+
+other_first : (a b : List ℕ) (i x y : ℕ) → get_or a i 0 ≡ x → get_or b i 0 ≡ y → (x ≡ y → ⊥) → a ≢ b
+other_first a b i x y at_a at_b differ same = differ (sym at_a ∙ ap (λ (xs : List ℕ). get_or xs i 0) same ∙ at_b)
+
+rule_is_no_job : (b : Broken) → not_checked b ≢ job_line
+rule_is_no_job b = other_first (not_checked b) job_line 0 78 74 refl refl (λ e. omega (arith, e))
+
+wrong_is_no_job : (w : Wrong) → not_job w ≢ job_line
+wrong_is_no_job w = other_first (not_job w) job_line 0 78 74 refl refl (λ e. omega (arith, e))
+
+json_is_no_job : (bytes : List ℕ) → not_json bytes ≢ job_line
+json_is_no_job bytes = other_first (not_json bytes) job_line 0 78 74 refl refl (λ e. omega (arith, e))
+
+rule_is_json : (b : Broken) (bytes : List ℕ) → not_checked b ≢ not_json bytes
+rule_is_json b bytes = other_first (not_checked b) (not_json bytes) 3 67 74 refl refl (λ e. omega (arith, e))
+
+wrong_is_json : (w : Wrong) (bytes : List ℕ) → not_job w ≢ not_json bytes
+wrong_is_json w bytes = other_first (not_job w) (not_json bytes) 2 74 116 refl refl (λ e. omega (arith, e))
+
+told_is_json : (rule : Option (Option Broken)) (w : Wrong) (bytes : List ℕ) → option_map_or line_of_rule rule (not_job w) ≢ not_json bytes
+told_is_json None w bytes = wrong_is_json w bytes
+told_is_json (Some None) w bytes = other_first job_line (not_json bytes) 0 74 78 refl refl (λ e. omega (arith, e))
+told_is_json (Some (Some b)) w bytes = rule_is_json b bytes
+
+-- ---- outcomes of jobs
+
+-- it is told of a job
+abbrev accepts : Outcome → Bool
+accepts usage = true
+accepts no_job = false
+accepts (fault_line line) = true
+accepts (output text) = true
+
+-- it is a job exactly where it is not answered that it is none
+abbrev Agrees : List ℕ → Outcome → Type 0
+Agrees line o = line ≡ job_line ↔ o ≢ no_job
+
+both : (line : List ℕ) (o : Outcome) → line ≡ job_line → accepts o ≡ true → Agrees line o
+both line o is accepted = ((λ _ none. let e : true ≡ false = sym accepted ∙ ap accepts none in absurd (cc e)), (λ _. is))
+
+neither : (line : List ℕ) (o : Outcome) → line ≢ job_line → o ≡ no_job → Agrees line o
+neither line o not is = ((λ h. absurd (not h)), (λ h. absurd (h is)))
+
+by_check : (rule : Option Broken) (checked : Bool) (o : Outcome) → (rule ≡ None ↔ IsTrue checked) → accepts o ≡ true → Agrees (line_of_rule rule) (if checked then o else no_job)
+by_check None true o same accepted = both job_line o refl accepted
+by_check None false o same accepted = let e : false ≡ true = same.0 refl in absurd (cc e)
+by_check (Some b) true o same accepted = let e : Some b ≡ None = same.1 refl in absurd (cc e)
+by_check (Some b) false o same accepted = neither (not_checked b) no_job (rule_is_no_job b) refl
+
+told_accepted : {A : Type 0} (show : A → List ℕ) (made : Result A Fault) → accepts (told_by show made) ≡ true
+told_accepted show (Ok x) = refl
+told_accepted show (Err f) = refl
+
+document_accepted : (made : Result Document DocumentFault) → accepts (shown_document made) ≡ true
+document_accepted (Ok d) = refl
+document_accepted (Err f) = refl
+
+value_accepted : (made : Result Value SerdeError) → accepts (shown_value made) ≡ true
+value_accepted (Ok v) = document_accepted _
+value_accepted (Err e) = refl
+
+input_accepted : (made : Option (List Write)) → accepts (shown_input made) ≡ true
+input_accepted (Some ws) = document_accepted _
+input_accepted None = refl
+
+request_accepted : (made : Option Request) → accepts (shown_request made) ≡ true
+request_accepted (Some q) = refl
+request_accepted None = refl
+
+named_accepted : (name : List ℕ) (o : Outcome) → accepts (behind_name name o) ≡ accepts o
+named_accepted name usage = refl
+named_accepted name no_job = refl
+named_accepted name (fault_line line) = refl
+named_accepted name (output text) = refl
+
+-- behind a name it is refused where it is without it
+by_named_check : (name : List ℕ) (rule : Option Broken) (checked : Bool) (o : Outcome) → (rule ≡ None ↔ IsTrue checked) → accepts o ≡ true
+    → Agrees (line_of_rule rule) (behind_name name (if checked then o else no_job))
+by_named_check name None true o same accepted = both job_line (behind_name name o) refl (named_accepted name o ∙ accepted)
+by_named_check name None false o same accepted = let e : false ≡ true = same.0 refl in absurd (cc e)
+by_named_check name (Some b) true o same accepted = let e : Some b ≡ None = same.1 refl in absurd (cc e)
+by_named_check name (Some b) false o same accepted = neither (not_checked b) no_job (rule_is_no_job b) refl
+
+-- ---- each kind of job
+
+-- what is told of a job, or that a value is none
+abbrev line_by : Option (Option Broken) → Wrong → List ℕ
+line_by rule w = option_map_or line_of_rule rule (not_job w)
+
+of_sent : (bodies : Protocol) (o : Option Job) (w : Wrong) → Agrees (line_by (option_map (λ j. broken_input j.schema) o) w) (outcome_of (answered bodies) o)
+unfolding answered
+of_sent bodies None w = neither _ _ (wrong_is_no_job w) refl
+of_sent bodies (Some j) w = by_check (broken_input j.schema) (checked_input j.schema) _ (broken_input_iff j.schema) (told_accepted shown _)
+
+of_posted : (bodies : Protocol) (o : Option Job) (w : Wrong) → Agrees (line_by (option_map (λ j. None) o) w) (outcome_of (called bodies) o)
+unfolding called
+of_posted bodies None w = neither _ _ (wrong_is_no_job w) refl
+of_posted bodies (Some j) w = both _ _ refl (told_accepted shown _)
+
+of_recovering : (o : Option Recovering) (w : Wrong) → Agrees (line_by (option_map (λ j. broken_input j.schema) o) w) (outcome_of recovered_job o)
+unfolding recovered_by
+of_recovering None w = neither _ _ (wrong_is_no_job w) refl
+of_recovering (Some j) w =
+    let input = recovered (json_reading j.schema j.endpoint) j.omit j.request in by_check (broken_input j.schema) (checked_input j.schema) (shown_input input) (broken_input_iff j.schema) (input_accepted input)
+
+of_gateway : (o : Option Gateway) (w : Wrong) → Agrees (line_by (option_map (λ j. broken_input j.recovering.schema) o) w) (outcome_of gatewayed_job o)
+unfolding gatewayed_by
+of_gateway None w = neither _ _ (wrong_is_no_job w) refl
+of_gateway (Some j) w = by_check (broken_input j.recovering.schema) (checked_input j.recovering.schema) _ (broken_input_iff j.recovering.schema) (request_accepted _)
+
+of_answering : (bodies : Protocol) (o : Option Answering) (w : Wrong) → Agrees (line_by (option_map (λ j. broken_output j.output.schema) o) w) (outcome_of (served_job bodies) o)
+unfolding served_by
+of_answering bodies None w = neither _ _ (wrong_is_no_job w) refl
+of_answering bodies (Some j) w = by_check (broken_output j.output.schema) (checked_output j.output.schema) _ (broken_output_iff j.output.schema) (told_accepted shown_response _)
+
+-- the schema of each operation is checked where none breaks a rule
+operations_iff : (os : List Operation) → broken_operation os ≡ None ↔ IsTrue (are_checked os)
+operations_iff [] = ((λ _. refl), (λ _. refl))
+operations_iff (o ∷ os) = go (broken_input o.schema) (checked_input o.schema) (broken_input_iff o.schema) (operations_iff os)
+  where
+    go : (rule : Option Broken) (checked : Bool) → (rule ≡ None ↔ IsTrue checked) → (broken_operation os ≡ None ↔ IsTrue (are_checked os))
+        → option_or rule (broken_operation os) ≡ None ↔ IsTrue (checked && are_checked os)
+    go None true same rest = rest
+    go None false same rest = let e : false ≡ true = same.0 refl in absurd (cc e)
+    go (Some b) true same rest = let e : Some b ≡ None = same.1 refl in absurd (cc e)
+    go (Some b) false same rest = ((λ e. absurd (cc e)), (λ e. absurd (cc e)))
+
+-- by a checked schema a request's input is told, or that there is none
+recovered_accepted : (r : Reading) (omit : OmitFlags) (q : Request) → checked_input r.schema ≡ true → accepts (recovered_by r omit q) ≡ true
+unfolding recovered_by
+recovered_accepted r omit q is = ap (λ (t : Bool). accepts (if t then shown_input (recovered r omit q) else no_job)) is ∙ input_accepted (recovered r omit q)
+
+-- an operation that is found by its name is one of them
+named_checked : (os : List Operation) (name : List ℕ) (o : Operation) → operation_named os name ≡ Some o → are_checked os ≡ true → checked_input o.schema ≡ true
+named_checked [] name o found all = absurd (cc found)
+named_checked (x ∷ os) name o found all =
+    let parts = and_parts (checked_input x.schema) (are_checked os) all in go (same_text x.name name) found parts.0 (λ e. named_checked os name o e parts.1)
+  where
+    go : (t : Bool) → cond t (Some x) (operation_named os name) ≡ Some o → checked_input x.schema ≡ true → (operation_named os name ≡ Some o → checked_input o.schema ≡ true)
+        → checked_input o.schema ≡ true
+    go true e here rest = let same : x ≡ o = cc e in ap (λ (p : Operation). checked_input p.schema) (sym same) ∙ here
+    go false e here rest = rest e
+
+found_accepted : (j : Routing) (found : Option (List ℕ)) → are_checked j.operations ≡ true
+    → accepts (option_map_or (told_input json_requests j.omit j.request) (option_and_then (operation_named j.operations) found) (fault_line no_route)) ≡ true
+found_accepted j None all = refl
+found_accepted j (Some name) all = go (operation_named j.operations name) (λ o e. named_checked j.operations name o e all)
+  where
+    go : (found : Option Operation) → ((o : Operation) → found ≡ Some o → checked_input o.schema ≡ true)
+        → accepts (option_map_or (told_input json_requests j.omit j.request) found (fault_line no_route)) ≡ true
+    go None checked = refl
+    go (Some o) checked = named_accepted o.name _ ∙ recovered_accepted (json_requests o.schema) j.omit j.request (checked o refl)
+
+routes_accepted : (j : Routing) (routes : Result (List Entry) (List ℕ)) → are_checked j.operations ≡ true → accepts (found_or_refused json_requests j routes) ≡ true
+routes_accepted j (Ok entries) all = found_accepted j (operation_found j.request entries) all
+routes_accepted j (Err line) all = refl
+
+of_routing : (o : Option Routing) (w : Wrong) → Agrees (line_by (option_map (λ j. broken_operation j.operations) o) w) (outcome_of (routed_by json_requests) o)
+unfolding routed_by
+of_routing None w = neither _ _ (wrong_is_no_job w) refl
+of_routing (Some j) w = go (broken_operation j.operations) (are_checked j.operations) (operations_iff j.operations) (λ all. routes_accepted j (with_operations [] j.operations) all)
+  where
+    go : (rule : Option Broken) (checked : Bool) → (rule ≡ None ↔ IsTrue checked)
+        → (checked ≡ true → accepts (found_or_refused json_requests j (with_operations [] j.operations)) ≡ true)
+        → Agrees (line_of_rule rule) (if checked then found_or_refused json_requests j (with_operations [] j.operations) else no_job)
+    go rule true same accepted = by_check rule true _ same (accepted refl)
+    go None false same accepted = let e : false ≡ true = same.0 refl in absurd (cc e)
+    go (Some b) false same accepted = neither (not_checked b) no_job (rule_is_no_job b) refl
+
+of_schema : (s : Schema) (is_error : Bool) (r : Response) (policy : NonUtf8HeaderHandling) → Agrees (line_of_rule (broken_output s)) (read_by s is_error r policy)
+unfolding read_by
+of_schema s is_error r policy =
+    let value = value_of_response s r (body_held r) is_error policy in by_check (broken_output s) (checked_output s) (shown_value value) (broken_output_iff s) (value_accepted value)
+
+of_found : (code : List ℕ) (found : Option Schema) (r : Response) (policy : NonUtf8HeaderHandling) → Agrees (line_of_rule (option_and_then broken_output found)) (read_found code found r policy)
+unfolding read_by
+of_found code None r policy = both job_line (read_found code None r policy) refl refl
+of_found code (Some s) r policy =
+    let value = value_of_response s r (body_held r) true policy in by_named_check s.node.full_name (broken_output s) (checked_output s) (shown_value value) (broken_output_iff s) (value_accepted value)
+
+of_expected : (e : jobs.Expected) (r : Response) (policy : NonUtf8HeaderHandling) → Agrees (line_of_rule (broken_expected e)) (read_as e r policy)
+of_expected (jobs.output s) r policy = of_schema s false r policy
+of_expected (jobs.error s) r policy = of_schema s true r policy
+of_expected (jobs.coded code errors) r policy = of_found code (error_of code errors) r policy
+
+of_received : (o : Option Received) (w : Wrong) → Agrees (line_by (option_map (λ r. broken_expected r.expected) o) w) (outcome_of read_received o)
+of_received None w = neither _ _ (wrong_is_no_job w) refl
+of_received (Some r) w = of_expected r.expected r.response r.policy
+
+-- ---- all of them
+
+abbrev bodies : Protocol
+bodies = json_bodies json_text
+
+of_value : (k : JobKind) (d : Data) → Agrees (line_of_value k d) (answer_to bodies (command_for k) d)
+unfolding sent_job responded_to recovered_to routed_to gatewayed_to served_to
+of_value kind.Request d = of_sent bodies (job d) (wrong_in_job kind.Request d)
+of_value kind.Rpc d = of_posted bodies (job d) (wrong_in_job kind.Rpc d)
+of_value kind.Response d = of_received (received d) (wrong_in_job kind.Response d)
+of_value kind.Recover d = of_recovering (recovering d) (wrong_in_job kind.Recover d)
+of_value kind.Route d = of_routing (routing d) (wrong_in_job kind.Route d)
+of_value kind.Gateway d = of_gateway (gateway d) (wrong_in_job kind.Gateway d)
+of_value kind.Answer d = of_answering bodies (answering d) (wrong_in_job kind.Answer d)
+
+-- the outcome of a command of a job, by the value that is read
+outcome_read : (k : JobKind) (bytes : List ℕ) → outcome_by (Some (command_for k)) bytes ≡ option_map_or (answer_to bodies (command_for k)) (json_of bytes) no_job
+outcome_read kind.Request bytes = refl
+outcome_read kind.Rpc bytes = refl
+outcome_read kind.Response bytes = refl
+outcome_read kind.Recover bytes = refl
+outcome_read kind.Route bytes = refl
+outcome_read kind.Gateway bytes = refl
+outcome_read kind.Answer bytes = refl
+
+of_read : (k : JobKind) (bytes : List ℕ) (read : Option Data) → Agrees (option_map_or (line_of_value k) read (not_json bytes)) (option_map_or (answer_to bodies (command_for k)) read no_job)
+of_read k bytes None = neither _ _ (json_is_no_job bytes) refl
+of_read k bytes (Some d) = of_value k d
+
+told_output : (k : JobKind) (bytes : List ℕ) (read : Option Data)
+    → option_map_or (λ d. output (line_of_value k d)) read (output (not_json bytes)) ≡ output (option_map_or (line_of_value k) read (not_json bytes))
+told_output k bytes None = refl
+told_output k bytes (Some d) = refl
+
+is_unread : (k : JobKind) (bytes : List ℕ) (read : Option Data) → option_map_or (line_of_value k) read (not_json bytes) ≡ not_json bytes ↔ read ≡ None
+is_unread k bytes None = ((λ _. refl), (λ _. refl))
+is_unread k bytes (Some d) = ((λ same. absurd (told_is_json (rule_in k d) (wrong_in_job k d) bytes same)), (λ e. absurd (cc e)))
+
+pub explains : (k : JobKind) (bytes : List ℕ) → Explains k bytes
+unfolding explained
+explains k bytes = record {
+  answer = told_output k bytes (json_of bytes);
+  job = subst (Agrees (option_map_or (line_of_value k) (json_of bytes) (not_json bytes))) (sym (outcome_read k bytes)) (of_read k bytes (json_of bytes));
+  not_json = is_unread k bytes (json_of bytes);
+}

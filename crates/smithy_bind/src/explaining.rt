@@ -1,0 +1,217 @@
+// The command `explain`: whether bytes are the job of a command, or why they are none.
+ghost use Rattle.std.specs.Prelude.{◌≡◌, IfOk};
+ghost use Rattle.smithy_json.specs.JsonView.{view};
+ghost use Rattle.smithy_serde.specs.StoredValues.{HasNode};
+ghost use Rattle.smithy_binding.specs.Broken.{broken_input, broken_output};
+ghost use Rattle.smithy_binding.specs.views.Breaking.{broken_of, broken_shown};
+ghost use Rattle.smithy_job.specs.RoutingView.{operations_seen};
+ghost use Rattle.smithy_job.specs.WrongJobs.{wrong_in_job};
+ghost use Rattle.smithy_job.specs.declared.job_kind.JobKind.TheVariants as kind_of;
+ghost use Rattle.smithy_bind.specs.Explaining.{broken_operation, line_at, line_of_value, not_checked, not_job, not_json, rule_in};
+ghost use Rattle.smithy_bind.specs.Outcome.{unread};
+ghost use Rattle.smithy_bind.specs.Told.{output};
+ghost use Rattle.smithy_bind.specs.views.AnswerView.{Gives};
+ghost use Rattle.smithy_bind.specs.views.CodedView.{Stand};
+ghost use Rattle.smithy_bind.specs.views.ExplainingView.{told_rule, TellsBroken, TellsBrokenCoded, TellsRule};
+
+use crate::coded::error_of_code;
+use crate::command::Command;
+use crate::told::{Answer, said};
+use smithy_binding::{BrokenRule, broken_input_rule, broken_output_rule};
+use smithy_job::{
+    CodedError, Expected, JobKind, Operation, read_answering, read_gateway, read_job,
+    read_received, read_recovering, read_routing, wrong_in_job,
+};
+use smithy_json::{JsonValue, json_end};
+use smithy_model::{JobError, pointer_of};
+use smithy_schema::{SchemaIndex, Schemas};
+use std::alloc::{AllocError, Global};
+
+// The line of a job.
+const JOB: &str = "Job\n";
+
+/// What is told of the JSON value of bytes that are to be a job of this kind. Takes memory.
+#[tactic(auto, using(crate::proofs::ExplainLemmas::line_told, crate::proofs::ExplainLemmas::wrong_line_told))]
+pub fn explained(alloc: Global, kind: JobKind, value: &JsonValue<'_>) -> Result<Answer, JobError>
+    ensures { Gives (output (line_of_value kind (view value.now))) result }
+{
+    match rule_told(alloc, kind, value) {
+        Ok(told) => Ok(told),
+        Err(JobError::NoJob) => wrong_told(alloc, kind, value),
+        Err(JobError::OutOfMemory) => Err(JobError::OutOfMemory),
+    }
+}
+
+/// What a command answers to bytes that are no JSON. Takes memory. No job, but for `explain`, which tells that.
+pub fn unread(alloc: Global, command: Command, bytes: &[u8]) -> Result<Answer, JobError>
+    ensures { Gives (unread command bytes.now) result }
+{
+    match command {
+        Command::Explain(_) => not_json(alloc, bytes),
+        _ => Err(JobError::NoJob),
+    }
+}
+
+// The line of bytes that are no JSON.
+fn not_json(alloc: Global, bytes: &[u8]) -> Result<Answer, JobError>
+    ensures { Gives (output (not_json bytes.now)) result }
+{
+    let end = json_end(alloc, bytes)?;
+    let line = format!(in alloc; "NotJson: byte {end}\n")?;
+    Ok(Answer::Output(line.into_bytes()))
+}
+
+// The line of a value that has not the form of the job.
+fn wrong_told(alloc: Global, kind: JobKind, value: &JsonValue<'_>) -> Result<Answer, JobError>
+    ensures { Gives (output (not_job (wrong_in_job kind (view value.now)))) result }
+{
+    let wrong = wrong_in_job(alloc, kind, value)?;
+    let pointer = pointer_of(alloc, &wrong)?;
+    Ok(Answer::Output(wrong_line(alloc, pointer.as_slice(), wrong.asked.as_str())?))
+}
+
+// The line of a place, by its pointer, and of what is asked there.
+fn wrong_line(alloc: Global, pointer: &[u8], asked: &str) -> Result<Vec<u8>, AllocError>
+    ensures { IfOk result (λ v. v.items ≡ line_at pointer.now asked.now) }
+{
+    let mut line = Vec::from_slice(alloc, b"NoJob: ")?;
+    line.extend_from_slice(pointer)?;
+    line.extend_from_slice(b": ")?;
+    line.extend_from_slice(asked.as_bytes())?;
+    line.push(b'\n')?;
+    Ok(line)
+}
+
+// What is told of a job of this kind, by its schema. No job where the value is none.
+fn rule_told(alloc: Global, kind: JobKind, value: &JsonValue<'_>) -> Result<Answer, JobError>
+    ensures { TellsRule (rule_in kind (view value.now)) result }
+{
+    match kind {
+        JobKind::Request => request_told(alloc, value),
+        JobKind::Rpc => call_told(alloc, value),
+        JobKind::Response => response_told(alloc, value),
+        JobKind::Recover => recovering_told(alloc, value),
+        JobKind::Route => routing_told(alloc, value),
+        JobKind::Gateway => gateway_told(alloc, value),
+        JobKind::Answer => answering_told(alloc, value),
+    }
+}
+
+// What is told of the jobs of the commands, each by its schema.
+
+fn request_told(alloc: Global, value: &JsonValue<'_>) -> Result<Answer, JobError>
+    ensures { TellsRule (rule_in kind_of.Request (view value.now)) result }
+{
+    let job = read_job(alloc, value)?;
+    input_told(alloc, &job.table, job.index)
+}
+
+fn call_told(alloc: Global, value: &JsonValue<'_>) -> Result<Answer, JobError>
+    ensures { TellsRule (rule_in kind_of.Rpc (view value.now)) result }
+{
+    let _job = read_job(alloc, value)?;
+    said(alloc, JOB.as_bytes())
+}
+
+fn response_told(alloc: Global, value: &JsonValue<'_>) -> Result<Answer, JobError>
+    ensures { TellsRule (rule_in kind_of.Response (view value.now)) result }
+{
+    let received = read_received(alloc, value)?;
+    match &received.expected {
+        Expected::Output(place) => output_told(alloc, &received.table, *place),
+        Expected::Error(place) => output_told(alloc, &received.table, *place),
+        Expected::Coded(error) => error_told(alloc, &received.table, error),
+    }
+}
+
+fn recovering_told(alloc: Global, value: &JsonValue<'_>) -> Result<Answer, JobError>
+    ensures { TellsRule (rule_in kind_of.Recover (view value.now)) result }
+{
+    let job = read_recovering(alloc, value)?;
+    input_told(alloc, &job.table, job.index)
+}
+
+fn routing_told(alloc: Global, value: &JsonValue<'_>) -> Result<Answer, JobError>
+    ensures { TellsRule (rule_in kind_of.Route (view value.now)) result }
+{
+    let job = read_routing(alloc, value)?;
+    operations_told(alloc, job.operations.as_slice())
+}
+
+fn gateway_told(alloc: Global, value: &JsonValue<'_>) -> Result<Answer, JobError>
+    ensures { TellsRule (rule_in kind_of.Gateway (view value.now)) result }
+{
+    let job = read_gateway(alloc, value)?;
+    input_told(alloc, &job.recovering.table, job.recovering.index)
+}
+
+fn answering_told(alloc: Global, value: &JsonValue<'_>) -> Result<Answer, JobError>
+    ensures { TellsRule (rule_in kind_of.Answer (view value.now)) result }
+{
+    let job = read_answering(alloc, value)?;
+    output_told(alloc, &job.output.table, job.output.index)
+}
+
+// What is told of an input by the schema at a place.
+fn input_told(alloc: Global, table: &Schemas, place: SchemaIndex) -> Result<Answer, JobError>
+    requires { HasNode table.now place.0 }
+    ensures { TellsBroken broken_input table.now place.0 result }
+{
+    let Some(schema) = table.get(place) else {
+        unreachable!()
+    };
+    broken_told(alloc, broken_input_rule(alloc, schema)?)
+}
+
+// What is told of an output or an error by the schema at a place.
+fn output_told(alloc: Global, table: &Schemas, place: SchemaIndex) -> Result<Answer, JobError>
+    requires { HasNode table.now place.0 }
+    ensures { TellsBroken broken_output table.now place.0 result }
+{
+    let Some(schema) = table.get(place) else {
+        unreachable!()
+    };
+    broken_told(alloc, broken_output_rule(alloc, schema)?)
+}
+
+// What is told of the error of a code, where there is one.
+fn error_told(alloc: Global, table: &Schemas, error: &CodedError<'_>) -> Result<Answer, JobError>
+    requires operation { Stand table.now error.now.operation.items }
+    requires service { Stand table.now error.now.service.items }
+    ensures { TellsBrokenCoded table.now error.now result }
+{
+    match error_of_code(alloc, table, error)? {
+        Some(place) => output_told(alloc, table, place),
+        None => said(alloc, JOB.as_bytes()),
+    }
+}
+
+// What is told of operations by the schemas of their inputs.
+fn operations_told(alloc: Global, operations: &[Operation<'_>]) -> Result<Answer, JobError>
+    ensures { Gives (told_rule (broken_operation (operations_seen operations.now))) result }
+{
+    for operation in operations {
+        if let Some(broken) = broken_input_rule(alloc, operation.schema())? {
+            return not_checked(alloc, &broken);
+        }
+    }
+    said(alloc, JOB.as_bytes())
+}
+
+// What is told by the first broken rule of a schema, if there is one.
+fn broken_told(alloc: Global, broken: Option<BrokenRule<'_>>) -> Result<Answer, JobError>
+    ensures { Gives (told_rule (broken_shown broken.entry)) result }
+{
+    match broken {
+        Some(broken) => not_checked(alloc, &broken),
+        None => said(alloc, JOB.as_bytes()),
+    }
+}
+
+// The line of a schema that is not checked.
+fn not_checked(alloc: Global, broken: &BrokenRule<'_>) -> Result<Answer, JobError>
+    ensures { Gives (output (not_checked (broken_of broken.now))) result }
+{
+    let line = format!(in alloc; "NotChecked: {broken}\n")?;
+    Ok(Answer::Output(line.into_bytes()))
+}
