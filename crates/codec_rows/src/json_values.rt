@@ -4,7 +4,7 @@ use crate::json_text::document_text;
 use crate::told::{answered, optional};
 use serde_json::Value;
 use smithy_json::{
-    JsonError, JsonValue, Scratch, are_ascending, document_of, read_document, read_json,
+    JsonError, JsonValue, Scratch, are_ascending, document_of, json_end, read_document, read_json,
     value_named, whole_number,
 };
 use smithy_types::{Document, Number, Text};
@@ -20,6 +20,7 @@ pub fn answer(alloc: Global, call: &str, given: &Value) -> Result<Option<Text>, 
         }
         "document_of" => of_value(alloc, call, given)?,
         "read_json" => of_value(alloc, call, given)?,
+        "json_end" => end_told(alloc, given)?,
         "value_named" => of_value(alloc, call, given)?,
         "JsonValue::get" => of_value(alloc, call, given)?,
         "JsonValue::as_array" => of_value(alloc, call, given)?,
@@ -41,6 +42,22 @@ fn error_told(alloc: Global, error: JsonError) -> Result<Text, Failed> {
         JsonError::Unreadable => Text::from_str(alloc, "Err Unreadable")?,
         JsonError::OutOfMemory => Text::from_str(alloc, "Err OutOfMemory")?,
     })
+}
+
+// How many of the bytes are the front of a JSON text, and whether they are one.
+fn end_told(alloc: Global, given: &Value) -> Result<Text, Failed> {
+    let input = input_of(alloc, given)?;
+    let bytes = input.as_slice();
+    let Ok(end) = json_end(alloc, bytes) else {
+        return Err(Failed);
+    };
+    let mut scratch = Scratch::new(alloc);
+    let read = match read_json(alloc, bytes, &mut scratch) {
+        Ok(_) => "read",
+        Err(_) => "unread",
+    };
+    let length = bytes.len();
+    Ok(Text::from_string(format!(in alloc; "{end} of {length}, {read}")?))
 }
 
 fn of_value(alloc: Global, call: &str, given: &Value) -> Result<Text, Failed> {

@@ -15,6 +15,7 @@ mod service;
 mod templates;
 mod told;
 mod told_input;
+mod wrong_places;
 
 use serde_json::Value;
 use smithy_types::Text;
@@ -57,6 +58,9 @@ impl Answers for Calls {
             return Ok(text);
         }
         if let Some(text) = runs::answer(alloc, call, given)? {
+            return Ok(text);
+        }
+        if let Some(text) = wrong_places::answer(alloc, call, given)? {
             return Ok(text);
         }
         documents::answer(alloc, call, given)?.ok_or(Failed)

@@ -1,9 +1,10 @@
-// Models: the schemas of operations and of their errors, and whether requests and responses can be placed by them.
+// Models: the schemas of operations and of their errors, and whether requests and responses can be placed by them,
+// and the first rule that they break.
 use crate::given_job::job_bytes;
 use crate::schema_text::schema_text;
 use crate::told::{flag_text, no_job, push_names};
 use serde_json::Value;
-use smithy_binding::{checked_input, checked_output};
+use smithy_binding::{broken_input_rule, broken_output_rule, checked_input, checked_output};
 use smithy_ids::{PayloadHint, ShapeId, ShapeType};
 use smithy_json::{JsonValue, Scratch, read_json};
 use smithy_model::{
@@ -22,6 +23,9 @@ pub fn answer(alloc: Global, call: &str, given: &Value) -> Result<Option<Text>, 
         "checked_input" => Ok(Some(by_schema(alloc, given, Told::Input)?)),
         "checked_output" => Ok(Some(by_schema(alloc, given, Told::Output)?)),
         "checked_input with a flag" => Ok(Some(by_schema(alloc, given, Told::Flagged)?)),
+        "broken_input_rule" => Ok(Some(by_schema(alloc, given, Told::InputRule)?)),
+        "broken_output_rule" => Ok(Some(by_schema(alloc, given, Told::OutputRule)?)),
+        "broken_input_rule with a flag" => Ok(Some(by_schema(alloc, given, Told::FlaggedRule)?)),
         "errors_of_operation" => Ok(Some(errors(alloc, given)?)),
         _ => Ok(None),
     }
@@ -35,6 +39,10 @@ enum Told {
     Output,
     // Whether a request can be placed by its structure with a flag or a hint that isn't the model's.
     Flagged,
+    InputRule,
+    OutputRule,
+    // The rule that its structure breaks with a flag or a hint that isn't the model's.
+    FlaggedRule,
 }
 
 // The part of the operation that is asked for: its input, its output, or an error by its full name.
@@ -74,7 +82,16 @@ fn by_schema(alloc: Global, given: &Value, told: Told) -> Result<Text, Failed> {
         Told::Schema => schema_text(alloc, &placed, flag_of(given, "members")),
         Told::Input => checked(alloc, &placed.table, placed.index, true),
         Told::Output => checked(alloc, &placed.table, placed.index, false),
-        Told::Flagged => flagged(alloc, given, placed),
+        Told::Flagged => {
+            let (table, index) = flagged(alloc, given, placed)?;
+            checked(alloc, &table, index, true)
+        }
+        Told::InputRule => broken(alloc, &placed.table, placed.index, true),
+        Told::OutputRule => broken(alloc, &placed.table, placed.index, false),
+        Told::FlaggedRule => {
+            let (table, index) = flagged(alloc, given, placed)?;
+            broken(alloc, &table, index, true)
+        }
     }
 }
 
@@ -96,8 +113,33 @@ fn checked(
     flag_text(alloc, is_checked)
 }
 
-// The same of an input whose members are those of the schema, with a flag or a hint of the row's.
-fn flagged(alloc: Global, given: &Value, placed: ModelTable) -> Result<Text, Failed> {
+// The first rule that the schema at a place breaks, with its member, or `none`.
+fn broken(
+    alloc: Global,
+    table: &Schemas,
+    place: SchemaIndex,
+    is_input: bool,
+) -> Result<Text, Failed> {
+    let Some(schema) = table.get(place) else {
+        return Err(Failed);
+    };
+    let broken = if is_input {
+        broken_input_rule(alloc, schema)?
+    } else {
+        broken_output_rule(alloc, schema)?
+    };
+    match broken {
+        Some(broken) => Ok(Text::from_string(format!(in alloc; "{broken}")?)),
+        None => Ok(Text::from_str(alloc, "none")?),
+    }
+}
+
+// An input whose members are those of the schema, with a flag or a hint of the row's, in its table.
+fn flagged(
+    alloc: Global,
+    given: &Value,
+    placed: ModelTable,
+) -> Result<(Schemas, SchemaIndex), Failed> {
     let ModelTable {
         mut table,
         index,
@@ -121,7 +163,7 @@ fn flagged(alloc: Global, given: &Value, placed: ModelTable) -> Result<Text, Fai
     let Ok(place) = table.insert(schema) else {
         return Err(Failed);
     };
-    checked(alloc, &table, place, true)
+    Ok((table, place))
 }
 
 // The errors of an operation, and of its service by their names.

@@ -5,7 +5,7 @@ use crate::given_job::job_bytes;
 use crate::told::with_short_runs;
 use serde_json::Value;
 use smithy_bind::{
-    Command, Ended, Scratch, Status, answer_bytes, answer_bytes_over, run, run_request,
+    Command, Ended, JobKind, Scratch, Status, answer_bytes, answer_bytes_over, run, run_request,
 };
 use smithy_document::{JsonCodec, json_is_lawful};
 use smithy_io::{MemorySink, MemorySource, Source};
@@ -97,12 +97,27 @@ fn command_of(given: &Value) -> Result<Command, Failed> {
         "route" => Ok(Command::Route),
         "gateway" => Ok(Command::Gateway),
         "answer" => Ok(Command::Answer),
+        "explain" => Ok(Command::Explain(kind_of(given)?)),
         "generate" => {
             let count = count_of(given, "count")?;
             Ok(Command::Generate(u32::try_from(count).map_err(|_| Failed)?))
         }
         "help" => Ok(Command::Help),
         "version" => Ok(Command::Version),
+        _ => Err(Failed),
+    }
+}
+
+// Whose job is explained.
+fn kind_of(given: &Value) -> Result<JobKind, Failed> {
+    match text_of(given, "of")? {
+        "request" => Ok(JobKind::Request),
+        "rpc" => Ok(JobKind::Rpc),
+        "response" => Ok(JobKind::Response),
+        "recover" => Ok(JobKind::Recover),
+        "route" => Ok(JobKind::Route),
+        "gateway" => Ok(JobKind::Gateway),
+        "answer" => Ok(JobKind::Answer),
         _ => Err(Failed),
     }
 }
