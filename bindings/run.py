@@ -31,6 +31,14 @@ from rows import Example, examples  # noqa: E402
 Language = collections.namedtuple("Language", "name tool program tests")
 
 
+def explained():
+    """A job and bytes that are none, told why."""
+    job = (ROOT / "examples" / "get_object.json").read_bytes()
+    yield Example("a job, explained", "explain request", job, 0, b"Job\n")
+    yield Example("no JSON, explained", "explain request", b"{", 0, b"NotJson: byte 1\n")
+    yield Example("too many bytes, explained", "explain response", b" " * 16777217, 7, b"")
+
+
 def limits():
     """Jobs of no bytes and of too many, and texts that just fit into the first room of 4,096 bytes, and that do not."""
     yield Example("a job of no bytes", "request", b"", 2, b"")
@@ -139,7 +147,7 @@ def failures(language, build, jobs):
         print(f"{language}: {error}")
         return len(jobs)
     for job in jobs:
-        end = subprocess.run([*program, job.command], input=job.job, stdout=subprocess.PIPE)
+        end = subprocess.run([*program, *job.command.split()], input=job.job, stdout=subprocess.PIPE)
         if (end.returncode, end.stdout) != (job.status, job.text):
             failed += 1
             print(f"{language}: {job.name} ends with {end.returncode} and {end.stdout[:1000]!r}")
@@ -193,7 +201,7 @@ def other_versions():
 
 
 def main(*words):
-    jobs = [*examples(), *limits()]
+    jobs = [*examples(), *explained(), *limits()]
     failed = other_versions()
     passed = len(VERSIONS) - failed
     with tempfile.TemporaryDirectory() as folder:

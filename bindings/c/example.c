@@ -1,4 +1,5 @@
-/* Answers the job on standard input by a command, and ends as the program does: example request < JOB */
+/* Answers the job on standard input by a command, and ends as the program does: example request < JOB, and
+ * example explain request < JOB */
 #include "smithy_bind.h"
 
 #include <stdio.h>
@@ -33,9 +34,19 @@ static int answer(smithy_bind_command *command, const uint8_t *job, size_t job_l
     return status;
 }
 
+/* The command that these words name, or null where they name none. */
+static smithy_bind_command *named(int count, char **words)
+{
+    if (count == 1)
+        return smithy_bind_command_named(words[0]);
+    if (count == 2 && strcmp(words[0], "explain") == 0)
+        return smithy_bind_explain_of(smithy_bind_command_named(words[1]));
+    return NULL;
+}
+
 int main(int count, char **words)
 {
-    smithy_bind_command *command = count == 2 ? smithy_bind_command_named(words[1]) : NULL;
+    smithy_bind_command *command = named(count - 1, words + 1);
     if (command == NULL)
         return NO_COMMAND;
     uint8_t *job = malloc(JOB_ROOM);

@@ -28,10 +28,13 @@
     ROW(gateway)  /* the POST of the input that a job's request is of, or the request of the input that it posts */ \
     ROW(answer)   /* the HTTP response of a job's output: a line of the status, the headers, an empty line, the body */
 
+/* Those whose jobs are explained, which all are. */
+#define SMITHY_BIND_EXPLAINED(ROW) SMITHY_BIND_COMMANDS(ROW)
+
 /* What a call ends with: an exit status of the program. */
 enum smithy_bind_status {
     SMITHY_BIND_DONE = 0,    /* the text is the output */
-    SMITHY_BIND_NO_JOB = 2,  /* the bytes are no job, or its schema can't be worked by */
+    SMITHY_BIND_NO_JOB = 2,  /* the bytes are no job, or its schema can't be worked by: smithy_bind_explain says why */
     SMITHY_BIND_FAULT = 3,   /* the text is the line that says why there is no output */
     SMITHY_BIND_MEMORY = 6,  /* there was not enough memory */
     SMITHY_BIND_TOO_LONG = 7 /* the job has more than 16,777,216 bytes */
@@ -56,6 +59,12 @@ typedef uint8_t smithy_bind_command(const uint8_t *job, size_t job_len, uint8_t 
 /* The commands themselves: smithy_bind_request, smithy_bind_response and so on. */
 #define SMITHY_BIND_DECLARED(name) smithy_bind_command smithy_bind_##name;
 SMITHY_BIND_COMMANDS(SMITHY_BIND_DECLARED)
+#undef SMITHY_BIND_DECLARED
+
+/* What explains them: smithy_bind_explain_request and so on. Its text is one line, that the job is one of the command, or why it is
+ * none; its status is SMITHY_BIND_DONE, SMITHY_BIND_MEMORY or SMITHY_BIND_TOO_LONG. */
+#define SMITHY_BIND_DECLARED(name) smithy_bind_command smithy_bind_explain_##name;
+SMITHY_BIND_EXPLAINED(SMITHY_BIND_DECLARED)
 #undef SMITHY_BIND_DECLARED
 
 /* Answers a job by a command, as the command does; a null job or buffer is one of length 0. */
@@ -85,6 +94,28 @@ static inline smithy_bind_command *smithy_bind_command_named(const char *name)
     return NULL;
 }
 
+/* What explains the jobs of a command, or null where there is none. */
+static inline smithy_bind_command *smithy_bind_explain_of(smithy_bind_command *command)
+{
+#define SMITHY_BIND_PAIRED(it) \
+    if (command == smithy_bind_##it) \
+        return smithy_bind_explain_##it;
+    SMITHY_BIND_EXPLAINED(SMITHY_BIND_PAIRED)
+#undef SMITHY_BIND_PAIRED
+    return NULL;
+}
+
+/* Says of a job in one line why it is none of the command, or `Job`: `NotJson: byte N`, where the bytes are no JSON from there on;
+ * `NoJob: POINTER: what is asked there`, by a JSON Pointer (RFC 6901); or `NotChecked:` and the rule that its schema breaks.
+ * SMITHY_BIND_NO_JOB, without a text, where nothing explains the command. A null job or buffer is one of length 0. */
+static inline enum smithy_bind_status smithy_bind_explain(smithy_bind_command *command, const void *job, size_t job_len,
+                                                          void *text, size_t text_room, size_t *text_len)
+{
+    smithy_bind_command *explain = smithy_bind_explain_of(command);
+    *text_len = 0;
+    return explain == NULL ? SMITHY_BIND_NO_JOB : smithy_bind_call(explain, job, job_len, text, text_room, text_len);
+}
+
 /* What a status means, in a few words. */
 static inline const char *smithy_bind_status_text(enum smithy_bind_status status)
 {
@@ -92,7 +123,7 @@ static inline const char *smithy_bind_status_text(enum smithy_bind_status status
     case SMITHY_BIND_DONE:
         return "done";
     case SMITHY_BIND_NO_JOB:
-        return "no job, or one whose schema is not checked";
+        return "no job, or one whose schema is not checked: explain says why";
     case SMITHY_BIND_FAULT:
         return "no output: the line says why";
     case SMITHY_BIND_MEMORY:
@@ -114,6 +145,11 @@ struct smithy_bind_request_parts {
     struct smithy_bind_part method, target, headers, body;
 };
 
+/* The parts of a response, in the same way. */
+struct smithy_bind_response_parts {
+    struct smithy_bind_part status, headers, body;
+};
+
 /* Takes from a text what stands before the first `end` of `end_len` bytes, and that end. 1, or 0 where there is none. */
 static inline int smithy_bind_take(struct smithy_bind_part *text, const char *end, size_t end_len, struct smithy_bind_part *taken)
 {
@@ -129,28 +165,45 @@ static inline int smithy_bind_take(struct smithy_bind_part *text, const char *en
     return 1;
 }
 
-/* Takes the next header from the headers of a request: its name, in lower case, and the bytes of its value. 1, or 0 where there
- * is none left. */
+/* Takes the next header from the headers of a request or a response: its name, in lower case, and the bytes of its value. 1, or 0
+ * where there is none left. */
 static inline int smithy_bind_next_header(struct smithy_bind_part *headers, struct smithy_bind_part *name,
                                           struct smithy_bind_part *value)
 {
     return smithy_bind_take(headers, ": ", 2, name) && smithy_bind_take(headers, "\n", 1, value);
 }
 
+/* Takes the headers of a message, up to the empty line behind them, and that line; what is left is the body. 1, or 0 where there is
+ * no such line. */
+static inline int smithy_bind_take_headers(struct smithy_bind_part *rest, struct smithy_bind_part *headers)
+{
+    struct smithy_bind_part line;
+    *headers = *rest;
+    do {
+        if (!smithy_bind_take(rest, "\n", 1, &line))
+            return 0;
+    } while (line.len > 0);
+    headers->len = (size_t)(line.bytes - headers->bytes);
+    return 1;
+}
+
 /* The parts of the text that `request`, `rpc` and `gateway` write. 1, or 0 where it has not their form. */
 static inline int smithy_bind_parts_of(const void *text, size_t text_len, struct smithy_bind_request_parts *parts)
 {
-    struct smithy_bind_part rest = {(const char *)text, text_len}, line;
-    if (!smithy_bind_take(&rest, " ", 1, &parts->method) || !smithy_bind_take(&rest, "\n", 1, &parts->target))
-        return 0;
-    parts->headers = rest;
-    do {
-        if (!smithy_bind_take(&rest, "\n", 1, &line))
-            return 0;
-    } while (line.len > 0);
-    parts->headers.len = (size_t)(line.bytes - parts->headers.bytes);
-    parts->body = rest;
-    return 1;
+    parts->body.bytes = (const char *)text;
+    parts->body.len = text_len;
+    return smithy_bind_take(&parts->body, " ", 1, &parts->method) && smithy_bind_take(&parts->body, "\n", 1, &parts->target) &&
+           smithy_bind_take_headers(&parts->body, &parts->headers);
+}
+
+/* The parts of the text that `answer` writes: a status of three digits, and the others as of a request. 1, or 0 where it has
+ * not its form. */
+static inline int smithy_bind_response_parts_of(const void *text, size_t text_len, struct smithy_bind_response_parts *parts)
+{
+    parts->body.bytes = (const char *)text;
+    parts->body.len = text_len;
+    return smithy_bind_take(&parts->body, "\n", 1, &parts->status) && parts->status.len == 3 &&
+           smithy_bind_take_headers(&parts->body, &parts->headers);
 }
 
 #ifdef __cplusplus

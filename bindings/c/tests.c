@@ -61,12 +61,39 @@ static void parts_of_a_request(void)
     expect("it has no third", !smithy_bind_next_header(&parts.headers, &name, &value));
 }
 
+static void parts_of_a_response(void)
+{
+    const char text[] = "206\nx-a: 1\n\nline\n";
+    struct smithy_bind_response_parts parts;
+    struct smithy_bind_part name, value;
+    expect("a response has parts", smithy_bind_response_parts_of(text, sizeof text - 1, &parts));
+    expect("its status", is(parts.status, "206"));
+    expect("its body, past its headers", is(parts.body, "line\n"));
+    expect("its header", smithy_bind_next_header(&parts.headers, &name, &value) && is(name, "x-a") && is(value, "1"));
+    expect("it has no second", !smithy_bind_next_header(&parts.headers, &name, &value));
+    expect("a request is none", !smithy_bind_response_parts_of("GET /b\n\n", 8, &parts));
+}
+
 static void texts_without_parts(void)
 {
     static const char *const texts[] = {"", "GET", "GET /b", "GET\n\n", "GET /b\n", "GET /b\nx-a: 1\n"};
     struct smithy_bind_request_parts parts;
     for (size_t it = 0; it < sizeof texts / sizeof *texts; it++)
         expect(texts[it], !smithy_bind_parts_of(texts[it], strlen(texts[it]), &parts));
+}
+
+static void explained(const char *job, size_t job_len)
+{
+    char text[ROOM];
+    size_t len = 99;
+    expect("a job is one",
+           smithy_bind_explain(smithy_bind_request, job, job_len, text, ROOM, &len) == SMITHY_BIND_DONE && len == 4 &&
+               memcmp(text, "Job\n", len) == 0);
+    expect("no bytes are no JSON", smithy_bind_explain(smithy_bind_request, NULL, 0, text, ROOM, &len) == SMITHY_BIND_DONE &&
+                                       len > 9 && memcmp(text, "NotJson: ", 9) == 0);
+    expect("a command may have no explanation",
+           smithy_bind_explain(echo, job, job_len, text, ROOM, &len) == SMITHY_BIND_NO_JOB && len == 0);
+    expect("and so has none", smithy_bind_explain_of(NULL) == NULL);
 }
 
 static void request_of(const char *job, size_t job_len)
@@ -92,8 +119,10 @@ int main(void)
     size_t job_len = fread(job, 1, ROOM, stdin);
     made_answers();
     parts_of_a_request();
+    parts_of_a_response();
     texts_without_parts();
     request_of(job, job_len);
+    explained(job, job_len);
     printf("%d passed, %d failed\n", passed, failed);
     return failed == 0 ? EXIT_SUCCESS : EXIT_FAILURE;
 }

@@ -1,17 +1,30 @@
 """Answers the job on standard input by a command, and ends as the program does, but for failed reading and writing:
-example.py LIBRARY request < JOB"""
+example.py LIBRARY request < JOB, example.py LIBRARY explain request < JOB"""
 
 import sys
 
 import smithy_bind
 
 
-def main(words):
-    if len(words) != 2 or words[1] not in smithy_bind.COMMANDS:
+def answered(library, words, job):
+    """The text of a command, or of what explains it."""
+    if len(words) == 1:
+        return library.answer(words[0], job)
+    return f"{library.explain(words[1], job)}\n".encode()
+
+
+def is_command(words):
+    if len(words) == 1:
+        return words[0] in smithy_bind.COMMANDS
+    return len(words) == 2 and words[0] == "explain" and words[1] in smithy_bind.EXPLAINED
+
+
+def main(path, *words):
+    if not is_command(words):
         return 1
-    library, job = smithy_bind.Library(words[0]), sys.stdin.buffer.read()
+    library, job = smithy_bind.Library(path), sys.stdin.buffer.read()
     try:
-        text, status = library.answer(words[1], job), 0
+        text, status = answered(library, words, job), 0
     except smithy_bind.Fault as fault:
         text, status = fault.line, fault.status
     except smithy_bind.Refusal as refusal:
@@ -23,4 +36,4 @@ def main(words):
 
 
 if __name__ == "__main__":
-    sys.exit(main(sys.argv[1:]))
+    sys.exit(main(*sys.argv[1:]))

@@ -6,13 +6,15 @@ import ctypes
 import json
 import os
 import pathlib
-from typing import Any, Callable, Dict, Mapping, TypeVar, Union
+from typing import Any, Callable, Dict, Mapping, Tuple, TypeVar, Union
 
-from smithy_bind._parts import Output, Request, Routed
-from smithy_bind._refusals import Fault, NoJob, TooLong, UnknownAnswer
+from smithy_bind._parts import Output, Request, Response, Routed
+from smithy_bind._refusals import TooLong, UnknownAnswer, refused
 
-# The commands that read a job: each is the export smithy_bind_NAME of the shared object.
+# The commands that read a job, and those whose jobs are explained, which all are: each is the export smithy_bind_NAME of the shared
+# object, and what explains it is smithy_bind_explain_NAME.
 COMMANDS = ("request", "response", "rpc", "recover", "route", "gateway", "answer")
+EXPLAINED = COMMANDS
 
 # What a job is given as: JSON as a str or as bytes, or what json.dumps writes.
 Job = Union[str, bytes, bytearray, memoryview, Mapping[str, Any]]
@@ -37,10 +39,26 @@ class Library:
     def __init__(self, path: str | os.PathLike[str] | None = None) -> None:
         library = ctypes.CDLL(str(_found(path)))
         self._calls = {name: _declared(library[f"smithy_bind_{name}"]) for name in COMMANDS}
+        self._explain = {name: _declared(library[f"smithy_bind_explain_{name}"]) for name in EXPLAINED}
 
     def answer(self, command: str, job: Job) -> bytes:
         """The text that the program's command writes for a job."""
-        return _answer(self._calls[command], _bytes(job))
+        data = _bytes(job)
+        status, text = self.ended(command, data)
+        if status == 2 and command in self._explain:
+            text = _output(*_called(self._explain[command], data))
+        return _output(status, text)
+
+    def ended(self, command: str, job: Job) -> Tuple[int, bytes]:
+        """The exit status and the text that the program's command has for a job. Nothing is raised for a status."""
+        return _called(self._calls[command], _bytes(job))
+
+    def explain(self, command: str, job: Job) -> str:
+        """One line that says of a job why it is none of the command, without its end: `NotJson: byte N`, where the bytes are no JSON
+        from there on; `NoJob: POINTER: what is asked there`, by a JSON Pointer (RFC 6901); or `NotChecked:` and the rule that its
+        schema breaks. It is `Job` where the job is one. KeyError of a command whose jobs nothing explains."""
+        line = _output(*_called(self._explain[command], _bytes(job))).decode()
+        return line[:-1]
 
     def request(self, job: Job) -> Request:
         """The HTTP request of a job's input."""
@@ -65,6 +83,10 @@ class Library:
     def gateway(self, job: Job) -> Request:
         """The POST of the input that a job's request is of, or the request of the input that it posts."""
         return self._parted("gateway", job, Request.parse)
+
+    def serve(self, job: Job) -> Response:
+        """The HTTP response of a job's output: what the command `answer` writes."""
+        return self._parted("answer", job, Response.parse)
 
     def _parted(self, command: str, job: Job, parse: Callable[[bytes], Part]) -> Part:
         text = self.answer(command, job)
@@ -103,14 +125,15 @@ def _bytes(job: Job) -> bytes:
     raise TypeError(f"a job is a str, bytes or a dict, and not a {type(job).__name__}")
 
 
-def _answer(call: Any, job: bytes) -> bytes:
+def _called(call: Any, job: bytes) -> tuple[int, bytes]:
+    """What a call ends with, and its whole text."""
     room = FIRST_ROOM
     while True:
         text = ctypes.create_string_buffer(room)
         length = ctypes.c_size_t()
         status = call(job, len(job), text, room, ctypes.byref(length))
         if length.value <= room:
-            return _output(status, ctypes.string_at(text, length.value))
+            return status, ctypes.string_at(text, length.value)
         # The text was not written: there is room for it the next time.
         room = length.value
 
@@ -118,12 +141,8 @@ def _answer(call: Any, job: bytes) -> bytes:
 def _output(status: int, text: bytes) -> bytes:
     if status == 0:
         return text
-    if status == NoJob.status:
-        raise NoJob
-    if status == Fault.status:
-        raise Fault(text)
     if status == 6:
         raise MemoryError
     if status == TooLong.status:
         raise TooLong
-    raise UnknownAnswer(status, text)
+    raise refused(status, text)

@@ -25,13 +25,28 @@ class Request:
         """The request of the text that `request`, `rpc` and `gateway` write. ValueError where it has not their form."""
         first, rest = _line(text)
         method, target = _halves(first, b" ")
-        headers = []
-        while True:
-            first, rest = _line(rest)
-            if not first:
-                return cls(method.decode(), target.decode(), tuple(headers), rest)
-            name, value = _halves(first, b": ")
-            headers.append((name.decode(), value.decode("iso-8859-1")))
+        return cls(method.decode(), target.decode(), *_message(rest))
+
+    def header(self, name: str) -> str | None:
+        """The value of the header with this name, in any case. None where there is none."""
+        return dict(self.headers).get(name.lower())
+
+
+@dataclasses.dataclass(frozen=True)
+class Response:
+    """An HTTP response. `status` is a number of three digits; `headers` and `body` are as of a request."""
+
+    status: int
+    headers: Tuple[Tuple[str, str], ...] = ()
+    body: bytes = b""
+
+    @classmethod
+    def parse(cls, text: bytes) -> Response:
+        """The response of the text that the command `answer` writes. ValueError where it has not its form."""
+        first, rest = _line(text)
+        if len(first) != 3 or not first.isdigit():
+            raise ValueError(f"{first[:100]!r} is no status")
+        return cls(int(first), *_message(rest))
 
     def header(self, name: str) -> str | None:
         """The value of the header with this name, in any case. None where there is none."""
@@ -69,6 +84,17 @@ class Routed:
         if output.error is None:
             raise ValueError("an input without an operation")
         return cls(output.error, output.value)
+
+
+def _message(text: bytes) -> tuple[Tuple[Tuple[str, str], ...], bytes]:
+    """The headers of a message, up to the empty line behind them, and its body."""
+    headers = []
+    while True:
+        first, text = _line(text)
+        if not first:
+            return tuple(headers), text
+        name, value = _halves(first, b": ")
+        headers.append((name.decode(), value.decode("iso-8859-1")))
 
 
 def _line(text: bytes) -> tuple[bytes, bytes]:

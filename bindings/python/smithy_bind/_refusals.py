@@ -7,21 +7,9 @@ class Refusal(Exception):
     status: int
 
 
-class NoJob(Refusal):
-    """The bytes are no job, or its schema can't be worked by."""
-
-    status = 2
-
-    def __init__(self) -> None:
-        super().__init__("no job, or one whose schema is not checked: docs/JOBS.md of smithy_bind has the form of a job")
-
-
-class Fault(Refusal):
-    """The input can't be sent, the response can't be read, the output can't be written, no input has the request, or no operation is
-    found: `line`, bytes with the end of the line, says why. `kind` is what stands before its first `: `, and `text` what stands
+class _Told(Refusal):
+    """A refusal with a line, bytes with its end, that says why. `kind` is what stands before its first `: `, and `text` what stands
     behind."""
-
-    status = 3
 
     def __init__(self, line: bytes) -> None:
         told = line.decode(errors="replace").rstrip("\n")
@@ -29,8 +17,28 @@ class Fault(Refusal):
         self.line = line
         self.kind, _, self.text = told.partition(": ")
 
-    def __reduce__(self) -> "tuple[type[Fault], tuple[bytes]]":
+    def __reduce__(self) -> "tuple[type[_Told], tuple[bytes]]":
         return type(self), (self.line,)
+
+
+class NoJob(_Told):
+    """The bytes are no job, or its schema can't be worked by: `line`, that of `explain`, says why. It is empty where nothing says it."""
+
+    status = 2
+
+    def __init__(self, line: bytes = b"") -> None:
+        super().__init__(line)
+
+    def __str__(self) -> str:
+        told = super().__str__()
+        return told or "no job, or one whose schema is not checked: docs/JOBS.md of smithy_bind has the form of a job"
+
+
+class Fault(_Told):
+    """The input can't be sent, the response can't be read, the output can't be written, no input has the request, or no operation is
+    found: `line` says why."""
+
+    status = 3
 
 
 class TooLong(Refusal):
@@ -52,3 +60,11 @@ class UnknownAnswer(Refusal):
 
     def __reduce__(self) -> "tuple[type[UnknownAnswer], tuple[int, bytes]]":
         return type(self), (self.status, self.text)
+
+
+def refused(status: int, text: bytes) -> Refusal:
+    """The refusal of a status that has one, with its text."""
+    for kind in (NoJob, Fault):
+        if status == kind.status:
+            return kind(text)
+    return UnknownAnswer(status, text)

@@ -60,6 +60,12 @@ class Calls(unittest.TestCase):
         name, value = (EXAMPLES / "eks_routed.txt").read_text().splitlines()
         self.assertEqual(self.library.route(example("eks_routed")), smithy_bind.Routed(name, json.loads(value)))
 
+    def test_an_output_becomes_a_response(self):
+        response = self.library.serve(example("get_object_answered"))
+        text = (EXAMPLES / "get_object_answered.txt").read_bytes()
+        self.assertEqual((response.status, response.body), (int(text[:3]), text.partition(b"\n\n")[2]))
+        self.assertEqual(int(response.header("content-length")), len(response.body))
+
     def test_calls_run_in_threads(self):
         jobs = [example("get_object"), example("put_item_rpc")] * 20
         with ThreadPoolExecutor(4) as threads:
@@ -75,7 +81,22 @@ class Refusals(unittest.TestCase):
     def test_bytes_that_are_no_job(self):
         with self.assertRaises(smithy_bind.NoJob) as raised:
             self.library.request("{")
-        self.assertEqual(raised.exception.status, 2)
+        refusal = raised.exception
+        self.assertEqual((refusal.status, refusal.kind, refusal.line), (2, "NotJson", b"NotJson: byte 1\n"))
+        self.assertEqual(pickle.loads(pickle.dumps(refusal)).line, refusal.line)
+        self.assertIn("docs/JOBS.md", str(smithy_bind.NoJob()))
+
+    def test_a_job_is_explained(self):
+        job = json.loads(example("get_object"))
+        self.assertEqual(self.library.explain("request", job), "Job")
+        job["operation"] = "Get"
+        line = self.library.explain("request", job)
+        self.assertTrue(line.startswith("NoJob: /operation: "), line)
+        with self.assertRaises(smithy_bind.NoJob) as raised:
+            self.library.request(job)
+        self.assertEqual(str(raised.exception), line)
+        with self.assertRaises(smithy_bind.TooLong):
+            self.library.explain("request", b" " * 16_777_217)
 
     def test_what_is_no_job_at_all(self):
         with self.assertRaisesRegex(TypeError, "a str, bytes or a dict"):
@@ -102,7 +123,7 @@ class Refusals(unittest.TestCase):
                 _library._output(status, b"Custom: a\n")
 
     def test_a_text_without_the_form_of_an_answer(self):
-        with mock.patch.object(_library, "_answer", return_value=b"GET"), self.assertRaises(smithy_bind.UnknownAnswer):
+        with mock.patch.object(_library, "_called", return_value=(0, b"GET")), self.assertRaises(smithy_bind.UnknownAnswer):
             self.library.request("{}")
 
     def test_a_library_that_is_not_there(self):

@@ -2,7 +2,7 @@
 
 import unittest
 
-from smithy_bind import Output, Request, Routed
+from smithy_bind import Output, Request, Response, Routed
 
 
 class Requests(unittest.TestCase):
@@ -23,6 +23,19 @@ class Requests(unittest.TestCase):
         for text in (b"", b"GET", b"GET /b", b"GET\n\n", b"GET /b\n", b"GET /b\nx-a: 1\n", b"GET /b\nx-a\n\n"):
             with self.subTest(text), self.assertRaises(ValueError):
                 Request.parse(text)
+
+
+class Responses(unittest.TestCase):
+    def test_a_response_has_its_parts(self):
+        response = Response.parse(b'206\netag: "q"\n\n{}\n')
+        self.assertEqual(response, Response(206, (("etag", '"q"'),), b"{}\n"))
+        self.assertEqual(response.header("ETag"), '"q"')
+        self.assertEqual(Response.parse(b"204\n\n"), Response(204))
+
+    def test_other_texts_are_no_response(self):
+        for text in (b"", b"206", b"206\n", b"206\nx-a\n\n", b"20\n\n", b"+20\n\n", b"2000\n\n"):
+            with self.subTest(text), self.assertRaises(ValueError):
+                Response.parse(text)
 
 
 class Values(unittest.TestCase):

@@ -4,8 +4,8 @@ use crate::refusal::{Fault, Refusal};
 // What each export of crates/smithy_bind_c is, whose slices are passed as a pointer and a length.
 type Call = unsafe extern "C" fn(*const u8, usize, *mut u8, usize, *mut usize) -> u8;
 
-macro_rules! commands {
-    ($($(#[$about:meta])* $command:ident $word:literal $export:ident,)*) => {
+macro_rules! exports {
+    ($($export:ident)*) => {
         extern "C" {
             $(fn $export(
                 job: *const u8,
@@ -15,6 +15,12 @@ macro_rules! commands {
                 text_len: *mut usize,
             ) -> u8;)*
         }
+    };
+}
+
+macro_rules! commands {
+    ($($(#[$about:meta])* $command:ident $word:literal $export:ident $($explain:ident)?,)*) => {
+        exports! { $($export $($explain)?)* }
 
         /// A command that reads a job.
         #[derive(Clone, Copy, Debug, PartialEq, Eq, Hash)]
@@ -39,25 +45,32 @@ macro_rules! commands {
                     $(Command::$command => $export,)*
                 }
             }
+
+            // What explains its jobs. `None` where nothing does.
+            fn explain(self) -> Option<Call> {
+                match self {
+                    $(Command::$command => [$($explain as Call)?].first().copied(),)*
+                }
+            }
         }
     };
 }
 
 commands! {
     /// The HTTP request of a job's input.
-    Request "request" smithy_bind_request,
+    Request "request" smithy_bind_request smithy_bind_explain_request,
     /// The value that a job's response hands out.
-    Response "response" smithy_bind_response,
+    Response "response" smithy_bind_response smithy_bind_explain_response,
     /// The `POST` of a job's input as one JSON body.
-    Rpc "rpc" smithy_bind_rpc,
+    Rpc "rpc" smithy_bind_rpc smithy_bind_explain_rpc,
     /// The input that a job's request is of.
-    Recover "recover" smithy_bind_recover,
+    Recover "recover" smithy_bind_recover smithy_bind_explain_recover,
     /// The operation that a job's request is of, and its input.
-    Route "route" smithy_bind_route,
+    Route "route" smithy_bind_route smithy_bind_explain_route,
     /// The request of the same input on the other side: the `POST` of a request's, or the request of a `POST`'s.
-    Gateway "gateway" smithy_bind_gateway,
+    Gateway "gateway" smithy_bind_gateway smithy_bind_explain_gateway,
     /// The HTTP response of a job's output: a line of the status, the headers, an empty line, the body.
-    Answer "answer" smithy_bind_answer,
+    Answer "answer" smithy_bind_answer smithy_bind_explain_answer,
 }
 
 impl Command {
@@ -80,13 +93,42 @@ const FIRST_ROOM: usize = 4096;
 /// The [`Refusal`] of the command.
 pub fn answer(command: Command, job: impl AsRef<[u8]>) -> Result<Vec<u8>, Refusal> {
     let job = job.as_ref();
+    match called(command.call(), job)? {
+        (2, _) => Err(Refusal::NoJob(why(command, job)?)),
+        (status, text) => ended(status, text),
+    }
+}
+
+/// One line that says of a job why it is none of the command, without its end: `NotJson: byte N`, where the bytes are no JSON
+/// from there on; `NoJob: POINTER: what is asked there`, by a JSON Pointer (RFC 6901); or `NotChecked:` and the rule that its
+/// schema breaks. It is `Job` where the job is one. `None` of a command whose jobs nothing explains.
+///
+/// # Errors
+///
+/// [`Refusal::OutOfMemory`] and [`Refusal::TooLong`].
+pub fn explain(command: Command, job: impl AsRef<[u8]>) -> Result<Option<String>, Refusal> {
+    let told = why(command, job.as_ref())?;
+    Ok(told.map(|line| line.to_string()))
+}
+
+// The line that explains a job.
+fn why(command: Command, job: &[u8]) -> Result<Option<Fault>, Refusal> {
+    let Some(explain) = command.explain() else {
+        return Ok(None);
+    };
+    let (status, text) = called(explain, job)?;
+    ended(status, text).map(|line| Some(Fault::new(line)))
+}
+
+// What a call ends with, and its whole text.
+fn called(call: Call, job: &[u8]) -> Result<(u8, Vec<u8>), Refusal> {
     let mut text = vec![0; FIRST_ROOM];
     loop {
         let mut len = 0;
         // SAFETY: the pointers are those of two slices, with their lengths, and of `len`; none of the three lies in
         // another.
         let status = unsafe {
-            command.call()(
+            call(
                 job.as_ptr(),
                 job.len(),
                 text.as_mut_ptr(),
@@ -96,7 +138,7 @@ pub fn answer(command: Command, job: impl AsRef<[u8]>) -> Result<Vec<u8>, Refusa
         };
         if len <= text.len() {
             text.truncate(len);
-            return ended(status, text);
+            return Ok((status, text));
         }
         // The text was not written: there is room for it the next time.
         text.try_reserve_exact(len - text.len())
@@ -109,7 +151,7 @@ pub fn answer(command: Command, job: impl AsRef<[u8]>) -> Result<Vec<u8>, Refusa
 fn ended(status: u8, text: Vec<u8>) -> Result<Vec<u8>, Refusal> {
     match status {
         0 => Ok(text),
-        2 => Err(Refusal::NoJob),
+        2 => Err(Refusal::NoJob(None)),
         3 => Err(Refusal::Fault(Fault::new(text))),
         6 => Err(Refusal::OutOfMemory),
         7 => Err(Refusal::TooLong),

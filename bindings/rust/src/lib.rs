@@ -13,15 +13,16 @@
 //!
 //! A job is JSON: a model, the name of an operation, and an input, an output, a response or a request. `docs/JOBS.md` of
 //! the repository has its format, and what each command gives. [`answer`] gives the text of a command as it stands; the
-//! other functions give its parts.
+//! other functions give its parts. A refusal of what is no job has the line that says why, which [`explain`] gives of any
+//! job.
 #![warn(missing_docs)]
 
 mod command;
 mod parts;
 mod refusal;
 
-pub use command::{answer, Command};
-pub use parts::{Output, Request, Routed};
+pub use command::{answer, explain, Command};
+pub use parts::{Output, Request, Response, Routed};
 pub use refusal::{Fault, Refusal};
 
 /// The HTTP request of a job's input.
@@ -77,6 +78,15 @@ pub fn route(job: impl AsRef<[u8]>) -> Result<Routed, Refusal> {
 /// The [`Refusal`] of the command `gateway`.
 pub fn gateway(job: impl AsRef<[u8]>) -> Result<Request, Refusal> {
     parted(Command::Gateway, job, Request::parse)
+}
+
+/// The HTTP response of a job's output.
+///
+/// # Errors
+///
+/// The [`Refusal`] of the command `answer`.
+pub fn serve(job: impl AsRef<[u8]>) -> Result<Response, Refusal> {
+    parted(Command::Answer, job, Response::parse)
 }
 
 // The parts of a command's text. A text that has none is of a library that isn't this crate's.

@@ -16,33 +16,52 @@ pub struct Request {
 impl Request {
     /// The request of the text that `request`, `rpc` and `gateway` write. `None` where it has not their form.
     pub fn parse(text: &[u8]) -> Option<Request> {
-        let (first, mut rest) = line(text)?;
+        let (first, rest) = line(text)?;
         let mut words = std::str::from_utf8(first).ok()?.splitn(2, ' ');
         let (method, target) = (words.next()?.to_owned(), words.next()?.to_owned());
-        let mut headers = Vec::new();
-        loop {
-            let (first, behind) = line(rest)?;
-            rest = behind;
-            if first.is_empty() {
-                let body = rest.to_vec();
-                return Some(Request {
-                    method,
-                    target,
-                    headers,
-                    body,
-                });
-            }
-            headers.push(header(first)?);
-        }
+        let (headers, body) = message(rest)?;
+        Some(Request {
+            method,
+            target,
+            headers,
+            body,
+        })
     }
 
     /// The value of the header with this name, in any case. `None` where there is none.
     pub fn header(&self, name: &str) -> Option<&[u8]> {
-        let found = self
-            .headers
-            .iter()
-            .find(|header| header.0.eq_ignore_ascii_case(name));
-        found.map(|header| header.1.as_slice())
+        value_of(&self.headers, name)
+    }
+}
+
+/// An HTTP response.
+#[derive(Clone, Debug, PartialEq, Eq, Hash)]
+pub struct Response {
+    /// The status, a number of three digits.
+    pub status: u16,
+    /// The headers, each name in lower case and once, with the bytes of its value.
+    pub headers: Vec<(String, Vec<u8>)>,
+    /// The body, which may be empty.
+    pub body: Vec<u8>,
+}
+
+impl Response {
+    /// The response of the text that the command `answer` writes. `None` where it has not its form.
+    pub fn parse(text: &[u8]) -> Option<Response> {
+        let (first, rest) = line(text)?;
+        let (headers, body) = message(rest)?;
+        let is_status = first.len() == 3 && first.iter().all(u8::is_ascii_digit);
+        let status = std::str::from_utf8(first).ok()?.parse().ok()?;
+        is_status.then_some(Response {
+            status,
+            headers,
+            body,
+        })
+    }
+
+    /// The value of the header with this name, in any case. `None` where there is none.
+    pub fn header(&self, name: &str) -> Option<&[u8]> {
+        value_of(&self.headers, name)
     }
 }
 
@@ -99,6 +118,30 @@ fn line(text: &[u8]) -> Option<(&[u8], &[u8])> {
     Some((&text[..end], &text[end + 1..]))
 }
 
+// The value of the header with this name, in any case.
+fn value_of<'h>(headers: &'h [(String, Vec<u8>)], name: &str) -> Option<&'h [u8]> {
+    let found = headers
+        .iter()
+        .find(|header| header.0.eq_ignore_ascii_case(name));
+    found.map(|header| header.1.as_slice())
+}
+
+// Each name with the bytes of its value.
+type Headers = Vec<(String, Vec<u8>)>;
+
+// The headers of a message, up to the empty line behind them, and its body.
+fn message(mut rest: &[u8]) -> Option<(Headers, Vec<u8>)> {
+    let mut headers = Vec::new();
+    loop {
+        let (first, behind) = line(rest)?;
+        rest = behind;
+        if first.is_empty() {
+            return Some((headers, rest.to_vec()));
+        }
+        headers.push(header(first)?);
+    }
+}
+
 // The name and the value of a header's line.
 fn header(line: &[u8]) -> Option<(String, Vec<u8>)> {
     let end = line.windows(2).position(|pair| pair == b": ")?;
@@ -144,6 +187,27 @@ mod tests {
             "GET /b\nx-a\n\n",
         ] {
             assert_eq!(Request::parse(text.as_bytes()), None, "{text:?}");
+        }
+    }
+
+    #[test]
+    fn a_response_has_its_parts() {
+        let response = Response::parse(b"206\netag: \"q\"\n\n{}\n").unwrap();
+        assert_eq!(
+            (response.status, response.body.as_slice()),
+            (206, &b"{}\n"[..])
+        );
+        assert_eq!(response.header("ETag"), Some(&b"\"q\""[..]));
+        for text in [
+            "",
+            "206",
+            "206\n",
+            "206\nx-a\n\n",
+            "20\n\n",
+            "+20\n\n",
+            "2000\n\n",
+        ] {
+            assert_eq!(Response::parse(text.as_bytes()), None, "{text:?}");
         }
     }
 

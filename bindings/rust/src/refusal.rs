@@ -6,8 +6,9 @@ use std::fmt;
 #[derive(Clone, Debug, PartialEq, Eq)]
 #[non_exhaustive]
 pub enum Refusal {
-    /// The bytes are no job, or its schema can't be worked by.
-    NoJob,
+    /// The bytes are no job, or its schema can't be worked by, with the line that says why: that of [`explain`](crate::explain).
+    /// `None` where nothing says it.
+    NoJob(Option<Fault>),
     /// The input can't be sent, the response can't be read, the output can't be written, no input has the request, or no
     /// operation is found.
     Fault(Fault),
@@ -28,7 +29,7 @@ impl Refusal {
     /// The exit status that the program has for it.
     pub fn status(&self) -> u8 {
         match self {
-            Refusal::NoJob => 2,
+            Refusal::NoJob(_) => 2,
             Refusal::Fault(_) => 3,
             Refusal::OutOfMemory => 6,
             Refusal::TooLong => 7,
@@ -40,10 +41,10 @@ impl Refusal {
 impl fmt::Display for Refusal {
     fn fmt(&self, f: &mut fmt::Formatter<'_>) -> fmt::Result {
         match self {
-            Refusal::NoJob => f.write_str(
+            Refusal::NoJob(None) => f.write_str(
                 "no job, or one whose schema is not checked: docs/JOBS.md of smithy_bind has the form of a job",
             ),
-            Refusal::Fault(fault) => fault.fmt(f),
+            Refusal::NoJob(Some(fault)) | Refusal::Fault(fault) => fault.fmt(f),
             Refusal::OutOfMemory => f.write_str("out of memory"),
             Refusal::TooLong => f.write_str("the job has more than 16777216 bytes"),
             Refusal::Unknown { status, .. } => {
@@ -56,7 +57,7 @@ impl fmt::Display for Refusal {
 // A fault is told as itself, so it is no source: its line would be told twice.
 impl Error for Refusal {}
 
-/// The line that says why a job has no output.
+/// The line that says why a job has no output, or is none.
 #[derive(Clone, PartialEq, Eq)]
 pub struct Fault {
     line: Vec<u8>,
@@ -72,7 +73,7 @@ impl Fault {
         &self.line
     }
 
-    /// What stands before the line's first `: `, as `InvalidInput`.
+    /// What stands before the line's first `: `, as `InvalidInput` or `NoJob`.
     pub fn kind(&self) -> String {
         self.halves().0
     }
@@ -116,5 +117,17 @@ mod tests {
         assert_eq!(refusal.to_string(), "InvalidInput: invalid input: a: b");
         assert!(refusal.source().is_none());
         assert!(format!("{refusal:?}").contains("invalid input: a: b"));
+    }
+
+    #[test]
+    fn no_job_is_told_as_its_line() {
+        let fault = Fault::new(b"NoJob: /input: an object\n".to_vec());
+        assert_eq!(fault.kind(), "NoJob");
+        assert_eq!(fault.text(), "/input: an object");
+        assert_eq!(
+            Refusal::NoJob(Some(fault)).to_string(),
+            "NoJob: /input: an object"
+        );
+        assert!(Refusal::NoJob(None).to_string().contains("docs/JOBS.md"));
     }
 }
