@@ -7,12 +7,12 @@ import sys
 HERE = pathlib.Path(__file__).resolve().parent
 ROWS = HERE.parent / "crates" / "job_rows"
 
-# A job, and the exit status and the text that its command ends with.
+# A job with the words of its command, and the exit status and the text that this ends with.
 Example = collections.namedtuple("Example", "name command job status text")
 
 
 def examples():
-    """Each example with its stored answer, and the command and the status of it among the rows of job_rows."""
+    """Each example with its stored answer, and the words and the status of it among the rows of job_rows."""
     ends = {}
     with open(ROWS / "stdin", encoding="utf-8") as given, open(ROWS / "stdout", encoding="utf-8") as wanted:
         for row, end in zip(map(json.loads, given), wanted):
@@ -22,8 +22,8 @@ def examples():
         job, text = path.read_bytes(), path.with_suffix(".txt").read_bytes()
         if (job.decode(), text.decode()) not in ends:
             sys.exit(f"{path}: no row has this job with its answer")
-        [command], status = ends[job.decode(), text.decode()]
-        yield Example(path.name, command, job, status, text)
+        words, status = ends[job.decode(), text.decode()]
+        yield Example(path.name, " ".join(words), job, status, text)
 
 
 if __name__ == "__main__":

@@ -14,6 +14,7 @@ in the place of another of its sort; or a part of its value is dropped, doubled,
 - with 2 where scripts/jobs.py reads no job of the command in the bytes; by `rpc`, whose schemas aren't tested, only there;
 - with 0 or 3 by `rpc` where it does by `request`;
 - with no text at 2 and 7, with a line of a known kind at 3, and at 0 with what has the form of the command's output;
+- with 2 where `explain` tells why, by a line that scripts/explained.py takes, and else with `Job` for its line;
 - within ten times the median of the runs that end with 0, of its command and of as many bytes, up to twice as many, where there are
   FEW such runs. It is the time of the processor; a run that takes longer is run ten times more, and the shortest one counts.
 
@@ -38,12 +39,13 @@ import time
 ROOT = pathlib.Path(__file__).resolve().parent.parent
 sys.dont_write_bytecode = True
 sys.path += [str(ROOT / "bindings"), str(ROOT / "bindings" / "python"), str(ROOT / "scripts")]
+import explained  # noqa: E402
 import install  # noqa: E402
 import jobs  # noqa: E402
 import smithy_bind  # noqa: E402
 
 ROWS = ROOT / "crates" / "job_rows"
-COMMANDS = ("request", "rpc", "response", "recover", "route")
+COMMANDS = ("request", "rpc", "response", "recover", "route", "gateway", "answer")
 # Longer rows are left out, so that a run is short.
 MOST_BYTES = 20_000
 BATCH = 5_000
@@ -171,15 +173,13 @@ def damaged_job(random, jobs):
 def end_of(library, command, data):
     """The end of a call of the library, and the processor's nanoseconds that it took."""
     begun = time.thread_time_ns()
-    try:
-        end = End(0, library.answer(command, data))
-    except smithy_bind.Fault as fault:
-        end = End(3, fault.line)
-    except smithy_bind.Refusal as refusal:
-        end = End(refusal.status, b"")
-    except MemoryError:
-        end = End(6, b"")
+    end = End(*library.ended(command, data))
     return end, time.thread_time_ns() - begun
+
+
+def header_differs(headers):
+    named = (it.partition(b": ")[0].decode("latin-1") for it in headers)
+    return None if all(map(jobs.TOKEN.fullmatch, named)) else "a header's name is no token"
 
 
 def request_differs(text):
@@ -188,9 +188,15 @@ def request_differs(text):
     method, _, target = first.partition(b" ")
     if not gap or not jobs.TOKEN.fullmatch(method.decode()) or not re.fullmatch(rb"[!-~]{1,65534}", target):
         return "its first line is none of a request"
-    if not all(jobs.TOKEN.fullmatch(it.partition(b": ")[0].decode("latin-1")) for it in headers):
-        return "a header's name is no token"
-    return None
+    return header_differs(headers)
+
+
+def response_differs(text):
+    head, gap, _ = text.partition(b"\n\n")
+    status, *headers = head.split(b"\n")
+    if not gap or not re.fullmatch(rb"[1-9][0-9]{2}", status):
+        return "its first line is no status"
+    return header_differs(headers)
 
 
 def value_differs(text):
@@ -208,8 +214,10 @@ def form_differs(command, end):
     if end.status == 3:
         kind = end.text.partition(b": ")[0].decode(errors="replace")
         return None if kind in KINDS and end.text.endswith(b"\n") else "its line is of no known kind"
-    if command in ("request", "rpc"):
+    if command in ("request", "rpc", "gateway"):
         return request_differs(end.text)
+    if command == "answer":
+        return response_differs(end.text)
     return value_differs(end.text[end.text.rfind(b"\n{") + 1 :])
 
 
@@ -224,6 +232,11 @@ def differs(library, command, data, value, end):
         return "is of a job"
     if command == "request" and end.status != 2 and end_of(library, "rpc", data)[0].status not in (0, 3):
         return "is of a job that is none by rpc"
+    if end.status != 7:
+        line = f"{library.explain(command, data)}\n".encode()
+        how = explained.line_differs(command, data, [] if value is NO_JSON else [value], end.status, line)
+        if how:
+            return f"has the line {line[:200]!r}, and {how}"
     return form_differs(command, end)
 
 

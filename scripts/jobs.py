@@ -1,6 +1,6 @@
 """A slow second reading of jobs, by Python's json and docs/JOBS.md: whether bytes are JSON, and whether that is the job of a command.
 
-Whether a request or a response can be made by a job's schema is not looked at.
+Whether a request or a response can be made by a job's schema is not looked at, nor whether a text is legal as a request's target.
 """
 
 import base64
@@ -175,9 +175,10 @@ def has_float(value):
     return False
 
 
-def given_input(job):
-    need("input" in job)
-    value = job["input"]
+def given_writes(job, key):
+    """An input or an output."""
+    need(key in job)
+    value = job[key]
     if not isinstance(value, dict):
         pairs(value)
     need(not has_float(value))
@@ -278,7 +279,7 @@ def by_input(job):
 
 def is_sent(job):
     by_input(job)
-    given_input(job)
+    given_writes(job, "input")
 
 
 def is_recovered(job):
@@ -313,7 +314,29 @@ def is_received(job):
         walk(shapes, [output])
 
 
-READINGS = {"request": is_sent, "rpc": is_sent, "recover": is_recovered, "route": is_routed, "response": is_received}
+def is_sent_on(job):
+    is_recovered(job)
+    need(job.get("to") in ("rpc", "rest") and ("rpcEndpoint" not in job or isinstance(job["rpcEndpoint"], str)))
+
+
+def is_answered(job):
+    shapes = shapes_of(job)
+    _, output, _ = operation(shapes, job.get("operation"))
+    walk(shapes, [output])
+    given_writes(job, "output")
+    bound = shapes[job["operation"]].get("traits", {}).get(PRELUDE + "http", {})
+    need(is_whole(job["status"] if "status" in job else bound.get("code", 200), 100, 999))
+
+
+READINGS = {
+    "request": is_sent,
+    "rpc": is_sent,
+    "recover": is_recovered,
+    "route": is_routed,
+    "gateway": is_sent_on,
+    "response": is_received,
+    "answer": is_answered,
+}
 
 
 def is_job(command, value):

@@ -256,28 +256,49 @@ def differs(run, row):
     return ""
 
 
-def count_rows(differs, rows, program=None):
-    """Tells how each row differs that does, and how many pass and fail; the status of the script."""
+def runner(program=None):
+    """What runs words of the program over a job, which stands behind them, and gives how it ends."""
     if program is None:
         subprocess.run([ROOT / "smithy_bind", "--build"], check=True)
         program = ROOT / "crates" / "smithy_bind_program" / "out" / "smithy_bind_program"
 
-    def run(command, job):
-        done = subprocess.run([program, command], input=job, stdout=subprocess.PIPE)
+    def run(*words_and_job):
+        *words, job = words_and_job
+        done = subprocess.run([program, *words], input=job, stdout=subprocess.PIPE)
         return End(done.returncode, done.stdout)
 
-    with open(rows, encoding="utf-8") as lines:
-        rows = [json.loads(it) for it in lines]
-    passed = failed = 0
+    return run
+
+
+def rows_of(path):
+    with open(path, encoding="utf-8") as lines:
+        return [json.loads(it) for it in lines]
+
+
+def side_by_side(each, them):
+    """What a function gives of each of them, in order."""
     with concurrent.futures.ThreadPoolExecutor(os.cpu_count()) as pool:
-        for row, how in zip(rows, pool.map(lambda it: differs(run, it), rows)):
-            if how:
-                failed += 1
-                print(f"{row.get('case', 'a row')}: {how}", flush=True)
-            elif how is not None:
-                passed += 1
+        yield from pool.map(each, them)
+
+
+def count(told):
+    """Tells how each row differs that does, and how many pass and fail, of pairs of a row and of how it differs; the status of the
+    script."""
+    passed = failed = 0
+    for row, how in told:
+        if how:
+            failed += 1
+            print(f"{row.get('case', 'a row')}: {how}", flush=True)
+        elif how is not None:
+            passed += 1
     print(f"{passed} passed, {failed} failed")
     return 1 if failed else 0
+
+
+def count_rows(differs, rows, program=None):
+    """Counts the rows by how each differs."""
+    run, rows = runner(program), rows_of(rows)
+    return count(zip(rows, side_by_side(lambda it: differs(run, it), rows)))
 
 
 if __name__ == "__main__":

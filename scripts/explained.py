@@ -1,0 +1,98 @@
+"""Asks `explain` what the jobs of a command are, and looks whether its line fits how the command ends.
+
+    python3 scripts/explained.py COMMAND ROWS [PROGRAM]
+
+ROWS has a JSON object a line: `job`, bytes that are to be a job of the command, or `job_base64`. PROGRAM is that of way_back.py. By a
+slow second reading of the bytes (scripts/jobs.py) the line has to be
+
+- `Job` exactly where the command doesn't end with 2;
+- `NotJson` exactly where the bytes are no JSON, with the place of a byte of them, or their number;
+- `NotChecked` exactly where they are a job that ends with 2, and never by `rpc`;
+- `NoJob` everywhere else, with a JSON Pointer (RFC 6901) to a place of the value, or to a key that an object there lacks, and with words
+  behind it. Where a request's target or an endpoint is none, which the second reading doesn't see, it is their place.
+
+Each row for which that isn't so has a line, and the last line is `N passed, M failed`.
+"""
+
+import re
+import sys
+
+sys.dont_write_bytecode = True
+from jobs import NoJson, is_job, read  # noqa: E402
+from way_back import count, given_job, rows_of, runner, side_by_side  # noqa: E402
+
+UNSEEN = ("/request/target", "/rpcEndpoint")
+# The words of a place that nothing else is said of.
+NO_PLACE = ": a job of this command is asked"
+
+
+def leads(value, pointer):
+    """Whether a JSON Pointer leads to a place of the value, or to a key that an object there lacks."""
+    tokens = [it.replace("~1", "/").replace("~0", "~") for it in pointer.split("/")[1:]]
+    for at, token in enumerate(tokens):
+        if isinstance(value, dict):
+            if token not in value:
+                return at + 1 == len(tokens)
+            value = value[token]
+        elif isinstance(value, list) and re.fullmatch("0|[1-9][0-9]*", token) and int(token) < len(value):
+            value = value[int(token)]
+        else:
+            return False
+    return True
+
+
+def pointer_in(value, told):
+    """The pointer before the words, which may have a colon in a name. None where none leads."""
+    ends = [it.start() for it in re.finditer(": .", told)]
+    return next((told[:it] for it in ends if (it == 0 or told[0] == "/") and leads(value, told[:it])), None)
+
+
+def value_of(data):
+    """The value of the bytes, alone in a list. Empty where they are no JSON."""
+    try:
+        return [read(data)]
+    except NoJson:
+        return []
+
+
+def no_job_differs(command, values, told):
+    if not values:
+        return "is of no JSON"
+    pointer = pointer_in(values[0], told)
+    if pointer is None:
+        return "leads nowhere"
+    if told == NO_PLACE:
+        return "has no place"
+    return "is of a job" if pointer not in UNSEEN and is_job(command, values[0]) else ""
+
+
+def line_differs(command, data, values, status, line):
+    """How a line isn't what is to be told of bytes, which have this value, and over which the command ends with this status; "" where
+    it is."""
+    kind, _, told = line.decode().removesuffix("\n").partition(": ")
+    if line == b"Job\n" or status != 2 or not line.endswith(b"\n"):
+        return "" if line == b"Job\n" and status != 2 else f"ends with {status}"
+    if kind == "NotJson":
+        place = re.fullmatch("byte ([0-9]+)", told)
+        return "" if not values and place and int(place[1]) <= len(data) else "is of JSON, or has no place"
+    if kind == "NotChecked":
+        return "" if values and command != "rpc" and is_job(command, values[0]) else "is of no job"
+    return no_job_differs(command, values, told) if kind == "NoJob" else "is of no kind"
+
+
+def differs(run, command, row):
+    data = given_job(row)
+    end, explained = run(command, data), run("explain", command, data)
+    how = line_differs(command, data, value_of(data), end.status, explained.text)
+    if explained.status != (7 if end.status == 7 else 0):
+        return f"is explained with {explained.status}"
+    return f"has the line {explained.text[:300]!r}, and {how}" if how and end.status != 7 else ""
+
+
+def main(command, rows, program=None):
+    run, rows = runner(program), rows_of(rows)
+    return count(zip(rows, side_by_side(lambda it: differs(run, command, it), rows)))
+
+
+if __name__ == "__main__":
+    sys.exit(main(*sys.argv[1:]))
