@@ -1,5 +1,6 @@
 pub mod AnsweringLemmas
 pub mod CanonicalLemmas
+pub mod CommonLemmas
 pub mod CycleLemmas
 pub mod GatewayLemmas
 pub mod InputLemmas

@@ -40,6 +40,10 @@ label-kept a b p l k h = go (node_at a p) refl h
 pub model-label : (t : Table) (names : List (Bor (List ℕ))) (p : ℕ) (l : Label) → HasLabel t p l → HasLabel (nodes_with t names) p l
 model-label t names p l h = label-kept t (nodes_with t names) p l (model-kept t names) h
 
+-- the same, whatever names there were before
+pub any-label : (t : Table) (earlier names : List (Bor (List ℕ))) (p : ℕ) (l : Label) → HasLabel t p l → HasLabel (nodes_with (nodes_with t earlier) names) p l
+any-label t earlier names p l h = model-label (nodes_with t earlier) names p l (model-label t earlier p l h)
+
 cited-stands : (t : Table) (s : Schema) (o : Option ℕ) → StandsIn t s → MayStandIn t (cited s o)
 cited-stands t s None h = tt
 cited-stands t s (Some p) h = go (node_at s.table p) refl
@@ -75,14 +79,18 @@ pub member-stands : (t : Table) (here : Option Schema) (name : List ℕ) → May
 member-stands t None name h = tt
 member-stands t (Some s) name h = named-stands t (shape s) (position_of_name (shape s) name) (shape-stands t s h)
 
+abbrev further : Bor (List ℕ) → Option Node
+further n = Some (further_node n.now)
+
+-- names behind others
+pub nodes_with-both : (t : Table) (xs ys : List (Bor (List ℕ))) → nodes_with (nodes_with t xs) ys ≡ nodes_with t (xs ++ ys)
+nodes_with-both t xs ys = append_assoc t (map further xs) (map further ys) ∙ ap (λ ns. t ++ ns) (sym (map-append further xs ys))
+
 -- one more name
 
 node_at-last : (t : Table) (x : Option Node) → node_at (t ++ x ∷ []) (length t) ≡ x
 node_at-last [] x = refl
 node_at-last (o ∷ t) x = node_at-last t x
-
-abbrev further : Bor (List ℕ) → Option Node
-further n = Some (further_node n.now)
 
 nodes_with-more : (t : Table) (xs : List (Bor (List ℕ))) (x : Bor (List ℕ)) → nodes_with t (xs ++ x ∷ []) ≡ nodes_with t xs ++ further x ∷ []
 nodes_with-more t xs x = ap (λ ns. t ++ ns) (map-append further xs (x ∷ [])) ∙ sym (append_assoc t (map further xs) (further x ∷ []))
@@ -90,7 +98,7 @@ nodes_with-more t xs x = ap (λ ns. t ++ ns) (map-append further xs (x ∷ [])) 
 pub name-kept : (t : Table) (xs ys : List (Bor (List ℕ))) (x : Bor (List ℕ)) → ys ≡ xs ++ x ∷ [] → Keeps (nodes_with t xs) (nodes_with t ys)
 name-kept t xs ys x e = rw (e, nodes_with-more t xs x) (keeps-front (nodes_with t xs) (further x ∷ []))
 
-length-nodes_with : (t : Table) (xs : List (Bor (List ℕ))) → length (nodes_with t xs) ≡ length t + length xs
+pub length-nodes_with : (t : Table) (xs : List (Bor (List ℕ))) → length (nodes_with t xs) ≡ length t + length xs
 length-nodes_with t xs = length-append t (map further xs) ∙ ap (λ n. length t + n) (length-map xs further)
 
 pub name-labelled : (t : Table) (xs ys : List (Bor (List ℕ))) (x : Bor (List ℕ)) (p : ℕ) → ys ≡ xs ++ x ∷ [] → p ≡ length t + length xs → HasLabel (nodes_with t ys) p (further_label x.now)

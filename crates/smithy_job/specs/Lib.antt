@@ -1,4 +1,5 @@
 pub mod Answering
+pub mod Common
 pub mod Gateway
 pub mod Inputs
 pub mod Jobs
@@ -13,6 +14,7 @@ pub mod WrongInputs
 pub mod WrongJobs
 pub mod WrongMessages
 pub mod views
+pub use Rattle.smithy_job.specs.views.CommonView
 pub use Rattle.smithy_job.specs.views.GatewayView
 pub use Rattle.smithy_job.specs.views.JobView
 pub use Rattle.smithy_job.specs.views.ReceivedView

@@ -37,3 +37,7 @@ unfoldable pub wrong_writes : Data → Option Wrong
 wrong_writes d =
     option_map_or (first_item wrong_pair 0) (items_in d)
     (option_map_or wrong_members (as_object d) (Some (asked_here (codes "an object from names to values is asked, or an array of pairs"))))
+
+-- many inputs
+unfoldable pub wrong_many : Data → Option Wrong
+wrong_many d = option_map_or (first_item wrong_writes 0) (items_in d) (Some (asked_here (codes "an array of inputs is asked")))

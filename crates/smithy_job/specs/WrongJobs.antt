@@ -13,7 +13,7 @@ use Rattle.smithy_job.specs.Gateway.{sending}
 use Rattle.smithy_job.specs.Jobs.{full_name_in, names_given}
 use Rattle.smithy_job.specs.Responses.{policy_given, status_in}
 use Rattle.smithy_job.specs.Settings.{endpoint, rpc_endpoint, flag_given}
-use Rattle.smithy_job.specs.WrongInputs.{wrong_writes}
+use Rattle.smithy_job.specs.WrongInputs.{wrong_many, wrong_writes}
 use Rattle.smithy_job.specs.WrongMessages.{wrong_request, wrong_response}
 use Rattle.smithy_job.specs.declared.job_kind.JobKind.{JobKind}
 use Rattle.smithy_job.specs.declared.job_kind.JobKind.TheVariants as kind
@@ -23,6 +23,7 @@ use Rattle.smithy_job.specs.declared.job_part.JobPart.TheVariants as part
 -- the parts of a job in the order in which they are read: an object, its keys, and the shapes that they reach
 unfoldable pub parts_of : JobKind → List JobPart
 parts_of kind.Request = part.Object ∷ part.Model ∷ part.Operation ∷ part.Input ∷ part.Endpoint ∷ part.Omit ∷ part.InputShapes ∷ []
+parts_of kind.Requests = part.Object ∷ part.Model ∷ part.Operation ∷ part.Inputs ∷ part.Endpoint ∷ part.Omit ∷ part.InputShapes ∷ []
 parts_of kind.Rpc = part.Object ∷ part.Model ∷ part.Operation ∷ part.Input ∷ part.Endpoint ∷ part.Omit ∷ part.InputShapes ∷ []
 parts_of kind.Response =
     part.Object ∷ part.Model ∷ part.Operation ∷ part.Response ∷ part.Error ∷ part.Code ∷ part.ServiceErrors ∷ part.Policy ∷ part.ExpectedShapes ∷ []
@@ -196,6 +197,10 @@ wrong_model_part job = wrong_under wrong_model (codes "model") (codes "an object
 unfoldable pub wrong_written_part : List ℕ → Data → Option Wrong
 wrong_written_part key job = wrong_under wrong_writes key (codes "an object from names to values is asked, or an array of pairs") job
 
+-- many inputs
+unfoldable pub wrong_inputs_part : Data → Option Wrong
+wrong_inputs_part job = wrong_under wrong_many (codes "inputs") (codes "an array of inputs is asked") job
+
 unfoldable pub wrong_response_part : Data → Option Wrong
 wrong_response_part job = wrong_under wrong_response (codes "response") (codes "an object with `status` is asked") job
 
@@ -227,6 +232,7 @@ wrong_part job part.Model = wrong_model_part job
 wrong_part job part.AnyModel = wrong_any_model job
 wrong_part job part.Operation = wrong_operation_of job
 wrong_part job part.Input = wrong_written_part (codes "input") job
+wrong_part job part.Inputs = wrong_inputs_part job
 wrong_part job part.Output = wrong_written_part (codes "output") job
 wrong_part job part.Status = wrong_status job
 wrong_part job part.Endpoint = wrong_endpoint job

@@ -1,3 +1,4 @@
+pub mod CommonView
 pub mod GatewayView
 pub mod JobView
 pub mod ReadingView

@@ -5,6 +5,8 @@
 pub enum JobKind {
     /// The request of an input, by the bindings of its schema.
     Request,
+    /// The requests of many inputs of one operation.
+    Requests,
     /// The call of an input, posted whole.
     Rpc,
     /// The value of a response.

@@ -2,6 +2,7 @@
 #![tactic(auto)]
 
 mod answering;
+mod common;
 mod gateway;
 mod input;
 mod job_kind;
@@ -27,6 +28,7 @@ mod wrong_reach;
 mod wrong_routing;
 
 pub use answering::{Answering, read_answering};
+pub use common::{Common, Inputs, inputs_of, read_common, read_whole};
 pub use gateway::{Gateway, Sending, read_gateway};
 pub use job_kind::JobKind;
 pub use operation::Operation;

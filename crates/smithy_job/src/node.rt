@@ -15,6 +15,8 @@ use smithy_types::OutOfMemory;
 pub struct ModelNodes<'t> {
     pub table: &'t Schemas,
     pub natural: SchemaIndex,
+    /// Names that are no member's and have their nodes behind those of the table.
+    pub earlier: &'t [&'t str],
 }
 
 /// The kind of a node.
@@ -97,7 +99,10 @@ fn further_index<'v>(
     ensures kept { KeepsNodes model.entry names.old names.new result }
     ensures index { GivesIndex model.entry names.new (further_label name.now) result }
 {
-    let Some(index) = model.table.len().checked_add(names.len()) else {
+    let Some(before) = model.table.len().checked_add(model.earlier.len()) else {
+        return Err(OutOfMemory);
+    };
+    let Some(index) = before.checked_add(names.len()) else {
         return Err(OutOfMemory);
     };
     names.push(name)?;

@@ -28,9 +28,9 @@ pub struct Written {
     pub writes: WriteList,
 }
 
-// The nodes of a job's model, and those of names that are no member's; none where there is no such name.
-// The model was read before, so want of memory is all that can refuse it.
-fn further_nodes<'t>(
+/// The nodes of a job's model, and those of names that are no member's; none where there is no such name. The model was read
+/// before, so want of memory is all that can refuse it.
+pub fn further_nodes<'t>(
     alloc: Global,
     job: &JsonValue<'t>,
     asked: Asked<'t>,
@@ -77,6 +77,7 @@ fn written_by<'t>(
     let nodes = ModelNodes {
         table: &table,
         natural,
+        earlier: &[],
     };
     let writes = read_input(alloc, nodes, &mut names, schema, value)?;
     let further = further_nodes(alloc, job, asked, &table, names.as_slice())?;

@@ -3,7 +3,7 @@ ghost use Rattle.std.specs.Prelude.{map};
 ghost use Rattle.smithy_json.specs.views.JsonView.{view, items_view, members_view};
 ghost use Rattle.smithy_model.specs.Wrong.{first_item};
 ghost use Rattle.smithy_model.specs.views.WrongView.{Finds};
-ghost use Rattle.smithy_job.specs.WrongInputs.{wrong_value, wrong_items, wrong_members, wrong_pair, wrong_writes};
+ghost use Rattle.smithy_job.specs.WrongInputs.{wrong_value, wrong_items, wrong_members, wrong_pair, wrong_writes, wrong_many};
 
 use crate::input::pair_of;
 use smithy_json::{JsonValue, whole_number};
@@ -94,5 +94,27 @@ pub fn wrong_writes(alloc: Global, value: &JsonValue<'_>) -> Result<Option<Wrong
             alloc,
             "an object from names to values is asked, or an array of pairs",
         )?)),
+    }
+}
+
+fn wrong_each(alloc: Global, items: &[JsonValue<'_>]) -> Result<Option<Wrong>, OutOfMemory>
+    ensures { Finds (first_item wrong_writes 0 (map view items.now)) result }
+{
+    for (position, item) in items.iter().enumerate() {
+        if let Some(wrong) = in_item(position, wrong_writes(alloc, item)?)? {
+            return Ok(Some(wrong));
+        }
+    }
+    Ok(None)
+}
+
+/// The first wrong place of many inputs, or the value itself where it is no array. Takes memory.
+#[tactic(auto, unfolding(crate::specs::WrongInputs::wrong_many))]
+pub fn wrong_many(alloc: Global, value: &JsonValue<'_>) -> Result<Option<Wrong>, OutOfMemory>
+    ensures { Finds (wrong_many (view value.now)) result }
+{
+    match items_of(value) {
+        Some(items) => wrong_each(alloc, items),
+        None => Ok(Some(asked_here(alloc, "an array of inputs is asked")?)),
     }
 }

@@ -3,14 +3,14 @@ ghost use Rattle.std.specs.Prelude.{◌≡◌, option_map, IfOk};
 ghost use Rattle.smithy_json.specs.views.JsonView.{view};
 ghost use Rattle.smithy_model.specs.Wrong.{first_in};
 ghost use Rattle.smithy_model.specs.views.WrongView.{Finds, wrong_view};
-ghost use Rattle.smithy_job.specs.WrongJobs.{wrong_model_part, wrong_written_part, wrong_response_part, wrong_request_part, wrong_object, wrong_any_model, wrong_endpoint, wrong_policy, wrong_to, wrong_rpc_endpoint, wrong_part, or_whole, wrong_in_job};
+ghost use Rattle.smithy_job.specs.WrongJobs.{wrong_model_part, wrong_written_part, wrong_inputs_part, wrong_response_part, wrong_request_part, wrong_object, wrong_any_model, wrong_endpoint, wrong_policy, wrong_to, wrong_rpc_endpoint, wrong_part, or_whole, wrong_in_job};
 
 use crate::gateway::sending_of;
 use crate::job_kind::JobKind;
 use crate::job_part::{JobPart, parts_of};
 use crate::response::policy_of;
 use crate::settings::{endpoint_of, rpc_endpoint_of};
-use crate::wrong_input::wrong_writes;
+use crate::wrong_input::{wrong_many, wrong_writes};
 use crate::wrong_keys::{
     wrong_code, wrong_error, wrong_omit_of, wrong_operation_of, wrong_service_errors, wrong_status,
 };
@@ -51,6 +51,16 @@ fn wrong_written_part(
             key,
             "an object from names to values is asked, or an array of pairs",
         )?)),
+    }
+}
+
+#[tactic(auto, unfolding(crate::specs::WrongJobs::wrong_inputs_part))]
+fn wrong_inputs_part(alloc: Global, job: &JsonValue<'_>) -> Result<Option<Wrong>, OutOfMemory>
+    ensures { Finds (wrong_inputs_part (view job.now)) result }
+{
+    match job.get("inputs") {
+        Some(inputs) => in_key(alloc, "inputs", wrong_many(alloc, inputs)?),
+        None => Ok(Some(asked_at(alloc, "inputs", "an array of inputs is asked")?)),
     }
 }
 
@@ -144,6 +154,7 @@ fn wrong_part(
         JobPart::AnyModel => wrong_any_model(alloc, job),
         JobPart::Operation => wrong_operation_of(alloc, job),
         JobPart::Input => wrong_written_part(alloc, "input", job),
+        JobPart::Inputs => wrong_inputs_part(alloc, job),
         JobPart::Output => wrong_written_part(alloc, "output", job),
         JobPart::Status => wrong_status(alloc, job),
         JobPart::Endpoint => wrong_endpoint(alloc, job),

@@ -24,9 +24,13 @@ Names = Vec (Bor (List ℕ)) Global
 abbrev pub node_of : Option SchemaRef → Option Schema
 node_of here = option_map schema_of here
 
--- the nodes of the model, and of these names
+-- the nodes of the model, and of the names that there are
+abbrev pub nodes_before : ModelNodes → Table
+nodes_before model = nodes_with model.table.now model.earlier.now
+
+-- the same, and those of these names
 abbrev pub nodes_of : ModelNodes → Names → Table
-nodes_of model names = nodes_with model.table.now names.items
+nodes_of model names = nodes_with (nodes_before model) names.items
 
 -- the nodes that there were are there
 abbrev pub KeepsNodes : {A E : Type 0} → ModelNodes → Names → Names → Result A E → Type 0

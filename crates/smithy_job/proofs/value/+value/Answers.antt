@@ -3,7 +3,7 @@ use Rattle.smithy_json.specs.views.JsonView.{view, items_view, members_view}
 use Rattle.smithy_schema.specs.References.{schema_of}
 use Rattle.smithy_serde.specs.Values.{list, map, structure, null, boolean}
 use Rattle.smithy_job.specs.Values.{kind_of, is_document_kind, is_structure_kind, label_at, value_in, elements_in, entries_in, members_in}
-use Rattle.smithy_job.proofs.TableLemmas.{keeps-all, keeps-both, model-label, label-kept}
+use Rattle.smithy_job.proofs.TableLemmas.{keeps-all, keeps-both, any-label, label-kept}
 use Rattle.smithy_job.proofs.ScalarLemmas.{null_is, boolean_is}
 use Rattle.smithy_job.proofs.ValueLemmas.{so_far-start, so_far-end, value_more, entry_more, group_refused, next_refused, has_scalar, reads_scalar, has_list, has_map, has_structure}
 use Rattle.smithy_job.proofs.CycleLemmas.{at_document, at_null, at_boolean, at_number, at_string, at_array, at_structure, at_map, next_element, no_element, next_entry, no_entry, next_member, no_member}
@@ -27,7 +27,7 @@ elements_at-loop-item-preserved t c = record {
   kept = keeps-both _ _ _ c.loop-item.invariant.kept c.in_ok-value.ensures.kept;
   so_far =
       value_more _ _ c.loop-item.writes c.push.new.self c.index_of-index.result _ c.in_ok-value.value (value_in (option_map schema_of c.args.element) (view c.item-item.result)) _ _ c.in_ok-value.ensures.kept
-      (model-label c.args.model.table.now c.value_at.new.names.items c.index_of-index.result.0 (label_at (option_map schema_of c.args.element)) c.index_of-index.ensures) c.in_ok-value.ensures.value c.in_ok-push.ensures.ok c.in_ok-push.ensures.ok_defined
+      (any-label c.args.model.table.now c.args.model.earlier.now c.value_at.new.names.items c.index_of-index.result.0 (label_at (option_map schema_of c.args.element)) c.index_of-index.ensures) c.in_ok-value.ensures.value c.in_ok-push.ensures.ok c.in_ok-push.ensures.ok_defined
       (rw (next_element (option_map schema_of c.args.element) c.args.items.now c.loop-item.item-index c.item-item.result c.loop-item-test.true c.item-item.is) at c.loop-item.invariant.so_far);
 }
 
@@ -53,8 +53,8 @@ entries_at-loop-member-preserved t c = record {
   so_far =
       entry_more _ _ c.loop-member.writes c.push.new.self c.push-in-loop-member.new.self c.index_of-key_index.result c.index_of-value_index.result _ _ c.in_ok-text.text c.in_ok-found.found _
       (value_in (option_map schema_of c.args.value) (view c.member-item.result.1)) _ _ c.in_ok-found.ensures.kept
-      (model-label c.args.model.table.now c.value_at.new.names.items c.index_of-key_index.result.0 (label_at (option_map schema_of c.args.key)) c.index_of-key_index.ensures)
-      (model-label c.args.model.table.now c.value_at.new.names.items c.index_of-value_index.result.0 (label_at (option_map schema_of c.args.value)) c.index_of-value_index.ensures)
+      (any-label c.args.model.table.now c.args.model.earlier.now c.value_at.new.names.items c.index_of-key_index.result.0 (label_at (option_map schema_of c.args.key)) c.index_of-key_index.ensures)
+      (any-label c.args.model.table.now c.args.model.earlier.now c.value_at.new.names.items c.index_of-value_index.result.0 (label_at (option_map schema_of c.args.value)) c.index_of-value_index.ensures)
       (rw c.kind_of-key_kind.ensures at c.in_ok-text.ensures) c.in_ok-found.ensures.value
       c.in_ok-push.ensures.ok c.in_ok-push.ensures.ok_defined c.in_ok-push-2.ensures.ok c.in_ok-push-2.ensures.ok_defined
       (rw (next_entry (option_map schema_of c.args.key) (option_map schema_of c.args.value) c.args.members.now c.loop-member.member-index c.member-item.result c.loop-member-test.true c.member-item.is) at c.loop-member.invariant.so_far);

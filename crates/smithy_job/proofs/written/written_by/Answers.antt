@@ -1,4 +1,5 @@
-use Rattle.std.proofs.Common.{◌∙◌, rules, Some, sym, ap, option_and_then}
+use Rattle.std.proofs.Common.{◌∙◌, [], rules, Some, sym, ap, option_and_then}
+use Rattle.std.proofs.lemmas.List.{append-nil}
 use Rattle.smithy_json.specs.views.JsonView.{view}
 use Rattle.smithy_schema.specs.References.{schema_of}
 use Rattle.smithy_model.specs.views.ModelView.{asked_view}
@@ -21,7 +22,7 @@ returns-in_err-writes c =
     let asked = asked_view c.args.asked in
     let placed = placed_schema (schema asked (view c.args.job.now)) c.args.model c.requires in
     let same = schema_there c.args.model placed.0 (schema_of c.in-Some.schema) placed.2 c.in-Some.ensures.node in
-    refuses (AreWrites (nodes_with c.args.model.table c.read_input.new.names.items)) IsWritten (input (schema_of c.in-Some.schema) (view c.in-Some-get.value.now)) _ c.in_err-writes.field-0.0 c.from_residual.result (search rules)
+    refuses (AreWrites (nodes_with (nodes_with c.args.model.table []) c.read_input.new.names.items)) IsWritten (input (schema_of c.in-Some.schema) (view c.in-Some-get.value.now)) _ c.in_err-writes.field-0.0 c.from_residual.result (search rules)
     (λ none. no_writes asked c.args.key.now (view c.args.job.now) placed.0 placed.1 (ap (option_and_then (input placed.0)) (sym c.in-Some-get.ensures) ∙ ap (λ s. input s (view c.in-Some-get.value.now)) (sym same) ∙ none)) c.in_err-writes.ensures.writes
 
 pub returns : goal.returns
@@ -29,5 +30,5 @@ returns c =
     let asked = asked_view c.args.asked in
     let placed = placed_schema (schema asked (view c.args.job.now)) c.args.model c.requires in
     let same = schema_there c.args.model placed.0 (schema_of c.in-Some.schema) placed.2 c.in-Some.ensures.node in
-    written_read asked c.args.key.now (view c.args.job.now) placed.0 placed.1 _ c.read_input.new.names.items (view c.in-Some-get.value.now) (rw same at c.in_ok-writes.ensures.writes)
+    written_read asked c.args.key.now (view c.args.job.now) placed.0 placed.1 _ c.read_input.new.names.items (view c.in-Some-get.value.now) (rw same at (rw (append-nil c.args.model.table) at c.in_ok-writes.ensures.writes))
     (sym c.in-Some.ensures.node ∙ ap (λ s. Some s) same) (sym c.in-Some-get.ensures) (rw c.as_slice.ensures.value at c.in_ok-further.ensures)
