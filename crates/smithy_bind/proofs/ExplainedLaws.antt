@@ -26,6 +26,7 @@ use Rattle.smithy_response.specs.ResponseValue.{value_of_response}
 use Rattle.smithy_router.specs.Tables.{Entry}
 use Rattle.smithy_model.specs.Wrong.{Wrong}
 use Rattle.smithy_job.specs.Answering.{Answering, answering}
+use Rattle.smithy_job.specs.Common.{Many, are_inputs, if_inputs, many, whole}
 use Rattle.smithy_job.specs.Gateway.{Gateway, gateway}
 use Rattle.smithy_job.specs.Jobs as jobs
 use Rattle.smithy_job.specs.Jobs.{Job, Received, job, received}
@@ -35,11 +36,12 @@ use Rattle.smithy_job.specs.WrongJobs.{wrong_in_job}
 use Rattle.smithy_job.specs.declared.job_kind.JobKind.{JobKind}
 use Rattle.smithy_job.specs.declared.job_kind.JobKind.TheVariants as kind
 use Rattle.smithy_bind.specs.Commands.{command_for}
-use Rattle.smithy_bind.specs.Explained.{Explains}
+use Rattle.smithy_bind.specs.Verdicts.{Explains, IsAnswered, has_inputs}
 use Rattle.smithy_bind.specs.Explaining.{broken_expected, broken_operation, explained, job_line, line_of_rule, line_of_value, not_checked, not_job, not_json, rule_in}
 use Rattle.smithy_bind.specs.Gateway.{gatewayed_by, shown_request}
-use Rattle.smithy_bind.specs.Outcome.{answer_to, answered, called, gatewayed_job, gatewayed_to, json_bodies, json_reading, json_requests, outcome_by, recovered_job, recovered_to, routed_to, sent_job, served_to}
+use Rattle.smithy_bind.specs.Outcome.{answer_to, answered, called, gatewayed_job, gatewayed_to, json_bodies, json_reading, json_requests, outcome_by, recovered_job, recovered_to, requested_to, routed_to, sent_job, served_to}
 use Rattle.smithy_bind.specs.Recovering.{recovered_by, shown_input}
+use Rattle.smithy_bind.specs.Requesting.{lines_for, requested_by}
 use Rattle.smithy_bind.specs.Responding.{behind_name, body_held, error_of, read_as, read_by, read_found, read_received, responded_to, shown_document, shown_value}
 use Rattle.smithy_bind.specs.Routing.{are_checked, found_or_refused, no_route, operation_found, operation_named, routed_by, told_input, with_operations}
 use Rattle.smithy_bind.specs.Serving.{served_by, served_job}
@@ -141,6 +143,23 @@ unfolding answered
 of_sent bodies None w = neither _ _ (wrong_is_no_job w) refl
 of_sent bodies (Some j) w = by_check (broken_input j.schema) (checked_input j.schema) _ (broken_input_iff j.schema) (told_accepted shown _)
 
+-- the line and the answer are of one mind, where the inputs of many jobs are some
+abbrev AgreesWith : List ℕ → Outcome → Bool → Type 0
+AgreesWith line o inputs = line ≡ job_line ↔ (o ≢ no_job) × IsTrue inputs
+
+with_one : (line : List ℕ) (o : Outcome) → Agrees line o → AgreesWith line o true
+with_one line o h = ((λ is. (h.0 is, refl)), (λ p. h.1 p.0))
+
+of_many : (bodies : Protocol) (o : Option Many) (w : Wrong)
+    → AgreesWith (line_by (option_map (λ m. broken_input m.common.schema) (option_and_then if_inputs o)) w) (outcome_of (requested_by bodies) o) (option_map_or (λ m. are_inputs m.common m.inputs) o true)
+unfolding requested_by
+of_many bodies None w = with_one _ _ (neither _ _ (wrong_is_no_job w) refl)
+of_many bodies (Some m) w = go (are_inputs m.common m.inputs)
+  where
+    go : (t : Bool) → AgreesWith (line_by (option_map (λ m. broken_input m.common.schema) (if t then Some m else None)) w) (if checked_input m.common.schema then output (lines_for bodies m.common m.inputs) else no_job) t
+    go true = with_one _ _ (by_check (broken_input m.common.schema) (checked_input m.common.schema) (output (lines_for bodies m.common m.inputs)) (broken_input_iff m.common.schema) refl)
+    go false = ((λ is. absurd (wrong_is_no_job w is)), (λ p. let e : false ≡ true = p.1 in absurd (cc e)))
+
 of_posted : (bodies : Protocol) (o : Option Job) (w : Wrong) → Agrees (line_by (option_map (λ j. None) o) w) (outcome_of (called bodies) o)
 unfolding called
 of_posted bodies None w = neither _ _ (wrong_is_no_job w) refl
@@ -241,19 +260,21 @@ of_received (Some r) w = of_expected r.expected r.response r.policy
 abbrev bodies : Protocol
 bodies = json_bodies json_text
 
-of_value : (k : JobKind) (d : Data) → Agrees (line_of_value k d) (answer_to bodies (command_for k) d)
-unfolding sent_job responded_to recovered_to routed_to gatewayed_to served_to
-of_value kind.Request d = of_sent bodies (job d) (wrong_in_job kind.Request d)
-of_value kind.Rpc d = of_posted bodies (job d) (wrong_in_job kind.Rpc d)
-of_value kind.Response d = of_received (received d) (wrong_in_job kind.Response d)
-of_value kind.Recover d = of_recovering (recovering d) (wrong_in_job kind.Recover d)
-of_value kind.Route d = of_routing (routing d) (wrong_in_job kind.Route d)
-of_value kind.Gateway d = of_gateway (gateway d) (wrong_in_job kind.Gateway d)
-of_value kind.Answer d = of_answering bodies (answering d) (wrong_in_job kind.Answer d)
+of_value : (k : JobKind) (d : Data) → AgreesWith (line_of_value k d) (answer_to bodies (command_for k) d) (has_inputs k d)
+unfolding sent_job requested_to responded_to recovered_to routed_to gatewayed_to served_to whole
+of_value kind.Request d = with_one _ _ (of_sent bodies (job d) (wrong_in_job kind.Request d))
+of_value kind.Requests d = of_many bodies (many d) (wrong_in_job kind.Requests d)
+of_value kind.Rpc d = with_one _ _ (of_posted bodies (job d) (wrong_in_job kind.Rpc d))
+of_value kind.Response d = with_one _ _ (of_received (received d) (wrong_in_job kind.Response d))
+of_value kind.Recover d = with_one _ _ (of_recovering (recovering d) (wrong_in_job kind.Recover d))
+of_value kind.Route d = with_one _ _ (of_routing (routing d) (wrong_in_job kind.Route d))
+of_value kind.Gateway d = with_one _ _ (of_gateway (gateway d) (wrong_in_job kind.Gateway d))
+of_value kind.Answer d = with_one _ _ (of_answering bodies (answering d) (wrong_in_job kind.Answer d))
 
 -- the outcome of a command of a job, by the value that is read
 outcome_read : (k : JobKind) (bytes : List ℕ) → outcome_by (Some (command_for k)) bytes ≡ option_map_or (answer_to bodies (command_for k)) (json_of bytes) no_job
 outcome_read kind.Request bytes = refl
+outcome_read kind.Requests bytes = refl
 outcome_read kind.Rpc bytes = refl
 outcome_read kind.Response bytes = refl
 outcome_read kind.Recover bytes = refl
@@ -261,8 +282,9 @@ outcome_read kind.Route bytes = refl
 outcome_read kind.Gateway bytes = refl
 outcome_read kind.Answer bytes = refl
 
-of_read : (k : JobKind) (bytes : List ℕ) (read : Option Data) → Agrees (option_map_or (line_of_value k) read (not_json bytes)) (option_map_or (answer_to bodies (command_for k)) read no_job)
-of_read k bytes None = neither _ _ (json_is_no_job bytes) refl
+of_read : (k : JobKind) (bytes : List ℕ) (read : Option Data)
+    → AgreesWith (option_map_or (line_of_value k) read (not_json bytes)) (option_map_or (answer_to bodies (command_for k)) read no_job) (option_map_or (has_inputs k) read true)
+of_read k bytes None = with_one _ _ (neither _ _ (json_is_no_job bytes) refl)
 of_read k bytes (Some d) = of_value k d
 
 told_output : (k : JobKind) (bytes : List ℕ) (read : Option Data)
@@ -274,10 +296,16 @@ is_unread : (k : JobKind) (bytes : List ℕ) (read : Option Data) → option_map
 is_unread k bytes None = ((λ _. refl), (λ _. refl))
 is_unread k bytes (Some d) = ((λ same. absurd (told_is_json (rule_in k d) (wrong_in_job k d) bytes same)), (λ e. absurd (cc e)))
 
+answered_by : (k : JobKind) (bytes : List ℕ) (line : List ℕ) (o : Outcome) → outcome_by (Some (command_for k)) bytes ≡ o → AgreesWith line o (option_map_or (has_inputs k) (json_of bytes) true) → line ≡ job_line ↔ IsAnswered k bytes
+answered_by k bytes line o is h = (
+  (λ same. let p = h.0 same in record { command = λ none. p.0 (sym is ∙ none); inputs = p.1 }),
+  (λ a. h.1 ((λ none. a.command (is ∙ none)), a.inputs)),
+)
+
 pub explains : (k : JobKind) (bytes : List ℕ) → Explains k bytes
 unfolding explained
 explains k bytes = record {
   answer = told_output k bytes (json_of bytes);
-  job = subst (Agrees (option_map_or (line_of_value k) (json_of bytes) (not_json bytes))) (sym (outcome_read k bytes)) (of_read k bytes (json_of bytes));
+  job = answered_by k bytes (option_map_or (line_of_value k) (json_of bytes) (not_json bytes)) _ (outcome_read k bytes) (of_read k bytes (json_of bytes));
   not_json = is_unread k bytes (json_of bytes);
 }

@@ -7,12 +7,13 @@ use Rattle.smithy_model.specs.Names.{is}
 use Rattle.smithy_job.specs.declared.job_kind.JobKind.{JobKind}
 use Rattle.smithy_job.specs.declared.job_kind.JobKind.TheVariants as kind
 use Rattle.smithy_bind.specs.declared.command.Command.{Command}
-use Rattle.smithy_bind.specs.declared.command.Command.TheVariants.{Request, Response, Rpc, Recover, Route, Gateway, Answer, Explain, Generate, Help, Version}
+use Rattle.smithy_bind.specs.declared.command.Command.TheVariants.{Request, Requests, Response, Rpc, Recover, Route, Gateway, Answer, Explain, Generate, Help, Version}
 
 -- the commands that are one word
 abbrev pub named : List (List ℕ × Command)
 named =
     (codes "request", Request)
+    ∷ (codes "requests", Requests)
     ∷ (codes "response", Response)
     ∷ (codes "rpc", Rpc)
     ∷ (codes "recover", Recover)
@@ -27,6 +28,7 @@ named =
 abbrev pub jobs : List (List ℕ × JobKind)
 jobs =
     (codes "request", kind.Request)
+    ∷ (codes "requests", kind.Requests)
     ∷ (codes "rpc", kind.Rpc)
     ∷ (codes "response", kind.Response)
     ∷ (codes "recover", kind.Recover)
@@ -67,6 +69,7 @@ command_of _ = None
 -- the command of a job
 abbrev pub command_for : JobKind → Command
 command_for kind.Request = Request
+command_for kind.Requests = Requests
 command_for kind.Rpc = Rpc
 command_for kind.Response = Response
 command_for kind.Recover = Recover

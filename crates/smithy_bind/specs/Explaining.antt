@@ -8,6 +8,7 @@ use Rattle.smithy_binding.specs.Broken.{Broken, broken_input, broken_output}
 use Rattle.smithy_binding.specs.RuleTexts.{text_of_broken}
 use Rattle.smithy_model.specs.Wrong.{Wrong, pointer}
 use Rattle.smithy_job.specs.Answering.{answering}
+use Rattle.smithy_job.specs.Common as many
 use Rattle.smithy_job.specs.Gateway.{gateway}
 use Rattle.smithy_job.specs.Jobs as jobs
 use Rattle.smithy_job.specs.Jobs.{Expected, job, received}
@@ -59,6 +60,7 @@ broken_expected (jobs.coded code errors) = option_and_then broken_output (error_
 -- of this kind. What is posted whole needs no checked schema.
 abbrev pub rule_in : JobKind → Data → Option (Option Broken)
 rule_in kind.Request d = option_map (λ j. broken_input j.schema) (job d)
+rule_in kind.Requests d = option_map (λ m. broken_input m.common.schema) (many.whole d)
 rule_in kind.Rpc d = option_map (λ j. None) (job d)
 rule_in kind.Response d = option_map (λ r. broken_expected r.expected) (received d)
 rule_in kind.Recover d = option_map (λ j. broken_input j.schema) (recovering d)

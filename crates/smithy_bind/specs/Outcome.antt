@@ -14,6 +14,7 @@ use Rattle.smithy_document.specs.JsonHeld.{json_held}
 use Rattle.smithy_document.specs.JsonText.{json_text}
 use Rattle.serde_json.specs.Data.{Data, null}
 use Rattle.smithy_job.specs.Answering.{answering}
+use Rattle.smithy_job.specs.Common.{many}
 use Rattle.smithy_job.specs.Gateway.{Gateway, gateway}
 use Rattle.smithy_job.specs.Jobs.{Job, job}
 use Rattle.smithy_job.specs.Recovering.{Recovering, recovering}
@@ -26,6 +27,7 @@ use Rattle.smithy_bind.specs.Told.{Outcome, usage, no_job, output, told_by, outc
 use Rattle.smithy_bind.specs.Explaining.{line_of_value, not_json}
 use Rattle.smithy_bind.specs.Gateway.{gatewayed_by}
 use Rattle.smithy_bind.specs.Recovering.{recovered_by}
+use Rattle.smithy_bind.specs.Requesting.{requested_by}
 use Rattle.smithy_bind.specs.Responding.{responded_to}
 use Rattle.smithy_bind.specs.Routing.{routed_by}
 use Rattle.smithy_bind.specs.Serving.{served_job}
@@ -68,6 +70,10 @@ sent_by Rpc protocol j = called protocol j
 -- the answer to the job that a JSON value is
 unfoldable pub sent_job : (Job → Outcome) → Data → Outcome
 sent_job answer d = outcome_of answer (job d)
+
+-- the answer to the inputs that a JSON value has, by a protocol
+unfoldable pub requested_to : Protocol → Data → Outcome
+requested_to protocol d = outcome_of (requested_by protocol) (many d)
 
 -- by bodies of JSON, a schema and an endpoint
 abbrev pub json_reading : Schema → List ℕ → Reading
@@ -119,6 +125,7 @@ generated_by protocol n = summed (generated protocol n)
 -- input, and look at no value.
 abbrev pub answer_to : Protocol → Command → Data → Outcome
 answer_to bodies command.Request d = sent_job (sent_by Rest bodies) d
+answer_to bodies command.Requests d = requested_to bodies d
 answer_to bodies command.Rpc d = sent_job (sent_by Rpc bodies) d
 answer_to bodies command.Response d = responded_to d
 answer_to bodies command.Recover d = recovered_to d

@@ -2,6 +2,8 @@ pub mod AnswerView
 pub mod CodedView
 pub mod ExplainingView
 pub mod GatewayView
+pub mod LineView
 pub mod RecoveredView
+pub mod RequestedView
 pub mod RoutedView
 pub mod ServedView

@@ -8,6 +8,7 @@ use crate::explaining::{explained, unread};
 use crate::gatewayed::gatewayed;
 use crate::generate::generated;
 use crate::recovered::recovered;
+use crate::requested::lines_told;
 use crate::response::responded;
 use crate::routed::routed;
 use crate::sending::job_told;
@@ -33,6 +34,7 @@ pub fn answer<C: Codec + Drop>(
 {
     match command {
         Command::Request => job_told(alloc, Sending::Rest, codec, value),
+        Command::Requests => lines_told(alloc, codec, value),
         Command::Rpc => job_told(alloc, Sending::Rpc, codec, value),
         Command::Response => responded(alloc, value),
         Command::Recover => recovered(alloc, value),

@@ -20,7 +20,7 @@ use crate::told::{Answer, said};
 use smithy_binding::{BrokenRule, broken_input_rule, broken_output_rule};
 use smithy_job::{
     CodedError, Expected, JobKind, Operation, read_answering, read_gateway, read_job,
-    read_received, read_recovering, read_routing, wrong_in_job,
+    read_received, read_recovering, read_routing, read_whole, wrong_in_job,
 };
 use smithy_json::{JsonValue, json_end};
 use smithy_model::{JobError, pointer_of};
@@ -88,6 +88,7 @@ fn rule_told(alloc: Global, kind: JobKind, value: &JsonValue<'_>) -> Result<Answ
 {
     match kind {
         JobKind::Request => request_told(alloc, value),
+        JobKind::Requests => requests_told(alloc, value),
         JobKind::Rpc => call_told(alloc, value),
         JobKind::Response => response_told(alloc, value),
         JobKind::Recover => recovering_told(alloc, value),
@@ -104,6 +105,13 @@ fn request_told(alloc: Global, value: &JsonValue<'_>) -> Result<Answer, JobError
 {
     let job = read_job(alloc, value)?;
     input_told(alloc, &job.table, job.index)
+}
+
+fn requests_told(alloc: Global, value: &JsonValue<'_>) -> Result<Answer, JobError>
+    ensures { TellsRule (rule_in kind_of.Requests (view value.now)) result }
+{
+    let common = read_whole(alloc, value)?;
+    input_told(alloc, &common.model.table, common.model.index)
 }
 
 fn call_told(alloc: Global, value: &JsonValue<'_>) -> Result<Answer, JobError>

@@ -1,7 +1,8 @@
 //! What follows from the contracts of this crate.
 
 ghost use Rattle.std.specs.Prelude.{◌≡◌, [], Some};
-ghost use Rattle.smithy_bind.specs.Explained.{ExplainIsExact};
+ghost use Rattle.smithy_bind.specs.Alone.{LinesAreAlone};
+ghost use Rattle.smithy_bind.specs.Verdicts.{ExplainIsExact};
 ghost use Rattle.smithy_bind.specs.Runs.{RanInMemory};
 
 use crate::ended::Status;
@@ -25,8 +26,14 @@ pub fn run_in_memory(
 }
 
 /// `explain` tells of bytes that they are a job exactly where the command that it is about doesn't end with `Status::Job` over them,
-/// and that they are no JSON exactly where no value is read of them.
+/// and each of many inputs has the form of one; and that they are no JSON exactly where no value is read of them.
 #[tactic(auto, using(crate::proofs::ExplainedLaws::explains))]
 pub fn explain_is_exact()
     ensures { ExplainIsExact }
+{}
+
+/// The line of an input among many tells what `request` answers to the job of that input alone, and what their jobs have in common.
+#[tactic(auto, using(crate::proofs::RequestedLemmas::each_alone))]
+pub fn each_line_is_alone()
+    ensures { LinesAreAlone }
 {}

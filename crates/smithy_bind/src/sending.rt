@@ -1,5 +1,5 @@
 // The jobs whose inputs are sent.
-ghost use Rattle.std.specs.Prelude.{IsTrue};
+ghost use Rattle.std.specs.Prelude.{◌≡◌, codes, IsTrue};
 ghost use Rattle.smithy_json.specs.JsonView.{view};
 ghost use Rattle.smithy_schema.specs.References.{schema_of};
 ghost use Rattle.smithy_serde.specs.StructValues.{members_of};
@@ -85,6 +85,23 @@ pub fn placed<C: Codec + Drop>(
     ensures { IsPlaced (C.text codec) schema.entry (members_of input.now) endpoint.now omit result }
 {
     let protocol = HttpBindingProtocol::rest_json(codec);
+    placed_by(alloc, &protocol, schema, input, endpoint, omit)
+}
+
+/// The same by a protocol of bodies of JSON, whose codec is lawful.
+pub fn placed_by<C: Codec>(
+    alloc: Global,
+    protocol: &HttpBindingProtocol<C>,
+    schema: SchemaRef<'_>,
+    input: &StructValue<'_>,
+    endpoint: &str,
+    omit: OmitFlags,
+) -> Result<Request, SerdeError>
+    requires checked { IsTrue (checked (schema_of schema)) }
+    requires lawful { C.lawful protocol.now.codec }
+    requires json { protocol.now.content_type ≡ codes "application/json" }
+    ensures { IsPlaced (C.text protocol.now.codec) schema.entry (members_of input.now) endpoint.now omit result }
+{
     protocol.serialize_request(alloc, input, schema, endpoint, omit)
 }
 

@@ -7,6 +7,7 @@ pub const HELP: &str = "\
 Places Smithy inputs in HTTP requests, and reads requests and responses.
 
 Usage: smithy_bind request < JOB
+       smithy_bind requests < JOB
        smithy_bind rpc < JOB
        smithy_bind response < JOB
        smithy_bind recover < JOB
@@ -22,7 +23,10 @@ Usage: smithy_bind request < JOB
 request to standard output: a line of method and target, a line for each
 header, an empty line, and the body. Where the input can't be sent, it writes
 one line that says why.
-`rpc` does the same, but posts the whole input as the body.
+`requests` reads a job with many inputs of one operation, and writes one line of
+JSON for each, in order: its request, the line that says why it can't be sent,
+or that the value is no input. The model is read and checked once.
+`rpc` does the same as `request`, but posts the whole input as the body.
 `response` reads a job with a response, and writes the value of the
 operation's output, or of an error, as one line of JSON. Where the response
 can't be read, it writes one line that says why.
@@ -55,11 +59,13 @@ A job of `request` or `rpc` has also:
   input      an object from names of members to values, written in byte order
              of the names; or an array of pairs of a name and a value,
              written in this order
+A job of `requests` has also:
+  inputs     an array of such inputs
 A job of `answer` has also:
   output     the same of an output
   status     optional, from 100 to 999, where the output has no response code;
              without it the code of smithy.api#http, or else 200
-A job of `request`, `rpc`, `recover` or `gateway` has also:
+A job of `request`, `requests`, `rpc`, `recover` or `gateway` has also:
   endpoint   optional, a text: the URI template of an operation without
              smithy.api#http; of `rpc` the target
 A job of these or of `route` has also:
@@ -101,7 +107,7 @@ The exit status is
   0  the output was written
   1  the words are no command
   2  the input is no job, or a request can't be placed by its schema, or a
-     response read by it
+     response read or written by it
   3  the input can't be sent, the response can't be read, no input has the
      request, or no operation is found; the line says why
   4  reading failed

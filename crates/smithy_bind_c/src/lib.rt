@@ -23,6 +23,21 @@ pub extern "C" fn smithy_bind_request(
     answer_into(alloc, Command::Request, job, text, text_len)
 }
 
+/// The HTTP requests of a job's inputs by AWS restJson1, a line of JSON for each, with the request, the line of its first fault, or
+/// that the value is no input: the text that the program's command `requests` writes. What it answers and leaves is as
+/// `smithy_bind_request` says. Takes memory.
+#[unsafe(no_mangle)]
+pub extern "C" fn smithy_bind_requests(
+    alloc: Global,
+    job: &[u8],
+    text: &mut [u8],
+    text_len: &mut usize,
+) -> u8
+    ensures { Answers Command.Requests job.now result text_len.new text.old text.new }
+{
+    answer_into(alloc, Command::Requests, job, text, text_len)
+}
+
 /// The value that a job's response hands out, as JSON, or the line of its first refusal: the text that the program's
 /// command `response` writes. What it answers and leaves is as `smithy_bind_request` says. Takes memory.
 #[unsafe(no_mangle)]
@@ -123,6 +138,26 @@ pub extern "C" fn smithy_bind_explain_request(
     answer_into(
         alloc,
         Command::Explain(JobKind::Request),
+        job,
+        text,
+        text_len,
+    )
+}
+
+/// The same of the command `requests`: the line that `explain requests` writes. What it answers and leaves is as
+/// `smithy_bind_request` says. Takes memory.
+#[unsafe(no_mangle)]
+pub extern "C" fn smithy_bind_explain_requests(
+    alloc: Global,
+    job: &[u8],
+    text: &mut [u8],
+    text_len: &mut usize,
+) -> u8
+    ensures { Answers (Command.Explain JobKind.Requests) job.now result text_len.new text.old text.new }
+{
+    answer_into(
+        alloc,
+        Command::Explain(JobKind::Requests),
         job,
         text,
         text_len,

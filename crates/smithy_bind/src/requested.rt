@@ -1,0 +1,167 @@
+// The command `requests`: the requests of many inputs of one operation, whose model is read and checked once.
+ghost use Rattle.smithy_json.specs.JsonView.{view};
+ghost use Rattle.smithy_bind.specs.Outcome.{json_bodies, requested_to};
+ghost use Rattle.smithy_bind.specs.views.AnswerView.{Gives};
+
+use crate::line::answer_line;
+use crate::sending::placed_by;
+use crate::told::Answer;
+use smithy_binding::{HttpBindingProtocol, checked_input};
+use smithy_http::Request;
+use smithy_job::{Common, Inputs, inputs_of, read_common};
+use smithy_json::JsonValue;
+use smithy_model::JobError;
+use smithy_schema::Schemas;
+use smithy_serde::{Codec, SerdeError, StructValue, WriteList};
+use smithy_types::OutOfMemory;
+use std::alloc::Global;
+
+/// An operation whose model was read and checked once, and which places any number of inputs.
+#[derive(Drop)]
+pub struct ReadOperation<'v, 't> {
+    /// What the jobs of the inputs have in common.
+    pub common: Common<'v, 't>,
+}
+
+impl<'v, 't> ReadOperation<'v, 't> {
+    ghost use Rattle.std.specs.Prelude.{◌≡◌, codes, map, option_map, IfOk, IfSome};
+    ghost use Rattle.std.specs.List.{AllByRecursion};
+    ghost use Rattle.smithy_json.specs.JsonView.{view};
+    ghost use Rattle.smithy_serde.specs.StoredValues.{AreDefined, HasNode};
+    ghost use Rattle.smithy_job.specs.Tables.{ReadsAs};
+    ghost use Rattle.smithy_bind.specs.Requesting.{operation};
+    ghost use Rattle.smithy_bind.specs.views.RequestedView.{IsOperation, IsRead, MakesInput, MakesLines, PlacesInput, TellsInputs};
+
+    /// The operation of a job, whose `input` or `inputs` are not looked at: its model, its name, the endpoint and the headers to be
+    /// left out. Takes memory. No job where one of these has not its form, or where no request can be placed by the schema.
+    pub fn read(alloc: Global, job: &'v JsonValue<'t>) -> Result<ReadOperation<'v, 't>, JobError>
+        ensures value { ReadsAs IsOperation (operation (view job.now)) result }
+        ensures read { IfOk result IsRead }
+    {
+        let common = read_common(alloc, job)?;
+        let Some(schema) = common.model.table.get(common.model.index) else {
+            unreachable!()
+        };
+        if !checked_input(alloc, schema)? {
+            return Err(JobError::NoJob);
+        }
+        Ok(ReadOperation { common })
+    }
+
+    /// The request of an input, with a body of JSON by a codec (AWS restJson1), or its first fault: what `request` answers to the
+    /// job of this input alone. Takes memory. No job where the value has not the form of an input. Conditions: the operation was
+    /// read, and the codec is lawful.
+    pub fn request<C: Codec + Drop>(
+        &self,
+        alloc: Global,
+        codec: C,
+        input: &JsonValue<'_>,
+    ) -> Result<Result<Request, SerdeError>, JobError>
+        requires lawful { C.lawful codec }
+        requires read { IsRead self.now }
+        ensures { PlacesInput (C.text codec) self.now (view input.now) result }
+    {
+        let protocol = HttpBindingProtocol::rest_json(codec);
+        let Inputs { further, mut each } = self
+            .common
+            .read_inputs(alloc, std::slice::from_ref(input))?;
+        let nodes = further.as_ref().unwrap_or(&self.common.model.table);
+        let Some(writes) = each.pop() else {
+            unreachable!()
+        };
+        match self.made(alloc, &protocol, nodes, writes) {
+            Some(made) => Ok(made),
+            None => Err(JobError::NoJob),
+        }
+    }
+
+    /// A line of JSON for each input, in order, that tells its request, its first fault, or that the value has not the form of
+    /// an input. Nothing of the model is read or checked again, but for one reading where a name in the inputs is no member's.
+    /// Takes memory. Conditions: the operation was read, and the codec is lawful.
+    pub fn lines<C: Codec + Drop>(
+        &self,
+        alloc: Global,
+        codec: C,
+        inputs: &[JsonValue<'_>],
+    ) -> Result<Vec<u8>, OutOfMemory>
+        requires lawful { C.lawful codec }
+        requires read { IsRead self.now }
+        ensures { IfOk result (TellsInputs (C.text codec) self.now (map view inputs.now)) }
+    {
+        let protocol = HttpBindingProtocol::rest_json(codec);
+        let Inputs { further, each } = self.common.read_inputs(alloc, inputs)?;
+        let nodes = further.as_ref().unwrap_or(&self.common.model.table);
+        self.lines_of(alloc, &protocol, nodes, each)
+    }
+
+    // What comes of the writes of an input, where there are some.
+    fn made<C: Codec>(
+        &self,
+        alloc: Global,
+        protocol: &HttpBindingProtocol<C>,
+        nodes: &Schemas,
+        writes: Option<WriteList>,
+    ) -> Option<Result<Request, SerdeError>>
+        requires lawful { C.lawful protocol.now.codec }
+        requires json { protocol.now.content_type ≡ codes "application/json" }
+        requires read { IsRead self.now }
+        requires node { HasNode nodes.now self.now.common.model.index.0 }
+        requires defined { IfSome writes (AreDefined nodes.now) }
+        ensures { MakesInput (C.text protocol.now.codec) self.now nodes.now writes result }
+    {
+        let Common { model, .. } = &self.common;
+        let Some(schema) = model.table.get(model.index) else {
+            unreachable!()
+        };
+        match writes {
+            Some(writes) => {
+                let input = StructValue::with_writes(nodes, model.index, writes);
+                let endpoint = self.common.endpoint;
+                Some(placed_by(alloc, protocol, schema, &input, endpoint, self.common.omit))
+            }
+            None => None,
+        }
+    }
+
+    // The lines of inputs, by their writes.
+    fn lines_of<C: Codec>(
+        &self,
+        alloc: Global,
+        protocol: &HttpBindingProtocol<C>,
+        nodes: &Schemas,
+        each: Vec<Option<WriteList>>,
+    ) -> Result<Vec<u8>, OutOfMemory>
+        requires lawful { C.lawful protocol.now.codec }
+        requires json { protocol.now.content_type ≡ codes "application/json" }
+        requires read { IsRead self.now }
+        requires node { HasNode nodes.now self.now.common.model.index.0 }
+        requires defined { AllByRecursion (λ w. IfSome w (AreDefined nodes.now)) each.items }
+        ensures { IfOk result (MakesLines (C.text protocol.now.codec) self.now nodes.now each) }
+    {
+        let mut text = Vec::new(alloc);
+        for writes in each {
+            let made = self.made(alloc, protocol, nodes, writes);
+            text.extend_from_slice(answer_line(alloc, &made)?.as_slice())?;
+        }
+        Ok(text)
+    }
+}
+
+/// What is to be told of the inputs that a JSON value has: a line for each, in order. Takes memory. No job where what their jobs
+/// have in common is none, or where no request can be placed by the schema. Condition: the codec, which writes the bodies, is
+/// lawful.
+#[tactic(auto, unfolding(crate::specs::Outcome::requested_to))]
+pub fn lines_told<C: Codec + Drop>(
+    alloc: Global,
+    codec: C,
+    value: &JsonValue<'_>,
+) -> Result<Answer, JobError>
+    requires { C.lawful codec }
+    ensures { Gives (requested_to (json_bodies (C.text codec)) (view value.now)) result }
+{
+    let Some(inputs) = inputs_of(value) else {
+        return Err(JobError::NoJob);
+    };
+    let operation = ReadOperation::read(alloc, value)?;
+    Ok(Answer::Output(operation.lines(alloc, codec, inputs)?))
+}
