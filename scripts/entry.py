@@ -36,7 +36,7 @@ MADE_TOOLCHAIN = (
 NO_TOOLCHAIN = "#!/bin/sh\nexit 9\n"
 
 JOB = b'{"a job": [1, 2]}\n'
-COMMANDS = ("request", "rpc", "response", "recover", "route", "gateway", "answer")
+COMMANDS = ("request", "requests", "rpc", "response", "recover", "route", "gateway", "answer")
 
 
 def constant(name):

@@ -5,6 +5,7 @@
 mod documents;
 mod given_job;
 mod jobs;
+mod many;
 mod models;
 mod outputs;
 mod pointing;
@@ -40,6 +41,9 @@ impl Answers for Calls {
             return Ok(text);
         }
         if let Some(text) = jobs::answer(alloc, call, given)? {
+            return Ok(text);
+        }
+        if let Some(text) = many::answer(alloc, call, given)? {
             return Ok(text);
         }
         if let Some(text) = requests::answer(alloc, call, given)? {

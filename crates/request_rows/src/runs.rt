@@ -91,6 +91,7 @@ fn words_of(alloc: Global, given: &Value) -> Result<Words, Failed> {
 fn command_of(given: &Value) -> Result<Command, Failed> {
     match text_of(given, "command")? {
         "request" => Ok(Command::Request),
+        "requests" => Ok(Command::Requests),
         "response" => Ok(Command::Response),
         "rpc" => Ok(Command::Rpc),
         "recover" => Ok(Command::Recover),
@@ -112,6 +113,7 @@ fn command_of(given: &Value) -> Result<Command, Failed> {
 fn kind_of(given: &Value) -> Result<JobKind, Failed> {
     match text_of(given, "of")? {
         "request" => Ok(JobKind::Request),
+        "requests" => Ok(JobKind::Requests),
         "rpc" => Ok(JobKind::Rpc),
         "response" => Ok(JobKind::Response),
         "recover" => Ok(JobKind::Recover),

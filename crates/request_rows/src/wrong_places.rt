@@ -43,6 +43,7 @@ fn found_text(alloc: Global, found: &Option<Wrong>) -> Result<Text, Failed> {
 fn kind_of(given: &Value) -> Result<JobKind, Failed> {
     match given_text(given, "command")? {
         "request" => Ok(JobKind::Request),
+        "requests" => Ok(JobKind::Requests),
         "rpc" => Ok(JobKind::Rpc),
         "response" => Ok(JobKind::Response),
         "recover" => Ok(JobKind::Recover),
