@@ -21,6 +21,7 @@
 /* The commands by their names. ROW is a macro of one word. */
 #define SMITHY_BIND_COMMANDS(ROW) \
     ROW(request)  /* the HTTP request of a job's input */ \
+    ROW(requests) /* the HTTP requests of a job's inputs, a line of JSON for each */ \
     ROW(response) /* the value that a job's response hands out, as JSON */ \
     ROW(rpc)      /* the POST of a job's input as one JSON body, of content type application/json, without X-Amz-Target */ \
     ROW(recover)  /* the input that a job's request is of, as JSON */ \
@@ -194,6 +195,14 @@ static inline int smithy_bind_parts_of(const void *text, size_t text_len, struct
     parts->body.len = text_len;
     return smithy_bind_take(&parts->body, " ", 1, &parts->method) && smithy_bind_take(&parts->body, "\n", 1, &parts->target) &&
            smithy_bind_take_headers(&parts->body, &parts->headers);
+}
+
+/* Takes the next line, without its end, from the text that `requests` writes: a JSON object for each input, in order, with `status`
+ * 0 and the request's `method`, `target`, `headers` and `body`; 3 and the line of the `fault`; or 2 where the value is no input.
+ * docs/JOBS.md has their form. 1, or 0 where there is none left. */
+static inline int smithy_bind_next_line(struct smithy_bind_part *lines, struct smithy_bind_part *line)
+{
+    return smithy_bind_take(lines, "\n", 1, line);
 }
 
 /* The parts of the text that `answer` writes: a status of three digits, and the others as of a request. 1, or 0 where it has

@@ -74,6 +74,15 @@ static void parts_of_a_response(void)
     expect("a request is none", !smithy_bind_response_parts_of("GET /b\n\n", 8, &parts));
 }
 
+static void lines_of_requests(void)
+{
+    const char text[] = "{\"status\":2}\n{\"status\":3,\"fault\":\"Custom: a\"}\n";
+    struct smithy_bind_part lines = {text, sizeof text - 1}, line;
+    expect("an input has a line", smithy_bind_next_line(&lines, &line) && is(line, "{\"status\":2}"));
+    expect("so has the second", smithy_bind_next_line(&lines, &line) && is(line, "{\"status\":3,\"fault\":\"Custom: a\"}"));
+    expect("there is no third", !smithy_bind_next_line(&lines, &line));
+}
+
 static void texts_without_parts(void)
 {
     static const char *const texts[] = {"", "GET", "GET /b", "GET\n\n", "GET /b\n", "GET /b\nx-a: 1\n"};
@@ -120,6 +129,7 @@ int main(void)
     made_answers();
     parts_of_a_request();
     parts_of_a_response();
+    lines_of_requests();
     texts_without_parts();
     request_of(job, job_len);
     explained(job, job_len);

@@ -6,14 +6,14 @@ import ctypes
 import json
 import os
 import pathlib
-from typing import Any, Callable, Dict, Mapping, Tuple, TypeVar, Union
+from typing import Any, Callable, Dict, List, Mapping, Tuple, TypeVar, Union
 
-from smithy_bind._parts import Output, Request, Response, Routed
-from smithy_bind._refusals import TooLong, UnknownAnswer, refused
+from smithy_bind._parts import Output, Request, Response, Routed, parsed_lines
+from smithy_bind._refusals import Fault, NoJob, TooLong, UnknownAnswer, refused
 
 # The commands that read a job, and those whose jobs are explained, which all are: each is the export smithy_bind_NAME of the shared
 # object, and what explains it is smithy_bind_explain_NAME.
-COMMANDS = ("request", "response", "rpc", "recover", "route", "gateway", "answer")
+COMMANDS = ("request", "requests", "response", "rpc", "recover", "route", "gateway", "answer")
 EXPLAINED = COMMANDS
 
 # What a job is given as: JSON as a str or as bytes, or what json.dumps writes.
@@ -63,6 +63,10 @@ class Library:
     def request(self, job: Job) -> Request:
         """The HTTP request of a job's input."""
         return self._parted("request", job, Request.parse)
+
+    def requests(self, job: Job) -> List[Union[Request, Fault, NoJob]]:
+        """For each of a job's inputs, in order, its HTTP request, or why it has none. A refusal stands in the list and isn't raised."""
+        return self._parted("requests", job, parsed_lines)
 
     def response(self, job: Job) -> Output:
         """The value that a job's response hands out."""

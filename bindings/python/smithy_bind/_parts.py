@@ -2,9 +2,12 @@
 
 from __future__ import annotations
 
+import base64
 import dataclasses
 import json
-from typing import Any, Tuple
+from typing import Any, List, Tuple, Union
+
+from smithy_bind._refusals import Fault, NoJob
 
 
 @dataclasses.dataclass(frozen=True)
@@ -30,6 +33,31 @@ class Request:
     def header(self, name: str) -> str | None:
         """The value of the header with this name, in any case. None where there is none."""
         return dict(self.headers).get(name.lower())
+
+
+def parsed_lines(text: bytes) -> List[Union[Request, Fault, NoJob]]:
+    """What the lines of the text that `requests` writes tell. ValueError where it has not their form."""
+    *lines, last = text.split(b"\n")
+    if last:
+        raise ValueError("a line without its end")
+    return [_parsed_line(json.loads(it)) for it in lines]
+
+
+def _parsed_line(value: Any) -> Union[Request, Fault, NoJob]:
+    try:
+        if value["status"] == Fault.status:
+            return Fault(value["fault"].encode() + b"\n")
+        if value["status"] == NoJob.status:
+            return NoJob()
+        headers = tuple((name, _bytes(it).decode("iso-8859-1")) for name, it in value["headers"])
+        return Request(value["method"], value["target"], headers, _bytes(value["body"]))
+    except (AttributeError, KeyError, TypeError) as error:
+        raise ValueError(f"{str(value)[:100]} tells no request") from error
+
+
+def _bytes(value: Any) -> bytes:
+    """The bytes of a text, or of one in base64."""
+    return value.encode() if isinstance(value, str) else base64.b64decode(value["base64"], validate=True)
 
 
 @dataclasses.dataclass(frozen=True)

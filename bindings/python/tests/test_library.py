@@ -39,6 +39,18 @@ class Calls(unittest.TestCase):
         job["request"] = {"method": "GET", "target": "/b/%C3%A9", "headers": [["x-id", "-7"]]}
         self.assertEqual(self.library.recover(job), {"Bucket": "b", "Id": -7, "Key": "é"})
 
+    def test_many_inputs_have_their_requests(self):
+        job = json.loads(example("get_object"))
+        given = [{"Bucket": "b", "Key": "é", "Id": -7}, {"Bucket": "b"}, 5]
+        job["inputs"] = given
+        made = self.library.requests(job)
+        self.assertEqual(made[0], self.library.request({**job, "input": given[0]}))
+        with self.assertRaises(smithy_bind.Fault) as raised:
+            self.library.request({**job, "input": given[1]})
+        self.assertEqual((type(made[1]), made[1].line), (smithy_bind.Fault, raised.exception.line))
+        self.assertEqual(type(made[2]), smithy_bind.NoJob)
+        self.assertTrue(self.library.explain("requests", job).startswith("NoJob: /inputs/2: "))
+
     def test_a_response_is_a_value(self):
         wanted = json.loads((EXAMPLES / "get_object_response.txt").read_bytes())
         self.assertEqual(self.library.response(example("get_object_response")), smithy_bind.Output(wanted))

@@ -2,7 +2,8 @@
 
 import unittest
 
-from smithy_bind import Output, Request, Response, Routed
+from smithy_bind import Fault, NoJob, Output, Request, Response, Routed
+from smithy_bind._parts import parsed_lines
 
 
 class Requests(unittest.TestCase):
@@ -23,6 +24,21 @@ class Requests(unittest.TestCase):
         for text in (b"", b"GET", b"GET /b", b"GET\n\n", b"GET /b\n", b"GET /b\nx-a: 1\n", b"GET /b\nx-a\n\n"):
             with self.subTest(text), self.assertRaises(ValueError):
                 Request.parse(text)
+
+
+class Lines(unittest.TestCase):
+    def test_a_line_tells_a_request_or_why_there_is_none(self):
+        request = b'{"status":0,"method":"PUT","target":"/b","headers":[["x-a",{"base64":"/w=="}],["x-b","\xc3\xa9"]],"body":"\xc3\xa9"}\n'
+        told = parsed_lines(request + b'{"status":3,"fault":"Custom: a"}\n{"status":2}\n')
+        self.assertEqual(told[0], Request("PUT", "/b", (("x-a", "\xff"), ("x-b", "\xc3\xa9")), b"\xc3\xa9"))
+        self.assertEqual((type(told[1]), told[1].line), (Fault, b"Custom: a\n"))
+        self.assertEqual((type(told[2]), told[2].line), (NoJob, b""))
+        self.assertEqual(parsed_lines(b""), [])
+
+    def test_other_texts_are_no_lines(self):
+        for text in (b'{"status":2}', b"GET /b\n\n", b'{"status":0}\n', b"[]\n", b'{"status":3,"fault":1}\n'):
+            with self.subTest(text), self.assertRaises(ValueError):
+                parsed_lines(text)
 
 
 class Responses(unittest.TestCase):

@@ -59,6 +59,8 @@ macro_rules! commands {
 commands! {
     /// The HTTP request of a job's input.
     Request "request" smithy_bind_request smithy_bind_explain_request,
+    /// The HTTP requests of a job's inputs, a line of JSON for each.
+    Requests "requests" smithy_bind_requests smithy_bind_explain_requests,
     /// The value that a job's response hands out.
     Response "response" smithy_bind_response smithy_bind_explain_response,
     /// The `POST` of a job's input as one JSON body.

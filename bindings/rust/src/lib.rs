@@ -34,6 +34,17 @@ pub fn request(job: impl AsRef<[u8]>) -> Result<Request, Refusal> {
     parted(Command::Request, job, Request::parse)
 }
 
+/// The HTTP requests of a job's inputs: for each, in order, a line of JSON without its end. It is an object with the
+/// `status` 0 and the `method`, the `target`, the `headers` and the `body` of the request; 3 and the line of the `fault`; or
+/// 2 where the value is no input. `docs/JOBS.md` has its form.
+///
+/// # Errors
+///
+/// The [`Refusal`] of the command `requests`.
+pub fn requests(job: impl AsRef<[u8]>) -> Result<Vec<String>, Refusal> {
+    parted(Command::Requests, job, parts::lines)
+}
+
 /// The `POST` of a job's input as one JSON body, of content type `application/json`, without `X-Amz-Target`.
 ///
 /// # Errors

@@ -112,6 +112,16 @@ impl Routed {
     }
 }
 
+/// The lines of the text that `requests` writes, each without its end. `None` where it has not its form.
+pub(crate) fn lines(text: &[u8]) -> Option<Vec<String>> {
+    let text = std::str::from_utf8(text).ok()?;
+    if text.is_empty() {
+        return Some(Vec::new());
+    }
+    let lines = text.strip_suffix('\n')?;
+    Some(lines.split('\n').map(str::to_owned).collect())
+}
+
 // The first line without its end, and what stands behind that.
 fn line(text: &[u8]) -> Option<(&[u8], &[u8])> {
     let end = text.iter().position(|byte| *byte == b'\n')?;
@@ -209,6 +219,16 @@ mod tests {
         ] {
             assert_eq!(Response::parse(text.as_bytes()), None, "{text:?}");
         }
+    }
+
+    #[test]
+    fn requests_have_lines() {
+        let text = b"{\"status\":2}\n{\"status\":3,\"fault\":\"Custom: a\"}\n";
+        let wanted = ["{\"status\":2}", "{\"status\":3,\"fault\":\"Custom: a\"}"];
+        assert_eq!(lines(text).unwrap(), wanted);
+        assert_eq!(lines(b""), Some(Vec::new()));
+        assert_eq!(lines(b"{\"status\":2}"), None);
+        assert_eq!(lines(b"\xff\n"), None);
     }
 
     #[test]
