@@ -72,7 +72,7 @@ pub use Rattle.smithy_unambiguity.proofs.Members.{member_in_place, names_apart}
 pub use Rattle.smithy_unambiguity.proofs.PairLemmas.{filter_ascends, ordered_ascends, ordered_valued, valued}
 pub use Rattle.smithy_unambiguity.proofs.PayloadTold.{data_kind, payload_is_data}
 pub use Rattle.smithy_unambiguity.proofs.Placed.{IsPlacedValue, bound_fits, bound_view_of, kinds_at, placed_value}
-pub use Rattle.smithy_unambiguity.proofs.Positions.{members_by_position}
+pub use Rattle.smithy_unambiguity.proofs.Positions.{own_names, members_by_position, sound_input}
 pub use Rattle.smithy_unambiguity.proofs.Requests.{placed_request}
 pub use Rattle.smithy_unambiguity.proofs.Settled.{fields_range, settled_shaped}
 pub use Rattle.smithy_unambiguity.proofs.Sound.{sound}

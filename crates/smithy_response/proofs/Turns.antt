@@ -299,7 +299,7 @@ module _ (node : Schema) (t u : Transport) (same : IsSameResponse t u) where
           (rw left (refused_left left b.held (b.listing group.Structure node) e (λ body is. b.told group.Structure node body is) n.refused))
 
 -- a member that is not bound stands in the body
-source_unbound : (h p : Option (List ℕ)) (code payload : Bool) → (is_some h || is_some p || code || payload) ≡ false → source_at h p code payload ≡ in_body
+pub source_unbound : (h p : Option (List ℕ)) (code payload : Bool) → (is_some h || is_some p || code || payload) ≡ false → source_at h p code payload ≡ in_body
 source_unbound (Some x) p code payload e = cc
 source_unbound None (Some x) code payload e = cc
 source_unbound None None true payload e = cc

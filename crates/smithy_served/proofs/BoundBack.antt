@@ -26,15 +26,16 @@ use Rattle.smithy_response.specs.Handed.{nothing, only_unbound, handed, has_payl
 use Rattle.smithy_response.specs.Routes.{Source, in_header, in_prefix, in_status, in_payload, in_body, source_at, source_of, route, route_at}
 use Rattle.smithy_served.specs.AnswerView.{answer_view, bound_view, first_value, member_view}
 use Rattle.smithy_served.specs.Laws.{HandsOut, IsAnswered}
-use Rattle.smithy_served.proofs.Apart.{by-position}
 use Rattle.smithy_served.proofs.Conforming.{output_of, response_is}
 use Rattle.smithy_served.proofs.Headers.{IsHeader, header_handed}
 use Rattle.smithy_served.proofs.Join.{joined}
 use Rattle.smithy_served.proofs.MemberHanded.{HandsSame, BoundMembersAreReadBack}
-use Rattle.smithy_served.proofs.Merge.{AreIndexed, made_ordered}
+use Rattle.smithy_served.proofs.Merge.{made_ordered}
 use Rattle.smithy_served.proofs.Payload.{payload_handed}
 use Rattle.smithy_served.proofs.PrefixBack.{IsPrefixMap, prefix_handed}
 use Rattle.smithy_served.proofs.Status.{status_handed}
+use Rattle.smithy_unambiguity.proofs.Positions.{members_by_position}
+use Rattle.smithy_recovery.proofs.Merging.{AreIndexed}
 
 -- what a source says of the traits
 abbrev SourceSays : Option (List ℕ) → Option (List ℕ) → Bool → Bool → Source → Type 0
@@ -159,4 +160,4 @@ module _ (protocol : Protocol) (holds : List ℕ → Option Held) (lawful : IsLa
           (λ j m at.
           let none_more : 0 + j ≡ j = omega arith in
           subst (λ k. HandsSame body (route m response) m (member_view schema ws k m)) (sym none_more)
-          (bound_members_are_read_back schema ws code response body is j m (sym (by-position schema checked j) ∙ at) (is_bound m (none_any (λ m. not (is_response_bound m)) (members_of schema) j m none at))))
+          (bound_members_are_read_back schema ws code response body is j m (sym (members_by_position schema checked.cited j) ∙ at) (is_bound m (none_any (λ m. not (is_response_bound m)) (members_of schema) j m none at))))
