@@ -82,10 +82,6 @@ texts_utf8 name (p ∷ ps) all = go (same_text p.0 name) refl (texts_utf8 name p
 name_bytes : (ps : List (List ℕ × List ℕ)) → AllByRecursion IsTextPair ps → AllByRecursion (λ p. AreBytes p.0) ps
 name_bytes ps all = all_apply IsTextPair (λ p. AreBytes p.0) ps (λ p utf8. AreBytes-from_utf8 p.0 utf8.0) all
 
-back_empty : {X : Type 0} (a b : List X) → a ++ b ≡ [] → b ≡ []
-back_empty [] b e = e
-back_empty (x ∷ a) b e = absurd (cc e)
-
 -- The texts of an entry.
 
 abbrev IsSingle : List (List ℕ) → Type 0
