@@ -19,7 +19,7 @@ abbrev nothing_bound : Schema → Bool
 nothing_bound m = false
 
 module _ (protocol : Protocol) (schema : Schema) (endpoint : List ℕ) (omit : OmitFlags) (ws : List Write) (checked : IsCheckedInput schema) (well_made : is_well_made schema ≡ true) (typed : IsTyped protocol schema endpoint omit ws) (normal : view schema ws ≡ ws) where
-  rs : List Resolved
+  abbrev rs : List Resolved
   rs = all_resolved schema (view schema ws)
 
   part : (i : ℕ) (m : Schema) (u : Value) → member_at schema i ≡ Some m → member_view schema ws i m ≡ Some u → IsOwn m u
