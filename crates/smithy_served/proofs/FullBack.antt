@@ -1,5 +1,5 @@
 -- The response of a typed output hands out the normal form.
-use Rattle.std.proofs.Common.{◌≡◌, ◌≢◌, refl, sym, ◌∙◌, ap, subst, cond, ℕ, ◌+◌, arith, Bool, true, false, not, ◌&&◌, ◌||◌, List, [], ◌∷◌, ◌++◌, find, slice_get, zero, suc, Option, Some, None, option_map, option_and_then, if◌then◌else◌}
+use Rattle.std.proofs.Common.{◌≡◌, ◌≢◌, refl, sym, ◌∙◌, ap, subst, cond, ℕ, ◌+◌, arith, Bool, true, false, not, ◌&&◌, ◌||◌, List, [], ◌∷◌, ◌++◌, find, Option, Some, None, option_map, option_and_then, if◌then◌else◌}
 use Rattle.std.specs.List.{AllByRecursion, cons_option, enumerate_from, list_any}
 use Rattle.smithy_http.specs.Responses.{Response}
 use Rattle.smithy_http.specs.declared.non_utf8.NonUtf8HeaderHandling.{NonUtf8HeaderHandling}
@@ -11,12 +11,12 @@ use Rattle.smithy_serde.specs.Listings.{contents}
 use Rattle.smithy_serde.specs.ValueRead.{write_by}
 use Rattle.smithy_serde.specs.Values.{Value, Write}
 use Rattle.smithy_serde.specs.declared.scalar.Group.TheVariants as group
-use Rattle.smithy_binding.specs.Bodies.{body}
-use Rattle.smithy_binding.specs.CheckedOutput.{IsCheckedOutput}
+use Rattle.smithy_binding.specs.Bodies.{body, is_codec_kind, is_raw_kind}
+use Rattle.smithy_binding.specs.CheckedOutput.{IsCheckedOutput, has_response_body_member, response_payload_kind}
 use Rattle.smithy_binding.specs.Outputs.{as_output}
 use Rattle.smithy_binding.specs.Placing.{Protocol}
 use Rattle.smithy_binding.proofs.CheckedOutputLaws.{IsCheckedOutput-from_test}
-use Rattle.smithy_unambiguity.proofs.Lists.{all_placed}
+use Rattle.smithy_unambiguity.proofs.Lists.{all_placed, all_get}
 use Rattle.smithy_response.specs.Handed.{Ended, nothing, handed, has_payload, has_unbound, only_unbound, body_part, routed}
 use Rattle.smithy_response.specs.Routes.{Source, in_header, in_prefix, in_status, in_payload, in_body, passed_over, handed_body, source_at, source_of, route, route_at}
 use Rattle.smithy_response.proofs.TransportLaw.{transport_is_heard}
@@ -24,13 +24,15 @@ use Rattle.smithy_served.specs.AnswerView.{answer_view, member_view}
 use Rattle.smithy_served.specs.Laws.{HandsOut, IsAnswered, OutputsAreReadBack, AreReadBackBeside, with_body}
 use Rattle.smithy_served.proofs.BoundBack.{all_bound, bound_members_are_read_back}
 use Rattle.smithy_served.proofs.Conforming.{response_is}
-use Rattle.smithy_served.proofs.FieldsBack.{fields_handed, fields_ordered, no_payload, read}
+use Rattle.smithy_served.proofs.FieldsBack.{fields_handed, fields_ordered, read}
 use Rattle.smithy_served.proofs.Join.{HasNoPayload, IsHanded, body_is_payload, step}
 use Rattle.smithy_served.proofs.MemberHanded.{HandsSame}
 use Rattle.smithy_served.proofs.Merge.{bound_part, made_from, merged}
 use Rattle.smithy_unambiguity.proofs.Positions.{members_by_position}
 use Rattle.smithy_recovery.proofs.Joining.{indexed}
 use Rattle.smithy_response.proofs.Turns.{source_unbound}
+use Rattle.std.proofs.lemmas.Bool.{and_parts}
+use Rattle.smithy_binding.specs.Checked.{has_at_most_one, is_sound_payload}
 
 -- What stands in a response before what its body has.
 
@@ -61,10 +63,15 @@ none_any : (ms : List Schema) → AllByRecursion HasNoPayload ms → list_any (�
 none_any [] all = refl
 none_any (m ∷ ms) all = ap (λ b. b || list_any (λ m. m.node.traits.http_payload) ms) all.0 ∙ none_any ms all.1
 
-no_payload_at : (ms : List Schema) (j : ℕ) (m : Schema) → AllByRecursion HasNoPayload ms → slice_get ms j ≡ Some m → HasNoPayload m
-no_payload_at [] j m all at = absurd (cc at)
-no_payload_at (n ∷ ms) zero m all at = let same : n ≡ m = cc at in subst HasNoPayload same all.0
-no_payload_at (n ∷ ms) (suc j) m all at = no_payload_at ms j m all.1 at
+-- since one stands in the body
+no_payload : (schema : Schema) → IsCheckedOutput schema → has_unbound schema ≡ true → AllByRecursion HasNoPayload (members_of schema)
+no_payload schema checked some =
+    none_found (members_of schema)
+    (by (find (λ m. m.node.traits.http_payload) (members_of schema)) (ap (is_sound_payload (response_payload_kind schema)) (sym some) ∙ (and_parts (has_at_most_one (λ t. t.http_payload) schema) (is_sound_payload (response_payload_kind schema) (has_response_body_member schema)) checked.payload).1))
+  where
+    by : (o : Option Schema) → is_sound_payload (option_map (λ m. m.node.kind) o) true ≡ true → o ≡ None
+    by None e = refl
+    by (Some m) e = let q = (and_parts (is_raw_kind m.node.kind || is_codec_kind m.node.kind) false e).1 in absurd (cc q)
 
 -- a member of the body has no route
 free_route : (m : Schema) (response : Response) → is_response_bound m ≡ false → route m response ≡ passed_over
@@ -108,7 +115,7 @@ module _ (protocol : Protocol) (holds : List ℕ → Option Held) (lawful : IsLa
       checked = IsCheckedOutput-from_test schema is.checked
 
       none : AllByRecursion HasNoPayload (members_of schema)
-      none = none_found (members_of schema) (no_payload protocol schema ws checked is.well_made is.typed some)
+      none = no_payload schema checked some
 
       holding : holds (body protocol.text_of (as_output schema) ws).bytes ≡ Some held
       holding = ap (λ (o : Option (List ℕ)). option_and_then holds o) (sym (ap (λ (r : Response). r.body) (response_is protocol schema ws code response is.typed.conforming is.answered))) ∙ is.body_held
@@ -131,7 +138,7 @@ module _ (protocol : Protocol) (holds : List ℕ → Option Held) (lawful : IsLa
           all_placed (λ p. HandsSame held (route p.1 other) p.1 (bound_part (member_view schema ws) p.0 p.1)) 0 (members_of schema)
           (λ j m at.
           let none_more : 0 + j ≡ j = omega arith in
-          part (0 + j) m (ap (member_at schema) none_more ∙ sym (members_by_position schema checked.cited j) ∙ at) (no_payload_at (members_of schema) j m none at))
+          part (0 + j) m (ap (member_at schema) none_more ∙ sym (members_by_position schema checked.cited j) ∙ at) (all_get HasNoPayload (members_of schema) j m none at))
 
       x : IsHanded (routed other (body_part schema other false) (Some held) (members_of schema)) (made_from (bound_part (member_view schema ws)) 0 (members_of schema) ++ (read protocol schema ws checked is.well_made is.typed some).writes)
       x = before other held held (body_part schema other false) (read protocol schema ws checked is.well_made is.typed some).writes (bound_part (member_view schema ws)) end 0 (members_of schema) all none
@@ -152,7 +159,7 @@ module _ (protocol : Protocol) (holds : List ℕ → Option Held) (lawful : IsLa
       checked = IsCheckedOutput-from_test schema is.checked
 
       none : has_payload schema ≡ false
-      none = none_any (members_of schema) (none_found (members_of schema) (no_payload protocol schema ws checked is.well_made is.typed some))
+      none = none_any (members_of schema) (no_payload schema checked some)
 
       same : handed schema (with_body bytes response) (held.document other) false policy ≡ handed schema (with_body bytes response) (held.document d) false policy
       same =
