@@ -16,8 +16,8 @@ use Rattle.smithy_recovery.specs.Recovered.{reading_by}
 use Rattle.smithy_recovery.specs.Recovering.{IsCheckedAt}
 use Rattle.smithy_recovery.proofs.Decided.{IsSoundReading}
 use Rattle.smithy_gateway.specs.Answers.{IsRpc, IsRest, NoInput, NoCall, call_headers}
-use Rattle.smithy_gateway.specs.Finding.{Finds}
-use Rattle.smithy_gateway.specs.declared.error.GatewayError.{GatewayError}
+use Rattle.smithy_recovery.specs.Finding.{Finds}
+use Rattle.smithy_recovery.specs.declared.error.RecoverError.{RecoverError}
 use Rattle.smithy_gateway.proofs.Found.{rpc_found, rest_found}
 use Rattle.smithy_model.specs.declared.error.JobError.{JobError}
 use Rattle.smithy_job.specs.Gateway as jobs
@@ -43,7 +43,7 @@ target_is_legal e h = go (length e == 0) refl h
     go false is k = k
 
 -- By protocols with bodies of JSON.
-module _ (t : Table) (place : SchemaIndex) (s here : Schema) (endpoint : List ℕ) (omit : OmitFlags) (q : Request) (result : Result Request GatewayError) (rest rpc : Parts JsonCodec)
+module _ (t : Table) (place : SchemaIndex) (s here : Schema) (endpoint : List ℕ) (omit : OmitFlags) (q : Request) (result : Result Request RecoverError) (rest rpc : Parts JsonCodec)
     (kind : rest.content_type ≡ codes "application/json") (rpc_kind : rpc.content_type ≡ codes "application/json") (lawful : IsLawfulText json_text json_held)
     (at : at_place t place.0 ≡ Some s) (stands : Some here ≡ at_place t place.0) (checked : IsCheckedAt t place.0) (well_made : IsTrue (is_well_made here)) where
   sound : IsSoundReading (reading_by (λ (_ : JsonCodec). json_text) (λ (_ : JsonCodec). json_held) rest s endpoint)
@@ -54,13 +54,13 @@ module _ (t : Table) (place : SchemaIndex) (s here : Schema) (endpoint : List �
 
   pub rpc_by_json : (e : List ℕ) → IsTrue (is_legal_target (endpoint_or_slash e)) → IsRpc (λ _. json_text) (λ _. json_text) rest rpc t place endpoint omit q result
       → IfOk result (λ sent. sent.target ≡ endpoint_or_slash e) → IfOk result (λ sent. sent.headers ≡ call_headers rpc omit sent.body)
-      → NoInput (λ _. json_text) rest t place endpoint omit q result → Finds result (sent_on Rpc (json_reading s endpoint) json_calls omit e q)
+      → NoInput (λ _. json_text) rest t place endpoint omit q result → Finds (λ x. x) result (sent_on Rpc (json_reading s endpoint) json_calls omit e q)
   rpc_by_json e legal is target headers none =
       rw (kind, rpc_kind) at
       (rpc_found (λ _. json_text) (λ _. json_held) (λ _. json_text) (λ _. json_held) rest rpc t place s endpoint omit q at sound e omit result legal is target headers none)
 
   pub rest_by_json : (e : List ℕ) → IsRest (λ _. json_text) (λ _. json_text) rest rpc t place endpoint omit q result
-      → NoCall (λ _. json_text) (λ _. json_text) rest rpc t place endpoint omit q result → Finds result (sent_on Rest (json_reading s endpoint) json_calls omit e q)
+      → NoCall (λ _. json_text) (λ _. json_text) rest rpc t place endpoint omit q result → Finds (λ x. x) result (sent_on Rest (json_reading s endpoint) json_calls omit e q)
   rest_by_json e is none =
       rw (kind, rpc_kind) at
       (rest_found (λ _. json_text) (λ _. json_held) (λ _. json_text) (λ _. json_held) rest rpc t place s endpoint omit q at sound result lawful is none)

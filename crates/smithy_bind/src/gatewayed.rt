@@ -4,7 +4,7 @@ ghost use Rattle.smithy_json.specs.JsonView.{view};
 ghost use Rattle.smithy_http.specs.Requests.{Request as Sent};
 ghost use Rattle.smithy_serde.specs.StoredValues.{HasNode};
 ghost use Rattle.smithy_recovery.specs.Recovering.{IsCheckedAt};
-ghost use Rattle.smithy_gateway.specs.Finding.{Finds};
+ghost use Rattle.smithy_recovery.specs.Finding.{Finds};
 ghost use Rattle.smithy_job.specs.Settings.{is_rpc_endpoint};
 ghost use Rattle.smithy_bind.specs.Gateway.{shown_request};
 ghost use Rattle.smithy_bind.specs.Outcome.{gatewayed_to};
@@ -119,7 +119,7 @@ fn sent_to_rpc(alloc: Global, job: &Gateway<'_>) -> Result<Request, GatewayError
 
 // What is told of a request that was sent on, or of one that no typed input has. Takes memory.
 fn request_told(alloc: Global, sent: Result<Request, GatewayError>) -> Result<Answer, JobError>
-    ensures { (is : Option Sent) → Finds sent is → Gives (shown_request is) result }
+    ensures { (is : Option Sent) → Finds (λ x. x) sent is → Gives (shown_request is) result }
 {
     match sent {
         Ok(request) => Ok(Answer::Output(shown(alloc, &request)?)),

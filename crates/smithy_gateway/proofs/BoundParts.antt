@@ -1,7 +1,9 @@
 -- Each part of a typed input's normal form follows its member's node, and is its own normal form there.
-use Rattle.smithy_gateway.proofs.Common.{◌≡◌, refl, sym, ◌∙◌, ap, subst, ℕ, ◌⊎◌, inl, inr, Bool, true, false, not, ◌&&◌, ◌||◌, List, [], ◌∷◌, filter, Option, Some, None, option_map, option_and_then, is_some, is_none, if◌then◌else◌, and_parts, and_from, first_of_all, are_distinct, one_kind, same_kind, is_scalar, ShapeType, Schema, element_of, key_of, value_of, member_at, Binding, to_header, to_prefix, to_query, to_query_map, to_label, to_payload, to_body, binding_of, is_outside_body, is_bound, is_well_made, fits, fits_in_range, is_null, own_label, in_key_order, map_value, entry_writes, settled, settled_elements, settled_entries, is_in_range, are_writes_in_range, is_kind, fits_at, is_shaped, are_shaped, are_entries_shaped, no_label, Label, Value, list, Writes, no_writes, write, Write, keys_of, Resolved, all_resolved, inserted_at, kind_or_none, query_names, is_payload, is_codec_kind, IsCheckedInput, is_header_kind, has_element, has_bound_kind, is_plain_string, is_plain_list, is_query_map, item_fault, element_fault, part_fault, nested_fault, entry_fault, key_fault, year_fault, value_fault, pairs_fault, wrong_item_kind, is_placed_at, view, member_view, last_of, unless_empty, with_own_elements, has_pairs, bound_view_at, Protocol, OmitFlags, IsTyped, has_distinct_keys, has_own_formats, is_codec_payload, Pairs, all_put, Ascends, look_ordered, all_ascend, known_by_names, last_ascending, typed_bodied, free_member_view, first_value, no_first, as_text, text_writes, own_list, own_value, is_text_node, key_texts, passed, query_entries, query_texts, string_kind, is_flat, map_pairs, header_kinds, typed_writes, lowered, text_map_at, query_map_at, prefix_map_view, query_map_view, IsBoundValue, IsListOf, list_form, list_of_element, bound_list, valued, filter_ascends, ordered_ascends, ordered_valued, data_kind, payload_is_data, IsPlacedValue, placed_value, bound_fits, bound_view_of, kinds_at, label_kind, query_kinds, trait_of, AreItems, items_fit, is_flat_value, flat_value, flat_settled, has_viewed, IsViewed, some_left, first_value_of_view, AllByRecursion, last_or, is_of, IsBodied, eqb-true, settled_shaped, tells_normal_form, normal_form_document, member_in_place}
+use Rattle.smithy_gateway.proofs.Common.{◌≡◌, refl, sym, ◌∙◌, ap, subst, ℕ, ◌⊎◌, inl, inr, Bool, true, false, not, ◌&&◌, ◌||◌, List, [], ◌∷◌, Option, Some, None, option_map, option_and_then, is_some, is_none, if◌then◌else◌, and_parts, and_from, first_of_all, are_distinct, one_kind, same_kind, is_scalar, ShapeType, Schema, element_of, key_of, value_of, member_at, Binding, to_header, to_prefix, to_query, to_query_map, to_label, to_payload, to_body, binding_of, is_outside_body, is_bound, is_well_made, fits, fits_in_range, is_null, own_label, in_key_order, map_value, entry_writes, settled, settled_elements, settled_entries, is_in_range, are_writes_in_range, is_kind, fits_at, is_shaped, are_shaped, are_entries_shaped, no_label, Label, Value, list, Writes, no_writes, write, Write, keys_of, Resolved, all_resolved, inserted_at, kind_or_none, query_names, is_payload, is_codec_kind, IsCheckedInput, is_header_kind, has_element, has_bound_kind, is_plain_string, is_plain_list, is_query_map, item_fault, element_fault, part_fault, nested_fault, entry_fault, key_fault, year_fault, value_fault, pairs_fault, wrong_item_kind, is_placed_at, view, member_view, last_of, unless_empty, with_own_elements, has_pairs, bound_view_at, Protocol, OmitFlags, IsTyped, has_distinct_keys, has_own_formats, is_codec_payload, Pairs, all_put, Ascends, look_ordered, all_ascend, known_by_names, last_ascending, typed_bodied, free_member_view, first_value, no_first, as_text, text_writes, own_list, own_value, is_text_node, key_texts, passed, query_entries, query_texts, string_kind, is_flat, map_pairs, header_kinds, typed_writes, lowered, text_map_at, query_map_at, prefix_map_view, query_map_view, IsBoundValue, IsListOf, list_form, list_of_element, bound_list, valued, filter_ascends, ordered_ascends, ordered_valued, data_kind, payload_is_data, IsPlacedValue, placed_value, bound_fits, bound_view_of, kinds_at, label_kind, query_kinds, trait_of, AreItems, items_fit, is_flat_value, flat_value, flat_settled, has_viewed, IsViewed, some_left, first_value_of_view, sound_input, at_member}
 use Rattle.smithy_ids.specs.declared.shape_type.ShapeType.TheVariants as kind
 use Rattle.smithy_serde.specs.Values as value
+use Rattle.smithy_unambiguity.proofs.ViewWrites.{last_of_view}
+use Rattle.smithy_unambiguity.proofs.BodyObject.{free_view_shaped}
 
 pub record IsOwn (m : Schema) (u : Value) : Type 0 where
   pub shaped : is_shaped (Some m) u ≡ true
@@ -157,20 +159,6 @@ own_settles here (t ∷ []) = go (is_kind kind.String here)
     go false = ap list (texts_settle (option_and_then element_of here) (t ∷ []))
 own_settles here (t ∷ u ∷ ts) = ap list (texts_settle (option_and_then element_of here) (t ∷ u ∷ ts))
 
--- ---- unbound members
-
-last_has : (P : Resolved → Type 0) (o : Option Resolved) (rs : List Resolved) (r : Resolved) → ((x : Resolved) → o ≡ Some x → P x) → AllByRecursion P rs → last_or o rs ≡ Some r → P r
-last_has P o [] r has all e = has r e
-last_has P o (x ∷ rs) r has all e = last_has P (Some x) rs r (λ y same. let is : x ≡ y = cc same in subst P is all.0) all.1 e
-
-passing : (P : Resolved → Type 0) (test : Resolved → Bool) (rs : List Resolved) → AllByRecursion P rs → AllByRecursion (λ r. P r × (test r ≡ true)) (filter test rs)
-passing P test [] all = tt
-passing P test (r ∷ rs) all = go (test r) refl (passing P test rs all.1)
-  where
-    go : (t : Bool) → test r ≡ t → AllByRecursion (λ r. P r × (test r ≡ true)) (filter test rs) → AllByRecursion (λ r. P r × (test r ≡ true)) (if t then (r ∷ filter test rs) else filter test rs)
-    go true is rest = ((all.0, is), rest)
-    go false is rest = rest
-
 -- ---- each member
 
 module _ (protocol : Protocol) (schema : Schema) (endpoint : List ℕ) (omit : OmitFlags) (ws : List Write) (checked : IsCheckedInput schema) (well_made : is_well_made schema ≡ true) (typed : IsTyped protocol schema endpoint omit ws) (normal : view schema ws ≡ ws)
@@ -193,22 +181,16 @@ module _ (protocol : Protocol) (schema : Schema) (endpoint : List ℕ) (omit : O
   viewed = has_viewed protocol schema endpoint omit ws checked well_made typed i m u at has
 
   free_part : is_bound m ≡ false → IsOwn m u
-  free_part free =
-      go (last_of i (all_resolved schema ws)) refl
-      (sym (free_member_view schema ws i m free ∙ ap (λ t. if t then None else option_map (λ (r : Resolved). settled (Some m) r.value) (last_of i (all_resolved schema ws))) free) ∙ has)
+  free_part free = record { shaped = free_view_shaped schema ws i m u checked well_made (typed_bodied protocol schema endpoint omit ws typed) at free has; settles = sym own }
     where
-      go : (o : Option Resolved) → last_of i (all_resolved schema ws) ≡ o → option_map (λ (r : Resolved). settled (Some m) r.value) o ≡ Some u → IsOwn m u
-      go None is h = absurd (cc h)
-      go (Some r) is h =
-          let last = last_has (λ r. IsBodied schema r × (is_of i r ≡ true)) None (filter (is_of i) (all_resolved schema ws)) r (λ x none. absurd (cc none))
-          (passing (IsBodied schema) (is_of i) (all_resolved schema ws) (typed_bodied protocol schema endpoint omit ws typed)) is in
-          let members : Some r.member ≡ Some m = sym last.0.at ∙ ap (member_at schema) (eqb-true r.position i last.1) ∙ at in
-          let same : r.member ≡ m = cc members in
-          let gives : settled (Some m) r.value ≡ u = cc h in
-          let shaped = ap (λ n. is_shaped (Some n) r.value) (sym same) ∙ last.0.shaped (ap is_bound same ∙ free) in
-          let kept = settled_shaped (Some m) r.value shaped in
-          let stands = (member_in_place schema i m well_made at).stands in
-          subst (IsOwn m) gives (record { shaped = kept; settles = (tells_normal_form m (settled (Some m) r.value) r.value stands kept shaped).0 (normal_form_document m r.value shaped) })
+      own : u ≡ settled (Some m) u
+      own =
+          let both : Some u ≡ Some (settled (Some m) u) =
+          sym has ∙ free_member_view schema ws i m free ∙ ap (λ t. if t then None else option_map (λ (r : Resolved). settled (Some m) r.value) (last_of i (all_resolved schema ws))) free
+          ∙ ap (λ us. option_map (λ (r : Resolved). settled (Some m) r.value) (last_of i (all_resolved schema us))) (sym normal)
+          ∙ ap (option_map (λ (r : Resolved). settled (Some m) r.value)) (last_of_view schema ws i m checked well_made at)
+          ∙ ap (λ o. option_map (λ (r : Resolved). settled (Some m) r.value) (option_map (at_member i m) o)) has in
+          cc both
 
   header_part : (name : List ℕ) → binding_of m ≡ to_header name → IsOwn m u
   header_part name header = go (is_flat m.node.kind) refl (header_kinds m name (trait_of m (to_header name) header) kinds)
@@ -252,7 +234,7 @@ module _ (protocol : Protocol) (schema : Schema) (endpoint : List ℕ) (omit : O
       (own_settles (value_of m)) (subst Ascends (query_entries (value_of m) names es) (filter_ascends (has_pairs names) (in_key_order (valued own es)) (ordered_ascends (valued own es))))
 
   payload_part : binding_of m ≡ to_payload → IsOwn m u
-  payload_part payload = go (data_kind m.node.kind (payload_is_data schema checked i m at payload))
+  payload_part payload = go (data_kind m.node.kind (payload_is_data schema (sound_input schema checked) i m at payload))
     where
       go : (m.node.kind ≡ kind.Blob) ⊎ ((m.node.kind ≡ kind.String) ⊎ (is_codec_kind m.node.kind ≡ true)) → IsOwn m u
       go (inl blob) = flat_part m u (ap is_flat blob) (ap is_outside_body payload) viewed

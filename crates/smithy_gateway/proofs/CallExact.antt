@@ -6,6 +6,7 @@ use Rattle.smithy_gateway.specs.Gateway.{read_call, normal_form, is_call, called
 use Rattle.smithy_gateway.specs.Laws.{CalledIsExact}
 use Rattle.smithy_gateway.proofs.CallDocument.{call_doc, call_read}
 use Rattle.smithy_gateway.proofs.WholeValue.{IsWhole, whole, whole_document}
+use Rattle.smithy_recovery.proofs.Exact.{kept}
 
 -- ---- options
 
@@ -17,10 +18,6 @@ pub record WasGiven {A B : Type 0} (f : A → Option B) (o : Option A) (y : B) :
 pub was_given : {A B : Type 0} (f : A → Option B) (o : Option A) (y : B) → option_and_then f o ≡ Some y → WasGiven f o y
 was_given f None y e = absurd (cc e)
 was_given f (Some x) y e = record { from = x; is = refl; gives = e }
-
-kept : {A : Type 0} (t : Bool) (x y : A) → only_if t x ≡ Some y → (t ≡ true) × (x ≡ y)
-kept true x y e = (refl, cc e)
-kept false x y e = absurd (cc e)
 
 -- ---- the test
 

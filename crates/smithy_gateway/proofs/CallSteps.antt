@@ -1,12 +1,9 @@
 -- What the tests that code runs on a posted request say of the input that it posts.
 use Rattle.smithy_binding.specs.Protocols.{Parts}
-use Rattle.smithy_gateway.proofs.Common.{◌≡◌, refl, sym, ◌∙◌, ap, subst, codes, nat_le, Bool, true, false, ◌&&◌, List, [], Option, Some, None, Result, Ok, Err, option_and_then, option_map_or, result_ok, nesting, same_text, Request, Schema, Table, Held, max_nesting, IsLawfulText, writes_in, Write, Writes, list_of, writes_of, only_if, StructValue, WriteList, place, OmitFlags, held_writes, Finds, Reading, recovered, Tells, RecoverError, NotPlaced, OutOfMemory, KeepsMembers, IsSoundReading, recovered_is_exact}
+use Rattle.smithy_gateway.proofs.Common.{◌≡◌, refl, sym, ◌∙◌, ap, subst, codes, nat_le, Bool, true, false, ◌&&◌, List, [], Option, Some, None, Result, Ok, Err, option_and_then, option_map_or, result_ok, nesting, same_text, Request, Schema, Table, Held, max_nesting, IsLawfulText, writes_in, Write, Writes, list_of, writes_of, only_if, StructValue, WriteList, place, OmitFlags, held_writes, Finds, Reading, recovered, Tells, RecoverError, NotPlaced, OutOfMemory, KeepsMembers, IsSoundReading, recovered_is_exact, IfOk}
 use Rattle.smithy_serde.specs.StructValues.{members_of}
 use Rattle.smithy_gateway.specs.Calls.{Texts, Holds, Calling, call_document, IsNormal}
-use Rattle.smithy_gateway.specs.Finding.{refusal_of}
 use Rattle.smithy_gateway.specs.Gateway.{read_call, normal_form, is_call, called}
-use Rattle.smithy_gateway.specs.declared.error.GatewayError.{GatewayError}
-use Rattle.smithy_gateway.specs.declared.error.GatewayError.TheVariants as gateway_error
 use Rattle.smithy_gateway.specs.declared.setting.Setting.{Setting}
 use Rattle.smithy_gateway.specs.views.Sending.{IsSet, reading_at, keep_all, posts_writes}
 use Rattle.smithy_gateway.proofs.CallDocument.{writes_listed, call_doc, call_answer, call_nesting}
@@ -113,6 +110,14 @@ pub read_some : (t : Table) (calling : Calling) (schema : Schema) (q : Request) 
 read_some t calling schema q ws ms same kept h told = (kept.writes h told).writes ∙ ap (λ us. Some (list_of us)) (sym same)
 
 -- an outcome that is passed on says what the part's says
-pub none_if : {A B : Type 0} (show : A → B) (e : RecoverError) (due : Option B) (result : Result Request GatewayError) → result ≡ Err (refusal_of e) → Finds show (Err e) due → result ≡ Err gateway_error.NotPlaced → due ≡ None
+pub none_if : {A B : Type 0} (show : A → B) (e : RecoverError) (due : Option B) (result : Result Request RecoverError) → result ≡ Err e → Finds show (Err e) due → result ≡ Err NotPlaced → due ≡ None
 none_if show NotPlaced due result is told refused = told
-none_if show OutOfMemory due result is told refused = let both : Err gateway_error.OutOfMemory ≡ Err gateway_error.NotPlaced = sym is ∙ refused in absurd (cc both)
+none_if show OutOfMemory due result is told refused = let both : Err OutOfMemory ≡ Err NotPlaced = sym is ∙ refused in absurd (cc both)
+
+-- and so does one that is the part's own
+pub if_found : {A : Type 0} (P : A → Type 0) (result : Result A RecoverError) (due : Option A) → Finds (λ x. x) result due → ((x : A) → due ≡ Some x → P x) → IfOk result P
+if_found P (Ok x) due is has = has x is
+if_found P (Err e) due is has = tt
+
+pub none_found_by : {A : Type 0} (result : Result A RecoverError) (due : Option A) → Finds (λ x. x) result due → result ≡ Err NotPlaced → due ≡ None
+none_found_by result due is refused = subst (λ r. Finds (λ x. x) r due) refused is

@@ -3,10 +3,10 @@ use Rattle.smithy_gateway.proofs.Common.{◌≡◌, refl, sym, ◌∙◌, ap, �
 use Rattle.smithy_binding.specs.Answer.{place as place_by}
 use Rattle.smithy_gateway.specs.Answers.{IsRpc, call_headers, NoInput, IsRest, NoCall}
 use Rattle.smithy_gateway.specs.Calls.{Texts, Holds, calling_by}
-use Rattle.smithy_gateway.specs.Finding.{Finds}
+use Rattle.smithy_recovery.specs.Finding.{Finds}
 use Rattle.smithy_gateway.specs.Gateway.{rpc_place, rpc_of, called, rest_of}
-use Rattle.smithy_gateway.specs.declared.error.GatewayError.{GatewayError}
-use Rattle.smithy_gateway.specs.declared.error.GatewayError.TheVariants.{NotPlaced, OutOfMemory}
+use Rattle.smithy_recovery.specs.declared.error.RecoverError.{RecoverError}
+use Rattle.smithy_recovery.specs.declared.error.RecoverError.TheVariants.{NotPlaced, OutOfMemory}
 use Rattle.smithy_gateway.proofs.CallDocument.{call_request, call_answer, call_doc}
 use Rattle.smithy_gateway.proofs.CallExact.{called_exactly}
 use Rattle.smithy_gateway.proofs.Sent.{is_input, input_recovered, document, is_call}
@@ -16,9 +16,9 @@ module _ {C D : Type 0} (text : Texts C) (holds : Holds C) (call_text : Texts D)
   abbrev r : Reading
   r = reading_by text holds p schema endpoint
 
-  pub rpc_found : (rpc_endpoint : List ℕ) (rpc_omit : OmitFlags) (result : Result Request GatewayError) → IsTrue (is_legal_target (endpoint_or_slash rpc_endpoint)) → IsRpc text call_text p rpc t place endpoint omit q result
+  pub rpc_found : (rpc_endpoint : List ℕ) (rpc_omit : OmitFlags) (result : Result Request RecoverError) → IsTrue (is_legal_target (endpoint_or_slash rpc_endpoint)) → IsRpc text call_text p rpc t place endpoint omit q result
       → IfOk result (λ x. x.target ≡ endpoint_or_slash rpc_endpoint) → IfOk result (λ x. x.headers ≡ call_headers rpc rpc_omit x.body) → NoInput text p t place endpoint omit q result
-      → Finds result (rpc_of r omit (calling_by call_text call_holds rpc) rpc_endpoint rpc_omit q)
+      → Finds (λ x. x) result (rpc_of r omit (calling_by call_text call_holds rpc) rpc_endpoint rpc_omit q)
   unfolding rpc_of
   rpc_found rpc_endpoint rpc_omit (Ok x) legal ok target headers none =
       let is = ok schema stands in
@@ -37,8 +37,8 @@ module _ {C D : Type 0} (text : Texts C) (holds : Holds C) (call_text : Texts D)
       go (Some ws) e = absurd (none refl schema stands ws (is_input r omit q ws sound e))
   rpc_found rpc_endpoint rpc_omit (Err OutOfMemory) legal ok target headers none = tt
 
-  pub rest_found : (result : Result Request GatewayError) → IsLawfulText (call_text rpc.codec) (call_holds rpc.codec) → IsRest text call_text p rpc t place endpoint omit q result → NoCall text call_text p rpc t place endpoint omit q result
-      → Finds result (rest_of r omit (calling_by call_text call_holds rpc) q)
+  pub rest_found : (result : Result Request RecoverError) → IsLawfulText (call_text rpc.codec) (call_holds rpc.codec) → IsRest text call_text p rpc t place endpoint omit q result → NoCall text call_text p rpc t place endpoint omit q result
+      → Finds (λ x. x) result (rest_of r omit (calling_by call_text call_holds rpc) q)
   unfolding rest_of
   rest_found (Ok x) lawful ok none =
       let is = ok schema stands in

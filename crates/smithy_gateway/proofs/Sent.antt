@@ -57,9 +57,6 @@ module _ (r : Reading) (omit : OmitFlags) (q : Request) (ws : List Write) (sound
   pub posts_input : (protocol : Protocol) (endpoint : List ℕ) (flags : OmitFlags) (x : Request) → recovered r omit q ≡ Some ws → IsSentTo protocol ws endpoint flags x → PostsInput r.protocol r.schema r.endpoint omit q protocol.text_of x
   posts_input protocol endpoint flags x recovers to = record { ws = ws; is = is_input recovers; posted = to.posted }
 
-  pub no_input : recovered r omit q ≡ None → IsInput r.protocol r.schema r.endpoint omit q ws → ⊥
-  no_input none is = let both : None ≡ Some ws = sym none ∙ input_recovered is in cc both
-
 -- ---- to REST
 
 module _ (r : Reading) (omit : OmitFlags) (calling : Calling) (q : Request) (ws : List Write) (sound : IsSoundReading r) (lawful : IsLawfulText calling.protocol.text_of calling.holds) where

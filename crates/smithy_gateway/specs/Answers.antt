@@ -10,8 +10,8 @@ use Rattle.smithy_binding.specs.Answer.{place}
 use Rattle.smithy_binding.specs.Placing.{Protocol, OmitFlags, with_defaults}
 use Rattle.smithy_binding.specs.Protocols.{Parts, protocol_of}
 use Rattle.smithy_gateway.specs.Calls.{Texts, IsPosted, IsNormal, IsCall}
-use Rattle.smithy_gateway.specs.declared.error.GatewayError.{GatewayError}
-use Rattle.smithy_gateway.specs.declared.error.GatewayError.TheVariants.{NotPlaced}
+use Rattle.smithy_recovery.specs.declared.error.RecoverError.{RecoverError}
+use Rattle.smithy_recovery.specs.declared.error.RecoverError.TheVariants.{NotPlaced}
 
 -- what holds of the schema at a place of a table
 abbrev pub AtSchema : Table → SchemaIndex → (Schema → Type 0) → Type 0
@@ -35,7 +35,7 @@ pub record PlacesCall (protocol : Protocol) (schema : Schema) (endpoint : List �
   pub placed : place protocol schema ws endpoint omit ≡ Some sent
 
 -- the request to RPC posts the input of this request
-abbrev pub IsRpc : {C D : Type 0} → Texts C → Texts D → Parts C → Parts D → Table → SchemaIndex → List ℕ → OmitFlags → Request → Result Request GatewayError → Type 0
+abbrev pub IsRpc : {C D : Type 0} → Texts C → Texts D → Parts C → Parts D → Table → SchemaIndex → List ℕ → OmitFlags → Request → Result Request RecoverError → Type 0
 IsRpc text call_text p rpc t place endpoint omit q result =
     IfOk result (λ sent. AtSchema t place (λ schema. PostsInput (protocol_of text p) schema endpoint omit q (call_text rpc.codec) sent))
 
@@ -44,16 +44,16 @@ abbrev pub call_headers : {D : Type 0} → Parts D → OmitFlags → List ℕ �
 call_headers rpc omit body = with_defaults rpc.content_type true (length body) omit []
 
 -- where it is refused, no typed input has the facts of this request
-abbrev pub NoInput : {C : Type 0} → Texts C → Parts C → Table → SchemaIndex → List ℕ → OmitFlags → Request → Result Request GatewayError → Type 0
+abbrev pub NoInput : {C : Type 0} → Texts C → Parts C → Table → SchemaIndex → List ℕ → OmitFlags → Request → Result Request RecoverError → Type 0
 NoInput text p t place endpoint omit q result =
     result ≡ Err NotPlaced → AtSchema t place (λ schema. (ws : List Write) → IsInput (protocol_of text p) schema endpoint omit q ws → ⊥)
 
 -- the request to REST is that of the input that this request posts
-abbrev pub IsRest : {C D : Type 0} → Texts C → Texts D → Parts C → Parts D → Table → SchemaIndex → List ℕ → OmitFlags → Request → Result Request GatewayError → Type 0
+abbrev pub IsRest : {C D : Type 0} → Texts C → Texts D → Parts C → Parts D → Table → SchemaIndex → List ℕ → OmitFlags → Request → Result Request RecoverError → Type 0
 IsRest text call_text p rpc t place endpoint omit q result =
     IfOk result (λ sent. AtSchema t place (λ schema. PlacesCall (protocol_of text p) schema endpoint omit (call_text rpc.codec) q sent))
 
 -- where it is refused, this request posts no typed input in normal form
-abbrev pub NoCall : {C D : Type 0} → Texts C → Texts D → Parts C → Parts D → Table → SchemaIndex → List ℕ → OmitFlags → Request → Result Request GatewayError → Type 0
+abbrev pub NoCall : {C D : Type 0} → Texts C → Texts D → Parts C → Parts D → Table → SchemaIndex → List ℕ → OmitFlags → Request → Result Request RecoverError → Type 0
 NoCall text call_text p rpc t place endpoint omit q result =
     result ≡ Err NotPlaced → AtSchema t place (λ schema. (ws : List Write) → IsCall (protocol_of text p) schema endpoint omit (call_text rpc.codec) q ws → ⊥)

@@ -1,4 +1,3 @@
-pub mod Finding
 pub mod Calls
 pub mod Gateway
 pub mod Laws

@@ -51,5 +51,5 @@ pub fn to_rest<C: Codec, D: Codec>(
         omit,
     };
     let input = call_input(alloc, rest, rpc, at, request)?;
-    Ok(placed(alloc, rest, node, &input, endpoint, omit)?)
+    placed(alloc, rest, node, &input, endpoint, omit)
 }

@@ -50,5 +50,5 @@ pub fn to_rpc<C: Codec, D: Codec>(
         unreachable!()
     };
     let input = recover_request(alloc, rest, request, table, schema, endpoint, omit)?;
-    Ok(posted(alloc, rpc, node, &input, rpc_endpoint, rpc_omit)?)
+    posted(alloc, rpc, node, &input, rpc_endpoint, rpc_omit)
 }

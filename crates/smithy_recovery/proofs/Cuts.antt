@@ -1,11 +1,11 @@
 -- Texts that are cut at the first `&`, `?` or `=`.
-use Rattle.std.proofs.Common.{◌≡◌, refl, ap, sym, ◌∙◌, drop, ℕ, ◌+◌, ◌<◌, suc, arith, Bool, true, false, not, cond, ◌==◌, ◌||◌, List, [], ◌∷◌, ◌++◌, length, map, filter, Option, Some, None, option_map, MatchOption, lit<}
+use Rattle.std.proofs.Common.{◌≡◌, refl, ap, sym, ◌∙◌, drop, ℕ, ◌+◌, ◌<◌, suc, arith, Bool, true, false, not, cond, ◌==◌, ◌||◌, List, [], ◌∷◌, ◌++◌, length, Option, Some, None, option_map, MatchOption, lit<}
 use Rattle.std.specs.Borrow.{Bor}
 use Rattle.std.specs.List.{slice_split, onto_first, position_or_len, before_first, after_first}
 use Rattle.std.proofs.lemmas.List.Splits.{slice_split_first}
 use Rattle.std.proofs.lemmas.Str.Pattern.{IsSplitOnceResult, split_once_first}
-use Rattle.smithy_types.specs.Texts.{has_byte, same_text}
-use Rattle.smithy_http.specs.Facts.{query_pieces, values_at}
+use Rattle.smithy_types.specs.Texts.{has_byte}
+use Rattle.smithy_http.specs.Facts.{query_pieces}
 use Rattle.smithy_recovery.specs.views.Pieces.{pieces_of, cut_pieces, pieces_left}
 use Rattle.smithy_recovery.specs.QueryParts.{behind_equals}
 
@@ -95,12 +95,3 @@ equals_cut bs (Some x) (l, before, after) = ap Some after ∙ sym (equals_some b
 
 pub equals_behind : (bs : List ℕ) (r : Parts) → IsSplitOnceResult 61 bs r → option_map (λ t. t.now) (behind_part r) ≡ behind_equals bs
 equals_behind bs r h = equals_cut bs r (split_once_first 61 bs r h (lit< tt))
-
--- A name's pieces, those of one piece and of the others.
-pub values_first : (name : List ℕ) (p : List ℕ × List ℕ) (ps : List (List ℕ × List ℕ)) → values_at name (p ∷ ps) ≡ values_at name (p ∷ []) ++ values_at name ps
-values_first name p ps = go (same_text p.0 name)
-  where
-    go : (t : Bool) → map (λ (q : List ℕ × List ℕ). q.1) (cond t (p ∷ filter (λ q. same_text q.0 name) ps) (filter (λ q. same_text q.0 name) ps))
-        ≡ map (λ (q : List ℕ × List ℕ). q.1) (cond t (p ∷ []) []) ++ map (λ q. q.1) (filter (λ q. same_text q.0 name) ps)
-    go true = refl
-    go false = refl

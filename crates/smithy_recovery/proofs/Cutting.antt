@@ -39,7 +39,7 @@ before_end-append (b ∷ x) end =
     ∙ ap (option_map (λ front. b ∷ front)) (before_end-append x end)
 
 -- a front and what stands behind it are the text
-front_back : (front text rest : List ℕ) → behind_front front text ≡ Some rest → text ≡ front ++ rest
+pub front_back : (front text rest : List ℕ) → behind_front front text ≡ Some rest → text ≡ front ++ rest
 front_back [] text rest e = cc e
 front_back (f ∷ front) [] rest e = absurd (cc e)
 front_back (f ∷ front) (b ∷ text) rest e = go (f == b) refl (front_back front text rest) e

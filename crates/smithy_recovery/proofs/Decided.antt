@@ -1,6 +1,5 @@
 -- What the tests that code runs say of what is recovered.
-use Rattle.std.proofs.Common.{◌≡◌, refl, sym, ◌∙◌, ap, ℕ, ◌==◌, codes, length, Bool, true, false, not, ◌&&◌, ◌||◌, List, Option, Some, None, Result, Ok, Err, option_map, option_and_then, is_some, is_none, IsTrue}
-use Rattle.std.specs.Option.{option_map_or}
+use Rattle.std.proofs.Common.{◌≡◌, refl, sym, ◌∙◌, ap, ℕ, ◌==◌, codes, length, Bool, true, false, not, ◌&&◌, ◌||◌, List, Some, None, Result, Ok, Err, option_map, option_and_then, is_some, is_none, IsTrue}
 use Rattle.std.specs.Result.{result_ok, result_err}
 use Rattle.std.specs.Str.{str_to_ascii_lowercase}
 use Rattle.std.proofs.lemmas.Bool.{and_parts, and_from}
@@ -25,12 +24,11 @@ use Rattle.smithy_unambiguity.proofs.HeadersTold.{typed_writes}
 use Rattle.smithy_unambiguity.proofs.Requests.{placed_request}
 use Rattle.smithy_recovery.specs.Recovered.{Reading, read_writes, is_body_told, writes_defaults, is_typed, is_placed_so, recovered}
 use Rattle.smithy_recovery.specs.views.Stages.{are_typed}
-use Rattle.smithy_recovery.specs.SameFacts.{has_same_facts}
 use Rattle.smithy_recovery.specs.TypedWrites.{has_typed_writes}
 use Rattle.smithy_recovery.proofs.TypedTold.{typed_is_told}
 use Rattle.smithy_recovery.proofs.Deciding.{typed_from_test}
 use Rattle.smithy_recovery.proofs.DefaultsRead.{defaults_written, each_passes}
-use Rattle.smithy_recovery.proofs.FactsTested.{facts_from_test}
+use Rattle.smithy_recovery.proofs.FactsTested.{seen_from_test}
 use Rattle.smithy_recovery.proofs.Untold.{untold_is_none}
 
 -- what is known of a reading
@@ -97,10 +95,6 @@ passes r omit q ws = is_typed r.protocol r.schema r.endpoint omit ws && is_place
 by_test : (r : Reading) (omit : OmitFlags) (q : Request) (ws : List Write) (b : Bool) → read_writes r q ≡ Some ws → passes r omit q ws ≡ b → recovered r omit q ≡ only_if b ws
 unfolding recovered
 by_test r omit q ws b read test = ap (option_and_then (λ us. only_if (passes r omit q us) us)) read ∙ ap (λ t. only_if t ws) test
-
-seen_from_test : (o : Option Request) (q : Request) → option_map_or (λ p. has_same_facts p q) o false ≡ true → option_map facts o ≡ Some (facts q)
-seen_from_test None q e = absurd (cc e)
-seen_from_test (Some p) q e = ap Some (facts_from_test p q e)
 
 -- of what passes as it is run
 pub input_recovered : (r : Reading) (omit : OmitFlags) (q : Request) (ws : List Write) → IsSoundReading r → (IsTrue (is_body_told r q) → read_writes r q ≡ Some ws) → are_typed r.schema r.endpoint ws ≡ true → is_placed_so r omit q ws ≡ true

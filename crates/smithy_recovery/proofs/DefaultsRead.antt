@@ -31,7 +31,7 @@ use Rattle.smithy_unambiguity.proofs.HeadersTold.{header_kinds, one_header_value
 use Rattle.smithy_unambiguity.proofs.LastTexts.{last_value}
 use Rattle.smithy_unambiguity.proofs.Members.{member_in_place}
 use Rattle.smithy_unambiguity.proofs.Placed.{HasTypedWrites, placed_value, kinds_at}
-use Rattle.smithy_unambiguity.proofs.Positions.{members_by_position}
+use Rattle.smithy_unambiguity.proofs.Positions.{members_by_position, sound_input}
 use Rattle.smithy_unambiguity.proofs.Queries.{values_at-append}
 use Rattle.smithy_unambiguity.proofs.Traits.{trait_of}
 use Rattle.smithy_recovery.specs.HeaderParts.{header_value, header_part}
@@ -245,7 +245,7 @@ header_written : (schema : Schema) (ws : List Write) (i : ℕ) (m : Schema) (nam
 header_written schema ws i m name u checked typed at header e =
     let x = one_header_value m u (header_kinds m name (trait_of m (to_header name) header) (kinds_at schema checked i m at)) (placed_value schema ws i m u typed at (ap is_placed_at header) e) in (
       x.0,
-      headers_of_member schema ws i m name (headers_apart schema checked) at header
+      headers_of_member schema ws i m name (headers_apart schema (sound_input schema checked)) at header
           ∙ ap (λ (o : Option Value). option_to_list (last_value (option_map_or (header_values m) o []))) e ∙ ap (λ vs. option_to_list (last_value vs)) x.1,
     )
 
@@ -281,7 +281,7 @@ defaults_written r omit q ws checked well_made typed read seen = each_passes (λ
         own = all.parts i m at
 
         there : member_at r.schema i ≡ Some m
-        there = sym (members_by_position r.schema checked i) ∙ at
+        there = sym (members_by_position r.schema checked.cited i) ∙ at
 
         is : part_at r q all.texts (to_header name) m ≡ Some own.has
         is = subst (λ c. part_at r q all.texts c m ≡ Some own.has) header own.is

@@ -22,11 +22,6 @@ pub each_item : {A B X : Type 0} (view : X → A) (f : A → Option B) (done : L
     → and_rest done (each f (map view (drop i xs))) ≡ and_rest (done ++ y ∷ []) (each f (map view (drop (i + 1) xs)))
 each_item view f done y xs i x l is e = each_next view f done y (get_or xs i x) (drop i xs) (drop (i + 1) xs) (drop_more xs i x l) (ap (λ z. f (view z)) (sym is) ∙ e)
 
--- an item that gives nothing
-pub each_stop : {A B X : Type 0} (view : X → A) (f : A → Option B) (xs : List X) (i : ℕ) (x : X) → i < length xs → x ≡ get_or xs i x → f (view x) ≡ None → each f (map view (drop i xs)) ≡ None
-each_stop view f xs i x l is e =
-    ap (λ zs. each f (map view zs)) (drop_more xs i x l) ∙ ap (λ r. option_and_then (λ z. option_map (λ ys. z ∷ ys) (each f (map view (drop (i + 1) xs)))) r) (ap (λ z. f (view z)) (sym is) ∙ e)
-
 pub each_end : {B : Type 0} (done : List B) → and_rest done (Some []) ≡ Some done
 each_end {B = B} done = ap (λ (ys : List B). Some ys) (append-nil done)
 

@@ -1,5 +1,5 @@
 -- The test of the same facts is that they are the same.
-use Rattle.std.proofs.Common.{◌≡◌, refl, sym, ◌∙◌, ap, subst, cond, ℕ, Bool, true, false, List, [], ◌∷◌, ◌++◌, map, filter, ◌⊎◌, inl, inr}
+use Rattle.std.proofs.Common.{◌≡◌, refl, sym, ◌∙◌, ap, subst, cond, ℕ, Bool, true, false, List, [], ◌∷◌, ◌++◌, map, filter, ◌⊎◌, inl, inr, Option, Some, None, option_map}
 use Rattle.std.specs.List.{AllByRecursion, list_all}
 use Rattle.std.specs.Cmp.Lexicographic.{same_text as same_from_test}
 use Rattle.std.proofs.lemmas.Bool.{and_parts, and_from}
@@ -9,10 +9,8 @@ use Rattle.smithy_http.specs.Facts.{Facts, facts, values_at, query_pieces, named
 use Rattle.smithy_http.specs.Requests.{Request}
 use Rattle.smithy_strings.proofs.UnescapeLaws.{same_self}
 use Rattle.smithy_recovery.specs.SameFacts.{same_texts, has_same_values, query_pairs, has_same_facts}
-
-all_from_test : {X : Type 0} (test : X → Bool) (xs : List X) → list_all test xs ≡ true → AllByRecursion (λ x. test x ≡ true) xs
-all_from_test test [] e = tt
-all_from_test test (x ∷ xs) e = let parts = and_parts (test x) (list_all test xs) e in (parts.0, all_from_test test xs parts.1)
+use Rattle.std.specs.Option.{option_map_or}
+use Rattle.smithy_unambiguity.proofs.Lists.{all_from_test}
 
 texts_same : (ts us : List (List ℕ)) → same_texts ts us ≡ true → ts ≡ us
 texts_same [] [] e = refl
@@ -97,3 +95,8 @@ test_from_facts p q e =
     (and_from _ _ (ap (same_text p.body) (sym (ap (λ (f : Facts). f.body) e)) ∙ same_self p.body)
     (and_from _ _ (test_from_values p.headers q.headers (λ name. ap (λ (f : Facts). f.headers name) e))
     (test_from_values (map named_piece (query_pieces p.target)) (map named_piece (query_pieces q.target)) (λ name. ap (λ (f : Facts). f.query name) e)))))
+
+-- so it is of a request that may not be there
+pub seen_from_test : (o : Option Request) (q : Request) → option_map_or (λ p. has_same_facts p q) o false ≡ true → option_map facts o ≡ Some (facts q)
+seen_from_test None q e = absurd (cc e)
+seen_from_test (Some p) q e = ap Some (facts_from_test p q e)

@@ -1,5 +1,5 @@
 -- The names of members and the keys of maps, one after another, and a member by its name.
-use Rattle.std.proofs.Common.{◌≡◌, ℕ, zero, suc, ◌+◌, ◌<◌, ◌≤◌, length, drop, arith, List, [], ◌∷◌, ◌++◌, append_assoc, map, filter_map, find, Option, Some, None, option_map, unwrap_or, refl, sym, ap, ap₂, ◌∙◌}
+use Rattle.std.proofs.Common.{◌≡◌, ℕ, zero, suc, ◌+◌, ◌<◌, ◌≤◌, length, drop, arith, List, [], ◌∷◌, ◌++◌, append_assoc, map, filter_map, Option, Some, None, option_map, unwrap_or, refl, sym, ap, ap₂, ◌∙◌}
 use Rattle.std.specs.Prelude.{MatchOption}
 use Rattle.std.specs.Borrow.{Bor}
 use Rattle.std.specs.List.{cons_option}
@@ -8,11 +8,12 @@ use Rattle.smithy_schema.specs.Nodes.{Table, Node, Schema, node_at, at_place, ci
 use Rattle.smithy_schema.specs.Places.{places_of}
 use Rattle.smithy_schema.specs.declared.parts.SchemaIndex.{SchemaIndex}
 use Rattle.smithy_serde.specs.declared.value.OneWrite.{OneWrite}
-use Rattle.smithy_serde.specs.Shaped.{is_named, named_member}
+use Rattle.smithy_serde.specs.Shaped.{named_member}
 use Rattle.smithy_serde.specs.StoredValues.{no_label, label_at, value_in, listed}
 use Rattle.smithy_serde.specs.Values.{label_of, text_of_key, keys_of}
 use Rattle.smithy_schema.proofs.PlaceLemmas.{place_at, places_step}
 use Rattle.smithy_document.proofs.StandingNodes.{named_found}
+use Rattle.smithy_document.proofs.ShapedDocuments.{none_named}
 
 -- what a node cites stands in its table
 pub cited_table : (s : Schema) (place : Option ℕ) (m : Schema) → Some m ≡ cited s place → m.table ≡ s.table
@@ -25,12 +26,8 @@ cited_table s (Some p) m e = go (node_at s.table p) e
 
 -- a member by its name
 
-find_none : (ms : List Schema) → find (is_named None) ms ≡ None
-find_none [] = refl
-find_none (m ∷ ms) = find_none ms
-
 pub no_member : (here : Schema) (name : Option (List ℕ)) → None ≡ name → None ≡ named_member (Some here) name
-no_member here name e = sym (find_none (members_of (shape here))) ∙ ap (named_member (Some here)) e
+no_member here name e = sym (none_named (members_of (shape here))) ∙ ap (named_member (Some here)) e
 
 pub member_found : (here : Schema) (name : Option (List ℕ)) (n : List ℕ) → Some n ≡ name → member_named (shape here) n ≡ named_member (Some here) name
 member_found here name n e = named_found (shape here) n ∙ ap (named_member (Some here)) e

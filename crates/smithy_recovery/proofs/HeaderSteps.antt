@@ -36,11 +36,6 @@ part_of_none m [] e = refl
 part_of_none m (w ∷ []) e = let one : Some w ≡ None = cc e in absurd (cc one)
 part_of_none m (w ∷ x ∷ more) e = absurd (cc e)
 
-pub part_of_several : (m : Schema) (values : List (List ℕ)) → only_of values ≡ None → header_part m values ≡ None
-part_of_several m [] e = absurd (cc e)
-part_of_several m (w ∷ []) e = absurd (cc e)
-part_of_several m (w ∷ x ∷ more) e = refl
-
 -- no list
 pub value_of_other : (m : Schema) (bytes : List ℕ) → same_kind m.node.kind kind.List ≡ false → scalar_of_header m bytes ≡ header_value m bytes
 value_of_other m bytes other = ap (λ b. cond b (list_of_header m bytes) (scalar_of_header m bytes)) (sym other)

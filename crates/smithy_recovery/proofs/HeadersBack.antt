@@ -1,11 +1,9 @@
 -- A header is read as what its member was written.
 use Rattle.std.proofs.Common.{◌≡◌, ◌≢◌, refl, sym, ◌∙◌, ap, subst, cond, ℕ, ℤ, Bool, true, false, ◌||◌, List, [], ◌∷◌, map, Option, Some, None, Result, Ok, option_map, option_and_then, option_to_list, is_some}
-use Rattle.std.specs.List.{AllByRecursion}
 use Rattle.std.specs.Option.{option_map_or}
 use Rattle.std.specs.Result.{result_ok}
-use Rattle.std.specs.Str.{IsUtf8, is_utf8, str_to_ascii_lowercase}
+use Rattle.std.specs.Str.{is_utf8, str_to_ascii_lowercase}
 use Rattle.std.proofs.lemmas.Bool.{and_from}
-use Rattle.std.proofs.lemmas.Str.{IsUtf8-from_is_utf8}
 use Rattle.smithy_types.specs.Results.{each}
 use Rattle.smithy_ids.specs.declared.shape_type.ShapeType.TheVariants as kind
 use Rattle.smithy_ids.specs.Kinds.{same_kind}
@@ -38,7 +36,7 @@ use Rattle.smithy_binding.specs.NormalForm.{member_view, with_own_elements, boun
 use Rattle.smithy_unambiguity.proofs.ByMember.{first_value}
 use Rattle.smithy_unambiguity.proofs.Fits.{is_flat}
 use Rattle.smithy_unambiguity.proofs.HeaderNames.{headers_apart}
-use Rattle.smithy_unambiguity.proofs.HeaderTexts.{items_utf8, time_items}
+use Rattle.smithy_unambiguity.proofs.HeaderTexts.{items_utf8, time_items, all_utf8}
 use Rattle.smithy_unambiguity.proofs.Headers.{header_values, headers_of_member}
 use Rattle.smithy_unambiguity.proofs.HeadersTold.{header_kinds, one_header_value, header_leaves, typed_writes}
 use Rattle.smithy_unambiguity.proofs.LastTexts.{last_value}
@@ -48,6 +46,7 @@ use Rattle.smithy_unambiguity.proofs.Traits.{trait_of}
 use Rattle.smithy_unambiguity.proofs.Values.{AreItems, HaveFormat, flat_value, flat_own}
 use Rattle.smithy_recovery.specs.HeaderParts.{header_list, header_value, header_part, text_value, texts_value, times_value}
 use Rattle.smithy_recovery.proofs.TextsBack.{text_back, flat_not_list, own_elements, texts_back}
+use Rattle.smithy_unambiguity.proofs.Positions.{sound_input}
 
 -- the elements of the member have no media type
 abbrev pub HasPlainElements : Schema → Type 0
@@ -62,10 +61,6 @@ times_back e ws ts is fit own h =
     ap (λ (r : Result (List ℤ) HttpError). option_map (times_value e) (result_ok r)) read
     ∙ ap (λ vs. Some (value.list (writes_of (map (write_by e) vs)))) a.values
     ∙ ap (λ us. Some (value.list us)) (own_elements e ws (ap is_flat is) fit)
-
-all_utf8 : (ts : List (List ℕ)) → AllByRecursion (λ t. is_utf8 t ≡ true) ts → AllByRecursion IsUtf8 ts
-all_utf8 [] all = tt
-all_utf8 (t ∷ ts) all = (IsUtf8-from_is_utf8 t all.0, all_utf8 ts all.1)
 
 list_back : (e : Schema) (ws : Writes) (ts : List (List ℕ)) → is_flat e.node.kind ≡ true → is_some e.node.traits.media_type ≡ false → AreItems e.node.kind ws → HaveFormat e.node.traits.timestamp_format ws
     → each (element_text Header) (list_of ws) ≡ Some ts → header_list e (listed e.node.kind ts) ≡ Some (value.list (settled_elements (Some e) ws))
@@ -115,7 +110,7 @@ pub header_member_back : (protocol : Protocol) (schema : Schema) (endpoint : Lis
     → member_at schema i ≡ Some m → binding_of m ≡ to_header name → HasPlainElements m
     → header_part m (values_at (str_to_ascii_lowercase name) (all_headers protocol (body protocol.text_of schema ws) omit (headers schema ws))) ≡ Some (member_view schema ws i m)
 header_member_back protocol schema endpoint omit ws i m name checked typed at header plain =
-    ap (header_part m) (header_leaves protocol schema endpoint omit ws i m name checked typed at header ∙ headers_of_member schema ws i m name (headers_apart schema checked) at header)
+    ap (header_part m) (header_leaves protocol schema endpoint omit ws i m name checked typed at header ∙ headers_of_member schema ws i m name (headers_apart schema (sound_input schema checked)) at header)
     ∙ go (first_value schema ws i) (λ u e. placed_value schema ws i m u (typed_writes protocol schema endpoint omit ws typed) at (ap is_placed_at header) e)
     ∙ ap Some (sym (bound_view_of schema ws i m (to_header name) at header refl))
   where

@@ -7,7 +7,7 @@ use Rattle.smithy_ids.specs.declared.shape_type.ShapeType.TheVariants as kind
 use Rattle.smithy_ids.specs.Kinds.{same_kind}
 use Rattle.smithy_types.specs.Results.{each}
 use Rattle.smithy_http.specs.Facts.{query_pieces}
-use Rattle.smithy_schema.specs.Nodes.{Schema, Table, Node, node_at, at_place, key_of, value_of, Binding, to_header, to_prefix, to_query, to_query_map, to_label, to_payload, to_body, binding_of}
+use Rattle.smithy_schema.specs.Nodes.{Schema, Table, at_place, key_of, value_of, Binding, to_header, to_prefix, to_query, to_query_map, to_label, to_payload, to_body, binding_of}
 use Rattle.smithy_schema.specs.declared.parts.SchemaIndex.{SchemaIndex}
 use Rattle.smithy_serde.specs.Held.{Held}
 use Rattle.smithy_serde.specs.StoredValues.{value_in, writes_in, label_at, with_write, HasNode, IsDefined, AreDefined}
@@ -36,6 +36,7 @@ use Rattle.smithy_recovery.specs.declared.error.RecoverError.TheVariants.{NotPla
 use Rattle.smithy_recovery.specs.declared.member_values.CutRequest.{CutRequest}
 use Rattle.smithy_recovery.proofs.BodyTold.{part_told}
 use Rattle.smithy_recovery.proofs.Collected.{placed_label, placed_node}
+use Rattle.smithy_serde.proofs.ReadValue.{at_place_table}
 
 abbrev Part : Type 0
 Part = Result (Option ShapeValue) RecoverError
@@ -134,16 +135,8 @@ list_of-appended : (ws us : Writes) → list_of (appended ws us) ≡ list_of ws 
 list_of-appended no_writes us = refl
 list_of-appended (write l v ws) us = ap (λ (rest : List Write). record { label = l; value = v } ∷ rest) (list_of-appended ws us)
 
--- the node at a place is of that table
-pub placed_table : (t : Table) (place : ℕ) (m : Schema) → at_place t place ≡ Some m → m.table ≡ t
-placed_table t place m e = go (node_at t place) e
-  where
-    go : (o : Option Node) → option_map (λ n. record { table = t; node = n }) o ≡ Some m → m.table ≡ t
-    go None h = absurd (cc h)
-    go (Some n) h = let same : record { table = t; node = n } ≡ m = cc h in sym (ap (λ (x : Schema). x.table) same)
-
 pub placed_there : (t : Table) (place : ℕ) (m : Schema) → at_place t place ≡ Some m → IsPlaced m.table m
-placed_there t place m e = (place, subst (λ u. at_place u place ≡ Some m) (sym (placed_table t place m e)) e)
+placed_there t place m e = (place, subst (λ u. at_place u place ≡ Some m) (sym (at_place_table t place m e)) e)
 
 -- the writes of a part behind others
 abbrev behind : Schema → List Write → Option (Option Value) → Option (List Write)
@@ -157,7 +150,7 @@ at_member {A} holds cut place m before after part result at adds kept = λ r tex
     let q = cut.request.now in
     let t = cut.table.now in
     let told = is_told (is_asked q.body m) (holds q.body) in
-    let here = subst (λ u. KeepsPartTold told u (part_of r q texts m) part) (placed_table t place m at) (kept r texts by cuts) in
+    let here = subst (λ u. KeepsPartTold told u (part_of r q texts m) part) (at_place_table t place m at) (kept r texts by cuts) in
     subst (λ o. AddsTold {A = A} (is_told_at holds q.body o) t before after (write_read (part_of r q texts) o) result) (sym at) (adds told (part_of r q texts m) here)
 
 value_added : {A : Type 0} (holds : List ℕ → Option Held) (cut : CutRequest) (place : SchemaIndex) (m : Schema) (before after : WriteList) (v : ShapeValue) (x : A) → at_place cut.table.now place.0 ≡ Some m

@@ -178,12 +178,6 @@ no_named = record { name = record { ref_ptr = (0, 0); now = [] }; value = record
 pub pairs_short : (xs ys : List Named) (i : ℕ) → i < length xs → length ys ≤ i → false ≡ same_pairs (map named_seen (drop i xs)) (map named_seen (drop i ys))
 pairs_short xs ys i l le = sym (λ j. same_pairs (map named_seen (drop_more xs i no_named l j)) (map named_seen (drop_of_length-le ys le j)))
 
-pub pairs_long : (xs ys : List Named) (i : ℕ) → length xs ≤ i → i < length ys → false ≡ same_pairs (map named_seen (drop i xs)) (map named_seen (drop i ys))
-pairs_long xs ys i le l = sym (λ j. same_pairs (map named_seen (drop_of_length-le xs le j)) (map named_seen (drop_more ys i no_named l j)))
-
-pub pairs_end : (xs ys : List Named) (i : ℕ) → length xs ≤ i → length ys ≤ i → true ≡ same_pairs (map named_seen (drop i xs)) (map named_seen (drop i ys))
-pairs_end xs ys i le le_2 = sym (λ j. same_pairs (map named_seen (drop_of_length-le xs le j)) (map named_seen (drop_of_length-le ys le_2 j)))
-
 -- What a stable sort gives.
 
 abbrev pub name_in : Named → Bor (List ℕ)

@@ -38,7 +38,7 @@ use Rattle.smithy_unambiguity.proofs.Conforming.{no_first}
 use Rattle.smithy_unambiguity.proofs.EntriesTold.{own_list, own_value, own_value_list, is_text_node, text_part, text_writes, text_pairs, key_texts, written_texts, in_order, some_texts, values_of_texts, query_texts as ordered_texts, query_texts_ascend, query_texts_at}
 use Rattle.smithy_unambiguity.proofs.HeadersTold.{clear_template}
 use Rattle.smithy_unambiguity.proofs.Lists.{all_apply}
-use Rattle.smithy_unambiguity.proofs.MapsTold.{query_map_at, query_map_part as query_map_view, keys_distinct}
+use Rattle.smithy_unambiguity.proofs.MapsTold.{query_map_at, query_map_part as query_map_view, distinct_keys}
 use Rattle.smithy_unambiguity.proofs.PairLemmas.{valued, names as keys, ordered_ascends}
 use Rattle.smithy_unambiguity.proofs.Placed.{IsPlacedValue, placed_value, bound_view_of}
 use Rattle.smithy_unambiguity.proofs.Queries.{name_of_pair, pieces_of_pairs, pieces_of_query, values_at-append}
@@ -81,10 +81,6 @@ texts_utf8 name (p ∷ ps) all = go (same_text p.0 name) refl (texts_utf8 name p
 
 name_bytes : (ps : List (List ℕ × List ℕ)) → AllByRecursion IsTextPair ps → AllByRecursion (λ p. AreBytes p.0) ps
 name_bytes ps all = all_apply IsTextPair (λ p. AreBytes p.0) ps (λ p utf8. AreBytes-from_utf8 p.0 utf8.0) all
-
-back_empty : {X : Type 0} (a b : List X) → a ++ b ≡ [] → b ≡ []
-back_empty [] b e = e
-back_empty (x ∷ a) b e = absurd (cc e)
 
 -- The texts of an entry.
 
@@ -318,11 +314,7 @@ query_map_back protocol schema endpoint omit ws q is i m at query_map =
     utf8 = pairs_are_utf8 schema ws is.well_made is.writes.conforming is.writes.in_range
 
     distinct : are_distinct (keys texts) ≡ true
-    distinct = go (first_value schema ws i) placed
-      where
-        go : (o : Option Value) → ((u : Value) → o ≡ Some u → IsPlacedValue m u) → are_distinct (keys (written_texts o)) ≡ true
-        go None fit = refl
-        go (Some u) fit = keys_distinct m u (fit u refl)
+    distinct = distinct_keys m (first_value schema ws i) placed
 
     all_single : is_plain_string here ≡ true → AllByRecursion (λ e. IsSingle e.1) texts
     all_single plain = go (first_value schema ws i) placed

@@ -29,7 +29,7 @@ use Rattle.smithy_unambiguity.proofs.HeadersTold.{clear_template}
 use Rattle.smithy_unambiguity.proofs.Lists.{all_apply}
 use Rattle.smithy_unambiguity.proofs.Members.{member_in_place}
 use Rattle.smithy_unambiguity.proofs.Placed.{HasTypedWrites, first_fitting}
-use Rattle.smithy_unambiguity.proofs.Positions.{members_by_position}
+use Rattle.smithy_unambiguity.proofs.Positions.{members_by_position, sound_input}
 use Rattle.smithy_unambiguity.proofs.QueryNames.{pairs_of_member}
 use Rattle.smithy_unambiguity.proofs.TextsBytes.{AreUtf8, texts_utf8, pairs_are_bytes, IsBytePair}
 use Rattle.smithy_unambiguity.proofs.Traits.{trait_of}
@@ -145,7 +145,7 @@ body_back r lawful omit ws q is = go (has_unbound_member r.schema) refl
     go false e = ap Some (sym (no_free r.schema ws 0 (members_of r.schema) e))
     go true e =
         let x = some_member (members_of r.schema) e in
-        let form = unbound_form_is r.schema is.checked x.0 x.1 (sym (members_by_position r.schema is.checked x.0) ∙ x.2) x.3 in
+        let form = unbound_form_is r.schema (sound_input r.schema is.checked) x.0 x.1 (sym (members_by_position r.schema is.checked.cited x.0) ∙ x.2) x.3 in
         ap (λ b. option_and_then (held_writes r.schema) (r.holds b)) (sym is.body)
         ∙ unbound_back r.protocol r.holds lawful r.schema r.endpoint omit ws is.checked is.well_made is.typed form
         ∙ ap Some (unbound_is_free r.protocol r.schema r.endpoint omit ws is.checked is.well_made is.typed)

@@ -1,38 +1,28 @@
 -- The texts of scalars, and of lists of them, are read as what they were written of.
-use Rattle.std.proofs.Common.{◌≡◌, refl, sym, ◌∙◌, ap, ℕ, Bool, true, false, List, [], ◌∷◌, map, Option, Some, option_map, option_and_then, is_some}
+use Rattle.std.proofs.Common.{◌≡◌, refl, sym, ◌∙◌, ap, ℕ, true, false, List, [], ◌∷◌, map, Some, option_map, option_and_then, is_some}
 use Rattle.std.proofs.lemmas.Bool.{and_parts}
 use Rattle.smithy_types.specs.Results.{each}
 use Rattle.smithy_ids.specs.declared.shape_type.ShapeType.{ShapeType}
 use Rattle.smithy_ids.specs.declared.shape_type.ShapeType.TheVariants as kind
-use Rattle.smithy_ids.specs.declared.traits.TimestampFormat.{TimestampFormat}
 use Rattle.smithy_ids.specs.Kinds.{same_kind}
 use Rattle.smithy_schema.specs.Nodes.{Schema}
 use Rattle.smithy_serde.specs.Values as value
 use Rattle.smithy_serde.specs.Values.{Value, Writes, no_writes, write, Write, list_of, label_of, writes_of}
 use Rattle.smithy_serde.specs.Ranges.{is_in_range}
-use Rattle.smithy_serde.specs.Fits.{fits, fits_in_range, scalar_kind}
+use Rattle.smithy_serde.specs.Fits.{fits, fits_in_range}
 use Rattle.smithy_serde.specs.NormalBody.{settled_elements}
 use Rattle.smithy_serde.specs.ValueRead.{write_by}
 use Rattle.smithy_strings.specs.declared.wire.Place.{Place}
 use Rattle.smithy_strings.specs.Wire.{wire}
 use Rattle.smithy_strings.specs.Unwired.{unwired}
-use Rattle.smithy_strings.proofs.UnwireLaws.{unwired-wire}
 use Rattle.smithy_binding.specs.views.StoredTexts.{member_text, element_text}
-use Rattle.smithy_unambiguity.proofs.Fits.{is_flat, taken}
-use Rattle.smithy_unambiguity.proofs.Values.{AreItems, HaveFormat, flat_value, flat_settled, each_first}
+use Rattle.smithy_unambiguity.proofs.Fits.{is_flat}
+use Rattle.smithy_unambiguity.proofs.Values.{AreItems, HaveFormat, flat_value, flat_settled, each_first, wire_back}
 use Rattle.smithy_recovery.specs.HeaderParts.{text_value, list_value, texts_value}
 
--- a value of a flat kind is read from its text
-pub unwired_back : (format : Option TimestampFormat) (media : Bool) (place : Place) (k : ShapeType) (v : Value) (t : List ℕ) → is_flat k ≡ true → fits_in_range k v ≡ true → wire format media place v ≡ Some t
-    → option_map (λ x. value.scalar x) (unwired format media place k t) ≡ Some v
-unwired_back format media place k (value.scalar x) t flat fit e =
-    let parts = and_parts (is_in_range (value.scalar x)) (fits k (value.scalar x)) fit in
-    ap (option_map (λ x. value.scalar x)) (unwired-wire format media place x k t parts.0 (taken k (scalar_kind x) flat parts.1) e)
-unwired_back format media place k _ t flat fit e = absurd (cc e)
-
--- so is a member's
+-- a member's value of a flat kind is read from its text
 pub text_back : (m : Schema) (place : Place) (v : Value) (t : List ℕ) → is_flat m.node.kind ≡ true → fits_in_range m.node.kind v ≡ true → member_text place m v ≡ Some t → text_value m place t ≡ Some v
-text_back m place v t flat fit e = unwired_back m.node.traits.timestamp_format (is_some m.node.traits.media_type) place m.node.kind v t flat fit e
+text_back m place v t flat fit e = wire_back m.node.traits.timestamp_format (is_some m.node.traits.media_type) place m.node.kind v t flat fit e
 
 -- a flat kind is not that of a list
 pub flat_not_list : (k : ShapeType) → is_flat k ≡ true → same_kind k kind.List ≡ false
@@ -60,7 +50,7 @@ each_back e place (write l v ws) ts flat plain fit own h =
     let text : wire e.node.traits.timestamp_format false place v ≡ Some x.text = ap (λ f. wire f false place v) (sym own.0) ∙ x.first in
     let here : text_value e place x.text ≡ Some v =
     ap (λ media. option_map (λ s. value.scalar s) (unwired e.node.traits.timestamp_format media place e.node.kind x.text)) plain
-    ∙ unwired_back e.node.traits.timestamp_format false place e.node.kind v x.text flat fit.0 text in
+    ∙ wire_back e.node.traits.timestamp_format false place e.node.kind v x.text flat fit.0 text in
     ap (each (text_value e place)) (sym x.is)
     ∙ (λ i. option_and_then (λ y. option_map (λ ys. y ∷ ys) (each_back e place ws x.rest flat plain fit.1 own.1 x.later i)) (here i))
 

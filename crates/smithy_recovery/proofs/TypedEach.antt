@@ -32,6 +32,7 @@ use Rattle.smithy_unambiguity.proofs.ViewedMembers.{inserts_nothing}
 use Rattle.smithy_recovery.specs.Shallow.{value_nesting, writes_nesting, is_shallow_at}
 use Rattle.smithy_recovery.specs.TypedWrites.{is_typed_document, has_sound_parts, is_typed_text, has_no_default, is_typed_at, is_typed_value, member_by_index, is_typed_write, has_typed_writes}
 use Rattle.smithy_recovery.proofs.Depths.{document_within}
+use Rattle.smithy_unambiguity.proofs.Positions.{sound_input}
 
 -- the value of a write is one of a typed input's
 abbrev pub HasTypedValue : Resolved → Type 0
@@ -182,11 +183,11 @@ shallow_within v low = go (document_of v) refl
     go (Ok d) e = let one = document_within v d e in le-leb (nesting d) max_nesting (omega (arith, one, low))
     go (Err f) e = refl
 
-object_low : (n : ℕ) (rs : List Resolved) → AllByRecursion (λ r. is_bound r.member ≡ false → value_nesting r.value ≤ n) rs → writes_nesting (bodied_writes rs) ≤ n
+object_low : (n : ℕ) (rs : List Resolved) → AllByRecursion (λ r. is_bound r.member ≡ false → value_nesting r.value ≤ n) rs → writes_nesting (bodied_writes is_bound rs) ≤ n
 object_low n [] all = omega arith
 object_low n (r ∷ rs) all = go (is_bound r.member) refl (object_low n rs all.1)
   where
-    go : (b : Bool) → is_bound r.member ≡ b → writes_nesting (bodied_writes rs) ≤ n
+    go : (b : Bool) → is_bound r.member ≡ b → writes_nesting (bodied_writes is_bound rs) ≤ n
         → writes_nesting (value.writes_of (map (λ (r : Resolved). record { label = label_of r.member; value = r.value }) (cond (not b) (r ∷ filter (λ (r : Resolved). not (is_bound r.member)) rs) (filter (λ (r : Resolved). not (is_bound r.member)) rs)))) ≤ n
     go true is later = later
     go false is later = let one = all.0 is in omega (arith, one, later)
@@ -218,7 +219,7 @@ shallow_typed schema ws checked all = go (form_in schema) refl
     payload is None e = refl
     payload is (Some r) e =
         let found = found_one (λ r. (member_at schema r.position ≡ Some r.member) × HasTypedValue r) is_payload_write (firsts schema ws) r firsts_typed e in
-        let codec = codec_payload schema checked r.position r.member found.0.0 (payload_is (binding_of r.member) found.1) is in
+        let codec = codec_payload schema (sound_input schema checked) r.position r.member found.0.0 (payload_is (binding_of r.member) found.1) is in
         shallow_within r.value (document_low max_nesting r.member r.value (payload_document r found.0.1 found.1 codec))
 
     go : (f : BodyForm) → form_in schema ≡ f → is_shallow (option_and_then doc_of (document_value schema ws)) ≡ true
@@ -229,4 +230,4 @@ shallow_typed schema ws checked all = go (form_in schema) refl
         let low = object_low (max_nesting - 1) (all_resolved schema ws)
         (all_apply HasTypedValue (λ r. is_bound r.member ≡ false → value_nesting r.value ≤ max_nesting - 1) (all_resolved schema ws)
         (λ r h free. document_low (max_nesting - 1) r.member r.value (free_document r h free)) all) in
-        by_form form.Unbound is (shallow_within (structure (bodied_writes (all_resolved schema ws))) (omega (arith, low)))
+        by_form form.Unbound is (shallow_within (structure (bodied_writes is_bound (all_resolved schema ws))) (omega (arith, low)))

@@ -20,6 +20,7 @@ use Rattle.smithy_binding.specs.Typed.{default_names}
 use Rattle.smithy_binding.specs.views.Entries.{text_at}
 use Rattle.smithy_recovery.specs.views.Testing.{Tests, may_be_default}
 use Rattle.smithy_recovery.specs.TypedWrites.{have_format, is_typed_text, has_no_default, is_typed_entries, is_default_behind, is_typed_write, has_typed_writes}
+use Rattle.std.proofs.lemmas.Bool.{or_parts}
 
 -- a member stands in the table of its schema
 pub cited_table : (s : Schema) (place : Option ℕ) (o : Option SchemaRef) → option_map schema_of o ≡ cited s place → IfSome o (λ m. (schema_of m).table ≡ s.table)
@@ -73,10 +74,6 @@ entries-tested prefix m t v (Err e) text names = tt
 
 -- ---- a name of another length is no default's
 
-neither : (a b : Bool) → (a || b) ≡ false → (a ≡ false) × (b ≡ false)
-neither false b e = (refl, e)
-neither true b e = absurd (cc e)
-
 other_length : (text name : List ℕ) → (length text == length name) ≡ false → same_text text name ≡ false
 other_length text name e = go (same_text text name) refl
   where
@@ -90,7 +87,7 @@ other_length text name e = go (same_text text name) refl
 none_so_long : (text : List ℕ) (names : List (List ℕ)) → list_any (λ name. length text == length name) names ≡ false → is_one_of text names ≡ false
 none_so_long text [] e = refl
 none_so_long text (name ∷ names) e =
-    let parts = neither (length text == length name) (list_any (λ other. length text == length other) names) e in
+    let parts = or_parts (length text == length name) (list_any (λ other. length text == length other) names) e in
     ap (λ b. b || is_one_of text names) (other_length text name parts.0) ∙ none_so_long text names parts.1
 
 pub no_default_so_long : (prefix key : List ℕ) → may_be_default (length prefix + length key) ≡ false → false ≡ is_default_behind prefix key

@@ -15,7 +15,7 @@ use Rattle.smithy_http.specs.Requests.{Request}
 use Rattle.smithy_unambiguity.proofs.BodyObject.{body_node}
 use Rattle.smithy_unambiguity.proofs.ByMember.{first_value}
 use Rattle.smithy_unambiguity.proofs.PayloadTold.{HasOwnText, own_bytes, codec_form, payload_form, payload_is_data, payload_value, payload_own_text, body_bytes}
-use Rattle.smithy_unambiguity.proofs.Positions.{members_by_position}
+use Rattle.smithy_unambiguity.proofs.Positions.{members_by_position, sound_input}
 use Rattle.smithy_unambiguity.proofs.UnboundTold.{body_value, unbound_form_is, unbound_own_text}
 use Rattle.smithy_recovery.specs.BodyParts.{is_asked_at, is_asked, reads_body, is_told}
 use Rattle.smithy_recovery.specs.Recovered.{Reading, is_body_told}
@@ -53,16 +53,16 @@ typed_is_told r omit q ws lawful checked well_made typed same = go (reads_body r
   where
     unbound : (i : ℕ) (m : Schema) → member_at r.schema i ≡ Some m → binding_of m ≡ to_body → is_some (r.holds q.body) ≡ true
     unbound i m at e =
-        let is = unbound_form_is r.schema checked i m at (ap is_outside_body e) in
+        let is = unbound_form_is r.schema (sound_input r.schema checked) i m at (ap is_outside_body e) in
         own_told r lawful (body_node r.schema) (body_value r.schema ws) q.body (unbound_own_text r.protocol r.schema r.endpoint omit ws checked well_made typed is)
         (sym (ap (λ f. bytes_by f r.protocol.text_of (body_parts r.schema ws)) is) ∙ sym (body_bytes r.protocol.text_of r.schema ws) ∙ same)
 
     payload : (i : ℕ) (m : Schema) → member_at r.schema i ≡ Some m → binding_of m ≡ to_payload → q.body ≢ [] → is_raw_kind m.node.kind ≡ false → is_some (r.holds q.body) ≡ true
     payload i m at e some raw =
-        let codec = codec_kind (is_raw_kind m.node.kind) (is_codec_kind m.node.kind) (payload_is_data r.schema checked i m at e) raw in
-        let is : form_in r.schema ≡ form.Payload = payload_form r.schema checked i m at e ∙ codec_form m.node.kind (has_unbound_member r.schema) codec in
+        let codec = codec_kind (is_raw_kind m.node.kind) (is_codec_kind m.node.kind) (payload_is_data r.schema (sound_input r.schema checked) i m at e) raw in
+        let is : form_in r.schema ≡ form.Payload = payload_form r.schema (sound_input r.schema checked) i m at e ∙ codec_form m.node.kind (has_unbound_member r.schema) codec in
         let bytes : text_of_document r.protocol.text_of (first_value r.schema ws i) ≡ q.body =
-        ap (text_of_document r.protocol.text_of) (sym (payload_value r.schema checked ws i m at e))
+        ap (text_of_document r.protocol.text_of) (sym (payload_value r.schema (sound_input r.schema checked) ws i m at e))
         ∙ sym (ap (λ f. bytes_by f r.protocol.text_of (body_parts r.schema ws)) is) ∙ sym (body_bytes r.protocol.text_of r.schema ws) ∙ same in
         by (first_value r.schema ws i) (payload_own_text r.protocol r.schema r.endpoint omit ws i m checked well_made typed at e is) bytes
       where
@@ -80,4 +80,4 @@ typed_is_told r omit q ws lawful checked well_made typed same = go (reads_body r
 
     go : (t : Bool) → reads_body r.schema q.body ≡ t → is_told t (r.holds q.body) ≡ true
     go false e = refl
-    go true e = let x = any_at (is_asked q.body) (members_of r.schema) e in member x.0 x.1 (sym (members_by_position r.schema checked x.0) ∙ x.2) x.3
+    go true e = let x = any_at (is_asked q.body) (members_of r.schema) e in member x.0 x.1 (sym (members_by_position r.schema checked.cited x.0) ∙ x.2) x.3

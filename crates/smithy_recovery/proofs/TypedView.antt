@@ -33,6 +33,7 @@ use Rattle.smithy_unambiguity.proofs.ViewedMembers.{bound_made}
 use Rattle.smithy_recovery.specs.Shallow.{value_nesting, is_shallow_at}
 use Rattle.smithy_recovery.specs.TypedWrites.{is_typed_document, is_typed_payload, has_sound_parts, is_typed_text, has_no_default, is_typed_at, is_typed_value, is_typed_write, has_typed_writes}
 use Rattle.smithy_recovery.proofs.Depths.{settled_within, field_within}
+use Rattle.smithy_unambiguity.proofs.Positions.{own_names, sound_input}
 
 -- ---- values in the target and the headers
 
@@ -66,7 +67,7 @@ module _ (protocol : Protocol) (schema : Schema) (endpoint : List ℕ) (omit : O
           let x = bound_made schema ws i m u to_payload at payload refl e in
           let gives : Some (settled (Some m) x.from) ≡ Some u = sym (ap (λ t. if t then Some (settled (Some m) x.from) else unless_empty x.from) is) ∙ x.gives in
           let same : settled (Some m) x.from ≡ u = cc gives in
-          let whole = payload_form schema checked i m at payload ∙ codec_form m.node.kind (has_unbound_member schema) is in
+          let whole = payload_form schema (sound_input schema checked) i m at payload ∙ codec_form m.node.kind (has_unbound_member schema) is in
           let text = payload_own_text protocol schema endpoint omit ws i m checked well_made typed at payload whole x.from x.is in
           let within = settled_within m x.from text.doc text.shaped text.has in
           let shallow = text.shallow in
@@ -80,9 +81,9 @@ module _ (protocol : Protocol) (schema : Schema) (endpoint : List ℕ) (omit : O
       let bodied = typed_bodied protocol schema endpoint omit ws typed in
       let rs = all_resolved schema ws in
       let member = member_in_place schema i m well_made at in
-      let has : last_named member.own_name (body_fields schema rs) ≡ Some u = body_field schema checked well_made i m member.own_name at member.name rs bodied ∙ sym (free_member_view schema ws i m free) ∙ e in
-      let text = unbound_own_text protocol schema endpoint omit ws checked well_made typed (unbound_form_is schema checked i m at free) in
-      let within = field_within (body_node schema) (bodied_writes rs) text.doc member.own_name u text.shaped text.has has in
+      let has : last_named member.own_name (body_fields is_bound schema rs) ≡ Some u = body_field is_bound schema (own_names schema checked) well_made i m member.own_name at member.name rs bodied ∙ sym (free_member_view schema ws i m free) ∙ e in
+      let text = unbound_own_text protocol schema endpoint omit ws checked well_made typed (unbound_form_is schema (sound_input schema checked) i m at free) in
+      let within = field_within (body_node schema) (bodied_writes is_bound rs) text.doc member.own_name u text.shaped text.has has in
       let shallow = text.shallow in
       low_document (max_nesting - 1) m u (omega (arith, within, shallow)) (free_view_shaped schema ws i m u checked well_made bodied at free e)
 

@@ -7,13 +7,10 @@ use Rattle.smithy_serde.specs.IndexOrder.{in_order}
 use Rattle.smithy_serde.specs.ValueRead.{value_read}
 use Rattle.smithy_response.specs.ResponseReaders.{is_body_only}
 use Rattle.smithy_response.proofs.HandedItems.{kept, named, fields_by, fields_placed}
+use Rattle.std.proofs.lemmas.Bool.{or_parts}
 
 abbrev Unbound : Schema → Type 0
 Unbound m = is_response_bound m ≡ false
-
-or_false : (a b : Bool) → (a || b) ≡ false → (a ≡ false) × (b ≡ false)
-or_false true b e = cc
-or_false false b e = (refl, e)
 
 and_true : (a b : Bool) → (a && not b) ≡ true → (a ≡ true) × (b ≡ false)
 and_true true true e = cc
@@ -33,11 +30,11 @@ stands_in_body m u = unbound_source m.node.traits.http_header m.node.traits.http
 -- each field is a member, and none is bound
 first_unbound : (o : Option Schema) (rest : List Schema) (m : Schema) → list_any is_response_bound (cons_option o rest) ≡ false → o ≡ Some m → Unbound m
 first_unbound None rest m none is = cc
-first_unbound (Some x) rest m none is = (let same : x ≡ m = cc in subst Unbound same (or_false (is_response_bound x) (list_any is_response_bound rest) none).0)
+first_unbound (Some x) rest m none is = (let same : x ≡ m = cc in subst Unbound same (or_parts (is_response_bound x) (list_any is_response_bound rest) none).0)
 
 rest_unbound : (o : Option Schema) (rest : List Schema) → list_any is_response_bound (cons_option o rest) ≡ false → list_any is_response_bound rest ≡ false
 rest_unbound None rest none = none
-rest_unbound (Some x) rest none = (or_false (is_response_bound x) (list_any is_response_bound rest) none).1
+rest_unbound (Some x) rest none = (or_parts (is_response_bound x) (list_any is_response_bound rest) none).1
 
 member_unbound : (table : Table) (places : List ℕ) → list_any is_response_bound (filter_map (at_place table) places) ≡ false → (i : ℕ) (m : Schema) → option_and_then (at_place table) (slice_get places i) ≡ Some m → Unbound m
 member_unbound table [] none zero m is = cc
@@ -79,14 +76,14 @@ all_kept ((at_key key, h) ∷ items) u = absurd u
 routed_none : (response : Response) (rest : Option Held → Ended) (body : Option Held) (ms : List Schema) → list_any is_response_bound ms ≡ false → routed response rest body ms ≡ rest body
 routed_none response rest body [] none = refl
 routed_none response rest body (m ∷ ms) none =
-    let both = or_false (is_response_bound m) (list_any is_response_bound ms) none in
+    let both = or_parts (is_response_bound m) (list_any is_response_bound ms) none in
     ap (λ s. with_route (route_at s m response) m body (routed response rest body ms) (routed response rest None ms)) (stands_in_body m both.0).0
     ∙ routed_none response rest body ms both.1
 
 no_payload : (ms : List Schema) → list_any is_response_bound ms ≡ false → list_any (λ m. m.node.traits.http_payload) ms ≡ false
 no_payload [] none = refl
 no_payload (m ∷ ms) none =
-    let both = or_false (is_response_bound m) (list_any is_response_bound ms) none in
+    let both = or_parts (is_response_bound m) (list_any is_response_bound ms) none in
     rw (stands_in_body m both.0).1 (no_payload ms both.1)
 
 reads_it : (n : Schema) (response : Response) → has_unbound n ≡ true → list_any is_response_bound (members_of n) ≡ false → reads_body n response false ≡ true

@@ -1,5 +1,5 @@
 -- How what is at hand of a response is opened, and its items handed out.
-use Rattle.smithy_response.proofs.Common.{◌≡◌, ◌<◌, ◌≤◌, inl, inr, ℕ, ℤ, zero, suc, ◌+◌, ◌-◌, ◌++◌, true, false, List, [], ◌∷◌, map, length, drop, Option, Some, None, option_map, is_some, IfSome, Ok, Err, refl, sym, ap, subst, ◌∙◌, arith, add-one, slice_get, str_to_ascii_lowercase, Response, Schema, SerdeError, OutOfMemory, Group, elements_of_header, Held, Prefixed, IsAnswer, levels_of, is_null_held, elements, entries, fields, opening_refusal, Slot, at_element, at_key, Listing, all_of, none_but, listing_of, contents, contents_at, Frame, AtHand, IsIn, IsRefused, NotOpened, Halted, NextElement, NextEntry, TellsNull, IsRefusal, BoundMember, OpenList, values_named, keys_behind, entry_of, prefixed_in, header_of, items_of, element_at, levels_at, told_frame, told_reader, elements_left, header_reader, entries_left, prefix_at_hand, member_at_hand}
+use Rattle.smithy_response.proofs.Common.{◌≡◌, ◌<◌, ◌≤◌, inl, inr, ℕ, ℤ, zero, suc, ◌+◌, ◌-◌, ◌++◌, true, false, List, [], ◌∷◌, map, length, drop, Option, Some, None, option_map, is_some, IfSome, Ok, Err, refl, sym, ap, subst, ◌∙◌, arith, add-one, slice_get, str_to_ascii_lowercase, Response, Schema, SerdeError, OutOfMemory, Group, elements_of_header, Held, Prefixed, IsAnswer, is_null_held, elements, entries, fields, opening_refusal, Slot, at_element, at_key, Listing, all_of, none_but, listing_of, contents, contents_at, Frame, AtHand, IsIn, IsRefused, NotOpened, Halted, NextElement, NextEntry, TellsNull, IsRefusal, BoundMember, OpenList, values_named, keys_behind, entry_of, prefixed_in, header_of, items_of, element_at, levels_at, told_frame, told_reader, elements_left, header_reader, entries_left, prefix_at_hand, member_at_hand}
 use Rattle.smithy_ids.specs.declared.shape_type.ShapeType.TheVariants as kind
 use Rattle.smithy_serde.specs.declared.scalar.Group.TheVariants as group
 use Rattle.smithy_serde.specs.Held as held
@@ -8,6 +8,7 @@ use Rattle.smithy_response.specs.declared.parts.OpenMap.{OpenMap}
 use Rattle.smithy_response.specs.declared.parts.ListItems.{ListItems}
 use Rattle.smithy_response.specs.declared.parts.ListItems.TheVariants as items
 use Rattle.smithy_response.specs.Openings.{opened_kind, OpensList, OpensEntries, IsAtEntries}
+use Rattle.smithy_binding.proofs.WriteSteps.{drop-none}
 
 -- the refusal that opening what is held gives, or want of memory
 pub refused_listing : (x e : SerdeError) → IsRefusal x e → IsRefused (Some (none_but x)) e
@@ -47,12 +48,6 @@ next_of [] zero x e = cc
 next_of [] (suc p) x e = cc
 next_of (y ∷ ys) zero x e = cc
 next_of (y ∷ ys) (suc p) x e = next_of ys p x e
-
-none_of : {A : Type 0} (xs : List A) (p : ℕ) → slice_get xs p ≡ None → drop p xs ≡ []
-none_of [] zero e = refl
-none_of [] (suc p) e = refl
-none_of (y ∷ ys) zero e = cc
-none_of (y ∷ ys) (suc p) e = none_of ys p e
 
 found_at : {A : Type 0} (xs : List A) (p : ℕ) → p < length xs → (x : A) × (slice_get xs p ≡ Some x)
 found_at [] p h = absurd (omega arith)
@@ -245,7 +240,7 @@ module _ (response : Response) (ps : List Prefixed) where
           was = refl;
           held = refl;
           levels = refl;
-          none_left = ap (map {B = Slot × Held} (λ k. (at_key k, header_of response (m.lower ++ k)))) (none_of m.keys m.place none);
+          none_left = ap (map {B = Slot × Held} (λ k. (at_key k, header_of response (m.lower ++ k)))) (drop-none m.keys m.place none);
           not_refused = refl;
         })
 

@@ -1,12 +1,9 @@
 -- How a loop passes over the body's copies of bound members.
-use Rattle.smithy_response.proofs.Common.{◌≡◌, ◌<◌, ◌≤◌, Bool, true, false, List, [], ◌∷◌, map, filter, Option, Some, None, option_map, IfSome, inl, inr, refl, sym, ap, subst, ◌∙◌, arith, Schema, is_response_bound, SerdeError, Held, Answer, Slot, at_member, Listing, Frame, AtHand, IsIn, Hands, SettlesBy, Advanced, MemberAdvanced, Closed, Halted, IsRefused, is_unbound, unbound_items, unbound_frame, without_copies}
+use Rattle.smithy_response.proofs.Common.{◌≡◌, ◌<◌, ◌≤◌, Bool, false, List, [], ◌∷◌, map, filter, Option, Some, None, option_map, IfSome, inl, inr, refl, sym, ap, subst, ◌∙◌, arith, Schema, is_response_bound, SerdeError, Held, Answer, Slot, at_member, Listing, Frame, AtHand, IsIn, Hands, SettlesBy, MemberAdvanced, Closed, Halted, IsRefused, is_unbound, unbound_items, unbound_frame, without_copies}
 use Rattle.smithy_serde.specs.declared.scalar.Group.TheVariants as group
 
 abbrev stays : Slot × Held → Bool
 stays i = is_unbound i.0
-
-filter_out : (items : List (Slot × Held)) (m : Schema) (x : Held) (more : List (Slot × Held)) → items ≡ (at_member m, x) ∷ more → is_response_bound m ≡ true → filter stays items ≡ filter stays more
-filter_out items m x more e b = rw e (rw b refl)
 
 filter_in : (items : List (Slot × Held)) (m : Schema) (x : Held) (more : List (Slot × Held)) → items ≡ (at_member m, x) ∷ more → is_response_bound m ≡ false → filter stays items ≡ (at_member m, x) ∷ filter stays more
 filter_in items m x more e b = rw e (rw b refl)
@@ -18,12 +15,6 @@ Keeps start now = IfSome start (λ xs. now ≡ Some xs)
 pub keeps_all : (start : Option Listing) → Keeps start start
 keeps_all None = tt
 keeps_all (Some xs) = refl
-
-hands_bound : (start now after : Option Listing) (m : Schema) (held : Option Held) → Keeps start (option_map unbound_items now) → Hands now (at_member m) held after → is_response_bound m ≡ true → Keeps start (option_map unbound_items after)
-hands_bound None now after m held k h b = tt
-hands_bound (Some ys) None after m held k h b = cc
-hands_bound (Some ys) (Some xs) after m held k h b =
-    ap (option_map unbound_items) h.4 ∙ ap (λ is. Some (record xs { items = is })) (sym (filter_out xs.items m h.0 h.1 h.2 b)) ∙ k
 
 -- what holds of what is told now, holds of what was told at the start
 pub carried : (P : Option Listing → Type 0) → P None → (start now : Option Listing) → Keeps start now → P now → P start
@@ -68,52 +59,12 @@ pub record Skimmed (node : Schema) (start now : AtHand) : Type 0 where
   pub fewer : frame.left (Some node) ≤ top.left (Some node)
   pub listed : Keeps (unbound_by node top) (unbound_by node frame)
 
-pub not_yet : (node : Schema) (start : AtHand) → IsIn group.Structure start → Skimmed node start start
-not_yet node start h = go start.opened refl h
-  where
-    go : (os : List Frame) → start.opened ≡ os → IsIn group.Structure (record start { opened = os }) → Skimmed node start start
-    go [] e i = absurd i
-    go (o ∷ os) e i = record {
-      top = o;
-      frame = o;
-      below = os;
-      was = e;
-      stack = e;
-      form = refl;
-      in_form = i;
-      container = refl;
-      depth = refl;
-      fewer = omega arith;
-      listed = keeps_all (unbound_by node o);
-    }
-
 pub is_in : (node : Schema) (start now : AtHand) → Skimmed node start now → IsIn group.Structure now
 is_in node start now w = rw w.stack (w.form ∙ w.in_form)
 
 module _ {node : Schema} {start now : AtHand} (w : Skimmed node start now) where
   same_listed : (top : Frame) → top ≡ w.frame → Keeps (unbound_by node w.top) (unbound_by node top)
   same_listed top e = subst (λ (o : Frame). Keeps (unbound_by node w.top) (unbound_by node o)) (sym e) w.listed
-
-  pub skims : {m : Schema} {mid : AtHand} → Advanced (Some node) (at_member m) now mid → is_response_bound m ≡ true → Skimmed node start mid
-  skims {m} {mid} a b =
-      let both : a.top ∷ a.below ≡ w.frame ∷ w.below = sym a.was ∙ w.stack in
-      let same_top : a.top ≡ w.frame = cc in
-      let same_below : a.below ≡ w.below = cc in
-      let fewer : w.frame.left (Some node) ≤ w.top.left (Some node) = w.fewer in
-      let less : a.next.left (Some node) < w.frame.left (Some node) = subst (λ (o : Frame). a.next.left (Some node) < o.left (Some node)) same_top a.falls in
-      record {
-        top = w.top;
-        frame = a.next;
-        below = w.below;
-        was = w.was;
-        stack = a.now_is ∙ ap (λ b. a.next ∷ b) same_below;
-        form = a.form ∙ ap (λ (o : Frame). o.form) same_top ∙ w.form;
-        in_form = w.in_form;
-        container = a.container ∙ ap (λ (o : Frame). o.container) same_top ∙ w.container;
-        depth = a.depth ∙ ap (λ (o : Frame). o.depth) same_top ∙ w.depth;
-        fewer = omega (arith, fewer, less);
-        listed = hands_bound (unbound_by node w.top) (a.top.to_come (Some node)) (a.next.to_come (Some node)) m mid.held (same_listed a.top same_top) a.hands b;
-      }
 
   pub finds : {m : Schema} {mid : AtHand} → MemberAdvanced node m now mid → is_response_bound m ≡ false → MemberAdvanced node m (without_copies start) (without_copies mid)
   finds {m} {mid} found b =

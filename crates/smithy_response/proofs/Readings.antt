@@ -1,29 +1,24 @@
 -- How an element at hand is read.
-use Rattle.smithy_response.proofs.Common.{◌≡◌, ℕ, ℤ, zero, suc, ◌-◌, List, [], ◌∷◌, map, Option, Some, None, option_map, Result, Err, refl, sym, ap, subst, ◌∙◌, slice_get, Response, Schema, SerdeError, scalar_of_element, scalar_of_date, Held, Prefixed, read_scalar, prefix_refusal, type_of, read_at, scalar_of_read, Reads, IsRefusal, OpenList, items_of, element_at, prefix_at_hand}
+use Rattle.smithy_response.proofs.Common.{◌≡◌, ℕ, ℤ, ◌-◌, List, [], ◌∷◌, Option, Some, None, option_map, Result, Err, refl, sym, ap, subst, ◌∙◌, slice_get, Response, Schema, SerdeError, scalar_of_element, scalar_of_date, Prefixed, read_scalar, prefix_refusal, type_of, read_at, scalar_of_read, Reads, IsRefusal, OpenList, items_of, element_at, prefix_at_hand}
 use Rattle.smithy_serde.specs.declared.read_scalar.ScalarKind.{ScalarKind}
 use Rattle.smithy_serde.specs.declared.read_scalar.ReadScalar.{ReadScalar}
 use Rattle.smithy_serde.specs.Held as held
 use Rattle.smithy_response.specs.declared.parts.ListItems.TheVariants as items
 use Rattle.smithy_response.specs.GivenScalars.{GivesScalar}
-
-get_map : {A B : Type 0} (f : A → B) (xs : List A) (p : ℕ) → slice_get (map f xs) p ≡ option_map f (slice_get xs p)
-get_map f [] zero = refl
-get_map f [] (suc p) = refl
-get_map f (x ∷ xs) zero = refl
-get_map f (x ∷ xs) (suc p) = get_map f xs p
+use Rattle.std.proofs.lemmas.Option.{slice_get-map}
 
 module _ (k : ScalarKind) (node : Schema) (l : OpenList) (place : ℕ) (result : Result ReadScalar SerdeError) (at : place ≡ l.place - 1) where
   text_at : (words : List (List ℕ)) (found : Option (List ℕ)) → l.items ≡ items.Texts words → found ≡ slice_get words place
       → element_at l ≡ option_map (λ t. held.element t) found
   text_at words found is get =
       ap (λ its. slice_get (items_of its) (l.place - 1)) is ∙ ap (λ p. slice_get (items_of (items.Texts words)) p) (sym at)
-      ∙ get_map (λ t. held.element t) words place ∙ ap (option_map (λ t. held.element t)) (sym get)
+      ∙ slice_get-map (λ t. held.element t) words place ∙ ap (option_map (λ t. held.element t)) (sym get)
 
   date_at : (seconds : List ℤ) (found : Option ℤ) → l.items ≡ items.Dates seconds → found ≡ slice_get seconds place
       → element_at l ≡ option_map (λ s. held.date s) found
   date_at seconds found is get =
       ap (λ its. slice_get (items_of its) (l.place - 1)) is ∙ ap (λ p. slice_get (items_of (items.Dates seconds)) p) (sym at)
-      ∙ get_map (λ s. held.date s) seconds place ∙ ap (option_map (λ s. held.date s)) (sym get)
+      ∙ slice_get-map (λ s. held.date s) seconds place ∙ ap (option_map (λ s. held.date s)) (sym get)
 
   pub reads_text : (words : List (List ℕ)) (w : List ℕ) → l.items ≡ items.Texts words → Some w ≡ slice_get words place
       → GivesScalar k (Some (scalar_of_element (type_of k) w)) result → GivesScalar k (read_at k node (element_at l)) result

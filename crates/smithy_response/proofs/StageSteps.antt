@@ -1,7 +1,6 @@
 -- How the body's reader and the response's own half are shown in each stage.
 use Rattle.std.specs.Prelude.{Bool, true}
-use Rattle.smithy_response.proofs.Common.{◌≡◌, ◌≤◌, ◌≢◌, ℕ, ◌+◌, List, [], ◌∷◌, ◌++◌, map, length, Option, Some, None, Result, Err, inr, refl, sym, ap, ◌∙◌, arith, Schema, SerdeError, Group, Held, Scalar, Slot, as_it_is, Frame, AtHand, IsIn, Reads, Opened, Advanced, Closed, Transport, transport_at_hand, transport_settled, IsSameTurn, plain, untold, levels_under, handed_from, still_handed, body_left, body_size, structure_at, structure_frame, body_frames, at_top, at_bound, at_payload, at_body, top_listing, top_size}
-use Rattle.smithy_serde.specs.declared.read_scalar.ScalarKind.{ScalarKind}
+use Rattle.smithy_response.proofs.Common.{◌≡◌, ◌≤◌, ◌≢◌, ℕ, ◌+◌, List, [], ◌∷◌, ◌++◌, map, length, Option, Some, None, Err, inr, refl, sym, ap, ◌∙◌, arith, Schema, Group, Held, Slot, as_it_is, Frame, AtHand, IsIn, Opened, Advanced, Closed, Transport, transport_at_hand, transport_settled, IsSameTurn, plain, untold, levels_under, handed_from, still_handed, body_left, body_size, structure_at, structure_frame, body_frames, at_top, at_bound, at_payload, at_body, top_listing, top_size}
 use Rattle.smithy_serde.specs.declared.scalar.Group.TheVariants as group
 use Rattle.smithy_response.proofs.Presenting.{untold_shows, same_shows, plain_shows, shown_opened, shown_advanced, shown_closed, shown_halted, refused_resettled, Steps, Openings}
 
@@ -41,9 +40,6 @@ module _ (t : Transport) (b c : AtHand) where
     opened = λ a. shown_opened untold_shows a (ap (map untold) a.now_is) refl refl (top_within g node) (sym e);
     not_opened = λ refusal n. record { opened = ap (map untold) n.opened; levels = ap (λ d. 3 + d) n.levels; refused = rw e (inr tt) };
   }
-
-  pub top_reads : {A : Type 0} {f : A → Scalar} {k : ScalarKind} {node : Schema} (result : Result A SerdeError) → Reads f k node b c result → Reads f k node (at_top t b) (at_top t c) result
-  top_reads result r = record { opened = ap (map untold) r.opened; levels = ap (λ d. 3 + d) r.levels; of_kind = r.of_kind; gives = tt }
 
 pub none_listed : (t : Transport) (os : List Frame) (held : Option Held) (g : Group) (node : Schema) → length os ≢ 0 → top_listing t os held g node ≡ None
 none_listed t [] held g node n = absurd (n refl)
@@ -113,9 +109,6 @@ module _ (t : Transport) (b c : AtHand) where
     not_opened = λ e n. record { opened = same_over n.opened n.levels; levels = n.levels; refused = refused_resettled as_it_is (b.listing g node) e n.refused };
   }
 
-  pub payload_reads : {A : Type 0} {f : A → Scalar} {k : ScalarKind} {node : Schema} (result : Result A SerdeError) → Reads f k node b c result → Reads f k node (at_payload t b) (at_payload t c) result
-  payload_reads result r = record { opened = same_over r.opened r.levels; levels = r.levels; of_kind = r.of_kind; gives = r.gives }
-
 -- more than one container is open
 pub record IsInner (opened : List Frame) : Type 0 where
   pub inner : Frame
@@ -161,9 +154,6 @@ module _ (t : Transport) (b c : AtHand) where
     opened = λ a. shown_opened plain_shows a (ap (body_frames t) a.now_is ∙ above_some t a.frame b.opened n) a.container refl (omega arith) refl;
     not_opened = λ e r. record { opened = ap (body_frames t) r.opened; levels = r.levels; refused = refused_resettled as_it_is (b.listing g node) e r.refused };
   }
-
-  pub body_reads : {A : Type 0} {f : A → Scalar} {k : ScalarKind} {node : Schema} (result : Result A SerdeError) → Reads f k node b c result → Reads f k node (at_body t b) (at_body t c) result
-  body_reads result r = record { opened = ap (body_frames t) r.opened; levels = r.levels; of_kind = r.of_kind; gives = r.gives }
 
 -- the structure is the same in the same turn
 same_structure : (t u : Transport) → IsSameTurn t u → (left : Option (Option Held)) (behind : Schema → ℕ) (levels : ℕ)

@@ -4,6 +4,7 @@ use Rattle.smithy_types.specs.Documents as doc
 use Rattle.smithy_serde.specs.declared.scalar.Group.TheVariants as group
 use Rattle.smithy_serde.specs.Held as held
 use Rattle.smithy_response.specs.TransportWins.{is_bound_field, without_bound_fields, without_bound, TransportWins}
+use Rattle.std.proofs.lemmas.Bool.{or_parts}
 
 -- what the body lists of its fields, but for bound members
 abbrev unbound_of : Schema → List (List ℕ × Document) → List (Slot × Held)
@@ -54,15 +55,11 @@ route_alike (handed_out h) m b c x y z p e = ap (before_rest (at_member m) h) e
 route_alike handed_body m b c x y z p e = absurd p
 route_alike (refused r) m b c x y z p e = refl
 
-or_false : (a b : Bool) → (a || b) ≡ false → (a ≡ false) × (b ≡ false)
-or_false true b e = cc
-or_false false b e = (refl, e)
-
 routed_alike : (response : Response) (rest : Option Held → Ended) (b c : Held) (ms : List Schema) → list_any (λ m. m.node.traits.http_payload) ms ≡ false
     → rest (Some b) ≡ rest (Some c) → routed response rest (Some b) ms ≡ routed response rest (Some c) ms
 routed_alike response rest b c [] none same = same
 routed_alike response rest b c (m ∷ ms) none same =
-    let both = or_false m.node.traits.http_payload (list_any (λ m. m.node.traits.http_payload) ms) none in
+    let both = or_parts m.node.traits.http_payload (list_any (λ m. m.node.traits.http_payload) ms) none in
     route_alike (route m response) m b c _ _ _ (beside m response both.0) (routed_alike response rest b c ms both.1 same)
 
 fields_alike : (schema : Schema) (d : Document)

@@ -102,10 +102,6 @@ module _ (t : Transport) (is_given : Bool) (b : AtHand) (node : Schema) (new : A
       (ap (λ os. os ++ (structure_frame t is_given (transport_settled t) b ∷ [])) (none_inside t is_given b i)) refl refl refl (omega arith)
       (keeps_all (option_map (still_handed t node) (body_left is_given b.held))) result
 
-  pub from_payload : b.opened ≡ [] → NextMember node (at_structure t true b) new result → NextMember node (at_payload t b) new result
-  from_payload none = renewed node (at_structure t true b) (at_payload t b) new (structure_frame t true (λ e. Err e) b) (structure_frame t true (λ e. Err e) b) [] refl
-      (ap (λ os. map plain os ++ (structure_frame t true (λ e. Err e) b ∷ [])) none) refl refl refl (omega arith) (keeps_all (Some (still_handed t node None))) result
-
 -- what is left of the body fits whether it was given
 left_fits : (is_given : Bool) (held : Option Held) → IfSome (body_left is_given held) (IsLeft is_given)
 left_fits true held = λ e. refl
@@ -299,7 +295,7 @@ module _ (node : Schema) (t u : Transport) (same : IsSameResponse t u) where
           (rw left (refused_left left b.held (b.listing group.Structure node) e (λ body is. b.told group.Structure node body is) n.refused))
 
 -- a member that is not bound stands in the body
-source_unbound : (h p : Option (List ℕ)) (code payload : Bool) → (is_some h || is_some p || code || payload) ≡ false → source_at h p code payload ≡ in_body
+pub source_unbound : (h p : Option (List ℕ)) (code payload : Bool) → (is_some h || is_some p || code || payload) ≡ false → source_at h p code payload ≡ in_body
 source_unbound (Some x) p code payload e = cc
 source_unbound None (Some x) code payload e = cc
 source_unbound None None true payload e = cc

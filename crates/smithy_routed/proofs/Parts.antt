@@ -12,7 +12,8 @@ use Rattle.smithy_schema.specs.Templates.{Hole, Template, hole_of, pieces, piece
 use Rattle.smithy_router.specs.Routes.{HasNo}
 use Rattle.smithy_router.specs.Templates.{Part, Fixed, Bound, inside_braces, bound_part, part_of}
 use Rattle.smithy_unambiguity.proofs.Paths.{HasNo-from_has_byte}
-use Rattle.smithy_routed.proofs.Segments.{path_of, split_some}
+use Rattle.smithy_routed.proofs.Segments.{path_of}
+use Rattle.smithy_router.proofs.Targets.{split_some}
 
 -- a template behind this text
 abbrev pub behind_text : List ℕ → Template → Template

@@ -5,6 +5,7 @@ use Rattle.std.proofs.lemmas.Bool.{eqb-true}
 use Rattle.smithy_router.specs.Routes.{HasNo}
 use Rattle.smithy_router.specs.Segments.{fits_greedy}
 use Rattle.smithy_unambiguity.proofs.Cuts.{HasNo-append}
+use Rattle.smithy_router.proofs.Targets.{split_some}
 
 -- the segments, each behind a `/`
 abbrev pub path_of : List (List ℕ) → List ℕ
@@ -14,18 +15,6 @@ path_of (s ∷ ss) = 47 ∷ (s ++ path_of ss)
 -- those of a text that is cut at each `/`
 abbrev pub cut_path : List ℕ → List (List ℕ)
 cut_path text = slice_split (λ b. b == 47) text
-
-onto_some : (x : ℕ) (parts : List (List ℕ)) → onto_first x parts ≢ []
-onto_some x [] e = cc e
-onto_some x (part ∷ parts) e = cc e
-
-pub split_some : (c : ℕ) (text : List ℕ) → slice_split (λ b. b == c) text ≢ []
-split_some c [] e = cc e
-split_some c (b ∷ text) e = go (b == c) e
-  where
-    go : (t : Bool) → cond t ([] ∷ slice_split (λ x. x == c) text) (onto_first b (slice_split (λ x. x == c) text)) ≢ []
-    go true e = cc e
-    go false e = onto_some b _ e
 
 -- a path is that of its segments
 onto_path : (b : ℕ) (parts : List (List ℕ)) (text : List ℕ) → parts ≢ [] → path_of parts ≡ 47 ∷ text → path_of (onto_first b parts) ≡ 47 ∷ b ∷ text

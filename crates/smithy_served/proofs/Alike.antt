@@ -1,6 +1,6 @@
 -- A schema as a response has it: its members and their first writes are the schema's own.
-use Rattle.std.proofs.Common.{◌≡◌, refl, ◌∙◌, ap, ℕ, ◌==◌, Bool, true, false, cond, ◌&&◌, List, [], ◌∷◌, map, filter_map, find, Option, Some, None, option_map, option_and_then, is_some}
-use Rattle.std.specs.List.{list_all, cons_option}
+use Rattle.std.proofs.Common.{◌≡◌, refl, ◌∙◌, ap, ℕ, ◌==◌, Bool, true, false, cond, ◌||◌, List, [], ◌∷◌, map, filter, filter_map, find, Option, Some, None, option_map, option_and_then, is_some}
+use Rattle.std.specs.List.{list_all, list_any, cons_option}
 use Rattle.smithy_schema.specs.Nodes.{Schema, Table, at_place, element_of, member_at, members_of}
 use Rattle.smithy_serde.specs.Values.{Label, Write}
 use Rattle.smithy_serde.specs.Writes.{Resolved, only_if, position_in, resolve, resolved, all_resolved, is_of, first}
@@ -9,6 +9,7 @@ use Rattle.smithy_binding.specs.Outputs.{as_output}
 use Rattle.smithy_binding.specs.declared.direction.Direction.TheVariants as direction
 use Rattle.smithy_binding.proofs.Directions.{at-in, cited-in, member-in, position-in}
 use Rattle.smithy_served.specs.AnswerView.{first_value}
+use Rattle.std.proofs.lemmas.List.Folds.{list_all-map}
 
 -- a write with its member, as a response has it
 abbrev pub out_write : Resolved → Resolved
@@ -51,19 +52,36 @@ all_resolved-out schema (w ∷ ws) =
     go None rest = rest
     go (Some r) rest = ap (λ rs. out_write r ∷ rs) rest
 
-find-out : (i : ℕ) (rs : List Resolved) → find (is_of i) (map out_write rs) ≡ option_map out_write (find (is_of i) rs)
-find-out i [] = refl
-find-out i (r ∷ rs) = go (r.position == i) (find-out i rs)
+-- lists whose elements are changed alike
+
+pub find-map : {X Y : Type 0} (p : Y → Bool) (f : X → Y) (xs : List X) → find p (map f xs) ≡ option_map f (find (λ x. p (f x)) xs)
+find-map p f [] = refl
+find-map p f (x ∷ xs) = go (p (f x)) (find-map p f xs)
   where
-    go : (b : Bool) → find (is_of i) (map out_write rs) ≡ option_map out_write (find (is_of i) rs)
-        → cond b (Some (out_write r)) (find (is_of i) (map out_write rs)) ≡ option_map out_write (cond b (Some r) (find (is_of i) rs))
+    go : (b : Bool) → find p (map f xs) ≡ option_map f (find (λ x. p (f x)) xs) → cond b (Some (f x)) (find p (map f xs)) ≡ option_map f (cond b (Some x) (find (λ x. p (f x)) xs))
     go true rest = refl
     go false rest = rest
+
+pub filter-map : {X Y : Type 0} (p : Y → Bool) (f : X → Y) (xs : List X) → filter p (map f xs) ≡ map f (filter (λ x. p (f x)) xs)
+filter-map p f [] = refl
+filter-map p f (x ∷ xs) = go (p (f x)) (filter-map p f xs)
+  where
+    go : (b : Bool) → filter p (map f xs) ≡ map f (filter (λ x. p (f x)) xs) → cond b (f x ∷ filter p (map f xs)) (filter p (map f xs)) ≡ map f (cond b (x ∷ filter (λ x. p (f x)) xs) (filter (λ x. p (f x)) xs))
+    go true rest = ap (λ ys. f x ∷ ys) rest
+    go false rest = rest
+
+pub filter_map-map : {X Y Z : Type 0} (g : Y → Option Z) (f : X → Y) (xs : List X) → filter_map g (map f xs) ≡ filter_map (λ x. g (f x)) xs
+filter_map-map g f [] = refl
+filter_map-map g f (x ∷ xs) = ap (cons_option (g (f x))) (filter_map-map g f xs)
+
+pub any-map : {X Y : Type 0} (p : Y → Bool) (f : X → Y) (xs : List X) → list_any p (map f xs) ≡ list_any (λ x. p (f x)) xs
+any-map p f [] = refl
+any-map p f (x ∷ xs) = ap (λ b. p (f x) || b) (any-map p f xs)
 
 -- the first write of a member has the same value
 pub first_value-out : (schema : Schema) (ws : List Write) (i : ℕ) → first_value (as_output schema) ws i ≡ first_value schema ws i
 first_value-out schema ws i =
-    ap (λ rs. option_map (λ r. r.value) (find (is_of i) rs)) (all_resolved-out schema ws) ∙ ap (option_map (λ r. r.value)) (find-out i (all_resolved schema ws)) ∙ go (first schema ws i)
+    ap (λ rs. option_map (λ r. r.value) (find (is_of i) rs)) (all_resolved-out schema ws) ∙ ap (option_map (λ r. r.value)) (find-map (is_of i) out_write (all_resolved schema ws)) ∙ go (first schema ws i)
   where
     go : (o : Option Resolved) → option_map (λ r. r.value) (option_map out_write o) ≡ option_map (λ r. r.value) o
     go None = refl
@@ -90,8 +108,4 @@ element-out m = cited-in direction.Response m m.node.element
 
 -- what is asked of each member
 pub all-out : (test : Schema → Bool) (schema : Schema) → list_all test (members_of (as_output schema)) ≡ list_all (λ m. test (as_output m)) (members_of schema)
-all-out test schema = ap (list_all test) (members-out schema) ∙ go (members_of schema)
-  where
-    go : (ms : List Schema) → list_all test (map as_output ms) ≡ list_all (λ m. test (as_output m)) ms
-    go [] = refl
-    go (m ∷ ms) = ap (λ b. test (as_output m) && b) (go ms)
+all-out test schema = ap (list_all test) (members-out schema) ∙ list_all-map test as_output (members_of schema)

@@ -9,15 +9,15 @@ use Rattle.smithy_http.specs.Facts.{values_at}
 use Rattle.smithy_strings.proofs.UnescapeLaws.{same_self}
 use Rattle.smithy_unambiguity.proofs.LastTexts.{last_value}
 use Rattle.smithy_response.specs.PrefixedHeaders.{behind_lower, with_key, with_new}
-use Rattle.smithy_served.proofs.Apart.{starts-self}
-
-drop_front : (a b : List ℕ) → drop (length a) (a ++ b) ≡ b
-drop_front [] b = refl
-drop_front (x ∷ a) b = drop_front a b
+use Rattle.std.proofs.Math.Bool.{or-false, or_assoc}
+use Rattle.std.proofs.Math.Seq.{drop-append_seam}
+use Rattle.std.proofs.lemmas.Bool.{false_from_ne_true, or_right}
+use Rattle.smithy_binding.proofs.DistinctNames.{same_text-sym}
+use Rattle.smithy_unambiguity.proofs.HeaderNames.{starts-self}
 
 -- what stands behind a front
 pub behind_self : (low key : List ℕ) → behind_lower low (low ++ key) ≡ Some key
-behind_self low key = ap (λ t. if t then Some (drop (length low) (low ++ key)) else None) (starts-self low key) ∙ ap Some (drop_front low key)
+behind_self low key = ap (λ t. if t then Some (drop (length low) (low ++ key)) else None) (starts-self low key) ∙ ap Some (drop-append_seam low key)
 
 pub behind_some : (low name key : List ℕ) → behind_lower low name ≡ Some key → name ≡ low ++ key
 behind_some low name key e = go (starts_with nat_eq name low) refl e
@@ -27,16 +27,6 @@ behind_some low name key e = go (starts_with nat_eq name low) refl e
     go true is h =
         let rest : drop (length low) name ≡ key = cc h in
         sym (take-append-drop (length low) name) ∙ ap (λ x. x ++ drop (length low) name) (sym (same_from_test low (take (length low) name) (sym is))) ∙ ap (λ x. low ++ x) rest
-
-no_true : (t : Bool) → (t ≡ true → ⊥) → t ≡ false
-no_true false never = refl
-no_true true never = absurd (never refl)
-
-same_back : (a b : List ℕ) → same_text a b ≡ false → same_text b a ≡ false
-same_back a b e = no_true (same_text b a) (λ h. let q : true ≡ false = sym (same_self a) ∙ ap (same_text a) (sym (same_from_test b a (sym h))) ∙ e in cc q)
-
-pub same_name : (a b : List ℕ) → same_text a b ≡ true → same_text b a ≡ true
-same_name a b e = ap (same_text b) (same_from_test a b (sym e)) ∙ same_self b
 
 -- there is a value
 abbrev pub has_value : List (List ℕ) → Bool
@@ -58,7 +48,7 @@ behind_any low name (p ∷ ps) = by (same_text p.0 (low ++ name)) refl (behind_a
     other None e unlike = refl
     other (Some key) e unlike =
         ap (λ t. t || is_one_of name later)
-        (no_true (same_text name key) (λ h.
+        (false_from_ne_true (same_text name key) (λ h.
         let q : true ≡ false = sym (same_self (low ++ name)) ∙ ap (λ n. same_text n (low ++ name)) (ap (λ x. low ++ x) (same_from_test name key (sym h)) ∙ sym (behind_some low p.0 key e)) ∙ unlike in
         cc q))
 
@@ -70,16 +60,8 @@ behind_any low name (p ∷ ps) = by (same_text p.0 (low ++ name)) refl (behind_a
 
 -- Each text once.
 
-or_assoc : (a b c : Bool) → ((a || b) || c) ≡ (a || (b || c))
-or_assoc true b c = refl
-or_assoc false b c = refl
-
-or_false : (a : Bool) → (a || false) ≡ a
-or_false true = refl
-or_false false = refl
-
 any_more : (key : List ℕ) (known : List (List ℕ)) (text : List ℕ) → is_one_of key (known ++ text ∷ []) ≡ (is_one_of key known || same_text key text)
-any_more key [] text = or_false (same_text key text)
+any_more key [] text = or-false (same_text key text)
 any_more key (k ∷ known) text = ap (λ b. same_text key k || b) (any_more key known text) ∙ sym (or_assoc (same_text key k) (is_one_of key known) (same_text key text))
 
 or_known : (a b : Bool) → (b ≡ true → a ≡ true) → a ≡ (a || b)
@@ -95,15 +77,11 @@ with_key-any key known text = go (is_one_of text known) refl
     go false e = any_more key known text
 
 pub with_new-any : (key : List ℕ) (known texts : List (List ℕ)) → is_one_of key (with_new known texts) ≡ (is_one_of key known || is_one_of key texts)
-with_new-any key known [] = sym (or_false (is_one_of key known))
+with_new-any key known [] = sym (or-false (is_one_of key known))
 with_new-any key known (text ∷ texts) =
     with_new-any key (with_key known text) texts ∙ ap (λ b. b || is_one_of key texts) (with_key-any key known text) ∙ or_assoc (is_one_of key known) (same_text key text) (is_one_of key texts)
 
 -- What is made of each key.
-
-or_right : (a b : Bool) → b ≡ true → (a || b) ≡ true
-or_right true b e = refl
-or_right false b e = e
 
 pub all_of : (P : List ℕ → Type 0) (keys : List (List ℕ)) → ((k : List ℕ) → is_one_of k keys ≡ true → P k) → AllByRecursion P keys
 all_of P [] each = tt
@@ -125,7 +103,7 @@ last_keyed text (k ∷ keys) name = go (same_text k name) refl (last_keyed text 
     go true e rest =
         ap (λ t. last_value (map (λ (q : List ℕ × List ℕ). q.1) (cond t ((k, text k) ∷ filter (λ q. same_text q.0 name) later) (filter (λ q. same_text q.0 name) later)))) e
         ∙ ap (λ o. option_or o (Some (text k))) rest ∙ ap (λ n. option_or (cond (is_one_of name keys) (Some (text name)) None) (Some (text n))) (same_from_test k name (sym e))
-        ∙ last (is_one_of name keys) ∙ sym (ap (λ b. cond (b || is_one_of name keys) (Some (text name)) None) (same_name k name e))
+        ∙ last (is_one_of name keys) ∙ sym (ap (λ b. cond (b || is_one_of name keys) (Some (text name)) None) (same_text-sym name k ∙ e))
     go false e rest =
         ap (λ t. last_value (map (λ (q : List ℕ × List ℕ). q.1) (cond t ((k, text k) ∷ filter (λ q. same_text q.0 name) later) (filter (λ q. same_text q.0 name) later)))) e
-        ∙ rest ∙ sym (ap (λ b. cond (b || is_one_of name keys) (Some (text name)) None) (same_back k name e))
+        ∙ rest ∙ sym (ap (λ b. cond (b || is_one_of name keys) (Some (text name)) None) (same_text-sym name k ∙ e))

@@ -1,7 +1,7 @@
 -- Each bound member of a response is handed out as the normal form has it.
-use Rattle.std.proofs.Common.{◌≡◌, refl, sym, ◌∙◌, ap, subst, cond, ℕ, ◌+◌, ◌≤◌, zero, suc, arith, Bool, true, false, not, ◌&&◌, ◌||◌, List, [], ◌∷◌, filter, length, slice_get, Option, Some, None, option_map, option_and_then, is_some, is_none}
-use Rattle.std.specs.List.{AllByRecursion, list_all, list_any, enumerate_from}
-use Rattle.std.proofs.lemmas.Bool.{and_parts, leb-true}
+use Rattle.std.proofs.Common.{◌≡◌, refl, sym, ◌∙◌, ap, subst, cond, ℕ, ◌+◌, ◌≤◌, arith, Bool, true, false, not, ◌&&◌, ◌||◌, List, [], ◌∷◌, filter, length, slice_get, Option, Some, None, option_map, option_and_then, is_some, is_none}
+use Rattle.std.specs.List.{AllByRecursion, list_all, enumerate_from}
+use Rattle.std.proofs.lemmas.Bool.{and_parts, leb-true, false_from_ne_true, not-false}
 use Rattle.std.proofs.lemmas.List.Sums.{list_all-from_AllPass}
 use Rattle.smithy_http.specs.Responses.{Response}
 use Rattle.smithy_http.specs.declared.non_utf8.NonUtf8HeaderHandling.{NonUtf8HeaderHandling}
@@ -21,20 +21,21 @@ use Rattle.smithy_binding.proofs.CheckedLaws.{prefix_kinds}
 use Rattle.smithy_binding.proofs.CheckedOutputLaws.{IsCheckedOutput-from_test}
 use Rattle.smithy_binding.proofs.WriteSteps.{member-passes}
 use Rattle.smithy_serve.specs.Answer.{response_at}
-use Rattle.smithy_unambiguity.proofs.Lists.{all_placed}
+use Rattle.smithy_unambiguity.proofs.Lists.{all_placed, any_get}
 use Rattle.smithy_response.specs.Handed.{nothing, only_unbound, handed, has_payload, has_unbound, has_no_bytes, body_part}
 use Rattle.smithy_response.specs.Routes.{Source, in_header, in_prefix, in_status, in_payload, in_body, source_at, source_of, route, route_at}
 use Rattle.smithy_served.specs.AnswerView.{answer_view, bound_view, first_value, member_view}
 use Rattle.smithy_served.specs.Laws.{HandsOut, IsAnswered}
-use Rattle.smithy_served.proofs.Apart.{by-position}
 use Rattle.smithy_served.proofs.Conforming.{output_of, response_is}
 use Rattle.smithy_served.proofs.Headers.{IsHeader, header_handed}
 use Rattle.smithy_served.proofs.Join.{joined}
 use Rattle.smithy_served.proofs.MemberHanded.{HandsSame, BoundMembersAreReadBack}
-use Rattle.smithy_served.proofs.Merge.{AreIndexed, made_ordered}
+use Rattle.smithy_served.proofs.Merge.{made_ordered}
 use Rattle.smithy_served.proofs.Payload.{payload_handed}
 use Rattle.smithy_served.proofs.PrefixBack.{IsPrefixMap, prefix_handed}
 use Rattle.smithy_served.proofs.Status.{status_handed}
+use Rattle.smithy_unambiguity.proofs.Positions.{members_by_position}
+use Rattle.smithy_recovery.proofs.Merging.{AreIndexed}
 
 -- what a source says of the traits
 abbrev SourceSays : Option (List ℕ) → Option (List ℕ) → Bool → Bool → Source → Type 0
@@ -133,25 +134,10 @@ module _ (protocol : Protocol) (holds : List ℕ → Option Held) (lawful : IsLa
       left_nothing None = refl
       left_nothing (Some h) = ap (λ b. cond b (only_unbound (contents group.Structure schema h)) nothing) (not_read (not (has_payload schema)) (has_unbound schema) (not (false && has_no_bytes response)) none)
 
-      none_any : (p : Schema → Bool) (ms : List Schema) (j : ℕ) (m : Schema) → list_any p ms ≡ false → slice_get ms j ≡ Some m → p m ≡ false
-      none_any p [] j m e at = absurd (cc at)
-      none_any p (n ∷ ms) zero m e at = let same : n ≡ m = cc at in sym (first (p n) (list_any p ms) e ∙ ap p same)
-        where
-          first : (a b : Bool) → (a || b) ≡ false → false ≡ a
-          first false b h = refl
-          first true b h = absurd (cc h)
-      none_any p (n ∷ ms) (suc j) m e at = none_any p ms j m (later (p n) (list_any p ms) e) at
-        where
-          later : (a b : Bool) → (a || b) ≡ false → b ≡ false
-          later false b h = h
-          later true b h = absurd (cc h)
-
-      is_bound : (m : Schema) → not (is_response_bound m) ≡ false → is_response_bound m ≡ true
-      is_bound m e = go (is_response_bound m) e
-        where
-          go : (b : Bool) → not b ≡ false → b ≡ true
-          go true h = refl
-          go false h = absurd (cc h)
+      bound : (j : ℕ) (m : Schema) → slice_get (members_of schema) j ≡ Some m → is_response_bound m ≡ true
+      bound j m at =
+          not-false (is_response_bound m)
+          (false_from_ne_true (not (is_response_bound m)) (λ e. let q : false ≡ true = sym none ∙ any_get (λ m. not (is_response_bound m)) (members_of schema) j m at e in cc q))
 
       same : AllByRecursion (λ p. HandsSame body (route p.1 response) p.1 (member_view schema ws p.0 p.1)) (enumerate_from 0 (members_of schema))
       same =
@@ -159,4 +145,4 @@ module _ (protocol : Protocol) (holds : List ℕ → Option Held) (lawful : IsLa
           (λ j m at.
           let none_more : 0 + j ≡ j = omega arith in
           subst (λ k. HandsSame body (route m response) m (member_view schema ws k m)) (sym none_more)
-          (bound_members_are_read_back schema ws code response body is j m (sym (by-position schema checked j) ∙ at) (is_bound m (none_any (λ m. not (is_response_bound m)) (members_of schema) j m none at))))
+          (bound_members_are_read_back schema ws code response body is j m (sym (members_by_position schema checked.cited j) ∙ at) (bound j m at)))

@@ -1,106 +1,62 @@
 -- The fields of a response's body are read as the normal form of the members that stand there.
-use Rattle.std.proofs.Common.{◌≡◌, refl, sym, ◌∙◌, ap, subst, ℕ, ◌+◌, zero, suc, arith, nat_le, nat_lt, Bool, true, false, not, cond, ◌||◌, List, [], ◌∷◌, ◌++◌, map, filter, filter_map, flat_map, find, slice_get, Option, Some, None, Result, Ok, Err, option_map, option_and_then, is_some, if◌then◌else◌}
-use Rattle.std.specs.List.{AllByRecursion, cons_option, enumerate_from, list_any}
+use Rattle.std.proofs.Common.{◌≡◌, refl, sym, ◌∙◌, ap, subst, ℕ, ◌+◌, zero, suc, nat_lt, Bool, true, false, not, cond, ◌||◌, List, [], ◌∷◌, ◌++◌, map, filter, filter_map, flat_map, slice_get, Option, Some, None, Result, Ok, Err, option_map, option_and_then, if◌then◌else◌}
+use Rattle.std.specs.List.{AllByRecursion}
 use Rattle.std.specs.Option.{option_map_or}
-use Rattle.std.specs.Result.{result_ok}
-use Rattle.std.proofs.lemmas.Bool.{and_parts, leb-true}
 use Rattle.smithy_types.specs.Documents as doc
-use Rattle.smithy_types.specs.Documents.{Document, nesting, list_of_members}
+use Rattle.smithy_types.specs.Documents.{Document, list_of_members}
 use Rattle.smithy_types.specs.Results.{then_try, then_give}
-use Rattle.smithy_ids.specs.declared.shape_type.ShapeType.{ShapeType}
-use Rattle.smithy_schema.specs.Nodes.{Schema, binding_at, binding_of, is_bound, is_outside_body, is_response_bound, member_at, members_of, position_of_name}
+use Rattle.smithy_schema.specs.Nodes.{Schema, is_bound, is_response_bound, member_at, members_of, position_of_name}
 use Rattle.smithy_schema.specs.WellMade.{is_well_made}
-use Rattle.smithy_serde.specs.DocumentOf.{doc_of, DocumentFault}
 use Rattle.smithy_serde.specs.Held as held
 use Rattle.smithy_serde.specs.Held.{Held}
 use Rattle.smithy_serde.specs.HeldReads.{fields, known}
 use Rattle.smithy_serde.specs.IndexOrder.{in_order, position_of, put_by}
-use Rattle.smithy_serde.specs.Lawful.{IsLawfulText, max_nesting}
+use Rattle.smithy_serde.specs.Lawful.{IsLawfulText}
 use Rattle.smithy_serde.specs.Listings.{Slot, at_member, contents, listing_of}
 use Rattle.smithy_serde.specs.NormalBody.{field_of, last_named}
 use Rattle.smithy_serde.specs.ValueRead.{value_read, value_of_structure, all_read, write_by}
 use Rattle.smithy_serde.specs.Values as value
-use Rattle.smithy_serde.specs.Values.{Value, Write, Writes, label_of, list_of, writes_of}
+use Rattle.smithy_serde.specs.Values.{Value, Write, label_of, list_of, writes_of}
 use Rattle.smithy_serde.specs.Writes.{Resolved, all_resolved, unbound}
 use Rattle.smithy_serde.specs.declared.error.SerdeError.{SerdeError}
 use Rattle.smithy_serde.specs.declared.scalar.Group.TheVariants as group
-use Rattle.smithy_binding.specs.Bodies.{is_payload, payload_kind, has_unbound_member, is_raw_kind, is_codec_kind, form_at, form_in, body_parts, body, text_of_document, bytes_by, document_value}
+use Rattle.smithy_binding.specs.Bodies.{form_in, body_parts, body, text_of_document, bytes_by}
 use Rattle.smithy_binding.specs.declared.body_form.BodyForm.TheVariants as form
-use Rattle.smithy_binding.specs.Checked.{has_at_most_one, is_sound_payload}
-use Rattle.smithy_binding.specs.CheckedOutput.{IsCheckedOutput, response_payload_kind, has_response_body_member}
+use Rattle.smithy_binding.specs.CheckedOutput.{IsCheckedOutput}
 use Rattle.smithy_binding.specs.Outputs.{as_output}
 use Rattle.smithy_binding.specs.Placing.{Protocol}
-use Rattle.smithy_binding.specs.Typed.{is_shallow}
-use Rattle.smithy_document.proofs.ShapedDocuments.{has_document}
 use Rattle.smithy_document.proofs.ShapedReads.{reads_normal_structure}
-use Rattle.smithy_unambiguity.proofs.BodyObject.{body_node, body_node_stands}
-use Rattle.smithy_unambiguity.proofs.Lists.{all_made, all_placed}
+use Rattle.smithy_unambiguity.proofs.BodyObject.{IsBodied, are_bodied, body_node, body_node_stands, bodied_writes, body_field, body_fields, body_follows, free_view, fields_placed, unless_bound}
+use Rattle.smithy_unambiguity.proofs.Lists.{all_made, by_positions}
 use Rattle.smithy_unambiguity.proofs.Members.{member_in_place}
-use Rattle.smithy_unambiguity.proofs.PayloadTold.{HasOwnText, own_bytes, body_bytes, document_value_is, payload_of}
+use Rattle.smithy_unambiguity.proofs.PayloadTold.{HasOwnText, own_bytes, body_bytes, document_value_is, own_text}
 use Rattle.smithy_response.specs.Handed.{has_unbound, is_unbound, only_unbound}
 use Rattle.smithy_served.specs.AnswerView.{member_view}
 use Rattle.smithy_served.specs.Laws.{AreReadAs}
 use Rattle.smithy_served.specs.TypedOutputs.{IsTypedOutput}
-use Rattle.smithy_served.proofs.Alike.{all_resolved-out, members-out, out_write}
-use Rattle.smithy_served.proofs.Apart.{by-position}
-use Rattle.smithy_served.proofs.BodyMembers.{IsBodied, bodied_writes, body_field, body_fields, body_follows, free_view, typed_bodied}
+use Rattle.smithy_served.proofs.Alike.{all_resolved-out, out_write, filter-map}
+use Rattle.smithy_served.proofs.Messages.{bound_out, has_unbound_out, names_out, sound_output}
 use Rattle.smithy_served.proofs.Headers.{same_self}
 use Rattle.smithy_served.proofs.Join.{IsHanded}
 use Rattle.smithy_served.proofs.Merge.{free_part, made_from}
 use Rattle.smithy_unambiguity.proofs.Sound.{sound}
+use Rattle.smithy_unambiguity.proofs.Conforming.{resolved_at}
+use Rattle.smithy_unambiguity.proofs.Positions.{members_by_position}
+use Rattle.std.proofs.lemmas.Simd.{map-map}
+use Rattle.smithy_unambiguity.proofs.UnboundTold.{unbound_form}
+use Rattle.smithy_recovery.proofs.Joining.{list_of-writes_of}
 
 -- The writes to unbound members are those of the schema as a response has it.
-
-bound_out : (m : Schema) → is_bound (as_output m) ≡ is_response_bound m
-bound_out m = let t = m.node.traits in go t.http_header t.http_prefix_headers t.http_response_code t.http_payload
-  where
-    go : (header prefix : Option (List ℕ)) (code payload : Bool) → is_outside_body (binding_at header prefix None false code payload) ≡ (is_some header || is_some prefix || code || payload)
-    go (Some n) prefix code payload = refl
-    go None (Some p) code payload = refl
-    go None None true payload = refl
-    go None None false true = refl
-    go None None false false = refl
 
 abbrev own_write : Resolved → Write
 own_write r = record { label = label_of r.member; value = r.value }
 
-free_same : (rs : List Resolved) → map own_write (filter (λ r. not (is_bound r.member)) (map out_write rs)) ≡ map own_write (filter (λ r. not (is_response_bound r.member)) rs)
-free_same [] = refl
-free_same (r ∷ rs) = by (is_bound (as_output r.member)) (is_response_bound r.member) (bound_out r.member) (free_same rs)
-  where
-    by : (a b : Bool) → a ≡ b → map own_write (filter (λ r. not (is_bound r.member)) (map out_write rs)) ≡ map own_write (filter (λ r. not (is_response_bound r.member)) rs)
-        → map own_write (cond (not a) (out_write r ∷ filter (λ r. not (is_bound r.member)) (map out_write rs)) (filter (λ r. not (is_bound r.member)) (map out_write rs)))
-        ≡ map own_write (cond (not b) (r ∷ filter (λ r. not (is_response_bound r.member)) rs) (filter (λ r. not (is_response_bound r.member)) rs))
-    by true true e rest = rest
-    by false false e rest = ap (λ ws. own_write r ∷ ws) rest
-    by true false e rest = absurd (cc e)
-    by false true e rest = absurd (cc e)
-
-unbound_out : (schema : Schema) (ws : List Write) → writes_of (unbound (as_output schema) ws) ≡ bodied_writes (all_resolved schema ws)
-unbound_out schema ws = ap (λ rs. writes_of (map own_write (filter (λ (r : Resolved). not (is_bound r.member)) rs))) (all_resolved-out schema ws) ∙ ap writes_of (free_same (all_resolved schema ws))
-
--- The form of the body.
-
-any_out : (ms : List Schema) → list_any (λ m. not (is_bound m)) (map as_output ms) ≡ list_any (λ m. not (is_response_bound m)) ms
-any_out [] = refl
-any_out (m ∷ ms) = λ i. not (bound_out m i) || any_out ms i
-
-find_none : (p q : Schema → Bool) (f : Schema → Schema) (ms : List Schema) → ((m : Schema) → q (f m) ≡ true → p m ≡ true) → find p ms ≡ None → find q (map f ms) ≡ None
-find_none p q f [] implies e = refl
-find_none p q f (m ∷ ms) implies e = go (p m) refl (q (f m)) refl e (find_none p q f ms implies)
-  where
-    go : (a : Bool) → p m ≡ a → (b : Bool) → q (f m) ≡ b → cond a (Some m) (find p ms) ≡ None → (find p ms ≡ None → find q (map f ms) ≡ None) → cond b (Some (f m)) (find q (map f ms)) ≡ None
-    go true ea b eb h rest = absurd (cc h)
-    go false ea true eb h rest = absurd (let z : false ≡ true = sym ea ∙ implies m eb in cc z)
-    go false ea false eb h rest = rest h
-
-no_kind : (o : Option Schema) → option_map (λ (m : Schema). m.node.kind) o ≡ None → o ≡ None
-no_kind None e = refl
-no_kind (Some m) e = absurd (cc e)
-
-list_of-writes_of : (ws : List Write) → list_of (writes_of ws) ≡ ws
-list_of-writes_of [] = refl
-list_of-writes_of (w ∷ ws) = ap (λ us. w ∷ us) (list_of-writes_of ws)
+unbound_out : (schema : Schema) (ws : List Write) → writes_of (unbound (as_output schema) ws) ≡ bodied_writes is_response_bound (all_resolved schema ws)
+unbound_out schema ws =
+    ap (λ rs. writes_of (map own_write (filter (λ (r : Resolved). not (is_bound r.member)) rs))) (all_resolved-out schema ws)
+    ∙ ap (λ rs. writes_of (map own_write rs)) (filter-map (λ r. not (is_bound r.member)) out_write (all_resolved schema ws))
+    ∙ ap writes_of (map-map own_write out_write (filter (λ (r : Resolved). not (is_bound (as_output r.member))) (all_resolved schema ws)))
+    ∙ (λ i. writes_of (map own_write (filter (λ (r : Resolved). not (bound_out r.member i)) (all_resolved schema ws))))
 
 abbrev inside : Value → List Write
 inside (value.structure ws) = list_of ws
@@ -226,11 +182,7 @@ kept_all : (xs : List (Schema × Held)) → AllByRecursion (λ x. is_response_bo
 kept_all [] all = refl
 kept_all (x ∷ xs) all = ap (λ b. cond (not b) (item_of x ∷ filter (λ i. is_unbound i.0) (map item_of xs)) (filter (λ i. is_unbound i.0) (map item_of xs))) all.0 ∙ ap (λ is. item_of x ∷ is) (kept_all xs all.1)
 
--- What a list makes by positions.
-by_positions : (f : Schema → Option Write) (g : ℕ → Schema → Option Write) (k : ℕ) (ms : List Schema) → AllByRecursion (λ p. f p.1 ≡ g p.0 p.1) (enumerate_from k ms) → filter_map f ms ≡ filter_map (λ p. g p.0 p.1) (enumerate_from k ms)
-by_positions f g k [] all = refl
-by_positions f g k (m ∷ ms) all = λ i. cons_option (all.0 i) (by_positions f g (k + 1) ms all.1 i)
-
+-- What holds at each place.
 all_at : (Q : Schema → Type 0) (ms : List Schema) → ((j : ℕ) (m : Schema) → slice_get ms j ≡ Some m → Q m) → AllByRecursion Q ms
 all_at Q [] has = tt
 all_at Q (m ∷ ms) has = (has zero m refl, all_at Q ms (λ j n at. has (suc j) n at))
@@ -245,41 +197,19 @@ module _ (protocol : Protocol) (schema : Schema) (ws : List Write) (checked : Is
   abbrev pub node : Schema
   node = body_node schema
 
-  pub bodied : AllByRecursion (IsBodied schema) rs
-  bodied = typed_bodied protocol schema ws typed
+  pub bodied : AllByRecursion (IsBodied is_response_bound schema) rs
+  bodied = are_bodied is_response_bound schema rs (resolved_at schema ws) typed.unbound_shaped
 
-  pub no_payload : find (λ m. m.node.traits.http_payload) (members_of schema) ≡ None
-  no_payload =
-      no_kind (find (λ m. m.node.traits.http_payload) (members_of schema))
-      (go (response_payload_kind schema)
-      (ap (is_sound_payload (response_payload_kind schema)) (sym some) ∙ (and_parts (has_at_most_one (λ t. t.http_payload) schema) (is_sound_payload (response_payload_kind schema) (has_response_body_member schema)) checked.payload).1))
-    where
-      go : (o : Option ShapeType) → is_sound_payload o true ≡ true → o ≡ None
-      go None e = refl
-      go (Some k) e = let q = (and_parts (is_raw_kind k || is_codec_kind k) false e).1 in absurd (cc q)
-
-  pub form_is : form_in out ≡ form.Unbound
-  form_is = λ i. form_at (none i) (any i)
-    where
-      none : payload_kind out ≡ None
-      none =
-          ap (λ ms. option_map (λ (m : Schema). m.node.kind) (find (λ m. is_payload (binding_of m)) ms)) (members-out schema)
-          ∙ ap (option_map (λ (m : Schema). m.node.kind)) (find_none (λ m. m.node.traits.http_payload) (λ m. is_payload (binding_of m)) as_output (members_of schema) (λ m e. payload_of (as_output m) e) no_payload)
-
-      any : has_unbound_member out ≡ true
-      any = ap (list_any (λ m. not (is_bound m))) (members-out schema) ∙ any_out (members_of schema) ∙ some
+  pub form_is : form_in (as_output schema) ≡ form.Unbound
+  form_is = unbound_form out (sound_output schema checked) (has_unbound_out schema ∙ some)
 
   abbrev pub body_value : Value
-  body_value = value.structure (bodied_writes rs)
+  body_value = value.structure (bodied_writes is_response_bound rs)
 
   pub own : HasOwnText node body_value
   own =
-      let shaped = body_follows schema checked well_made rs bodied in
-      let d = has_document node body_value shaped in
-      let there : document_value out ws ≡ Some body_value = document_value_is out ws form.Unbound form_is ∙ ap (λ us. Some (value.structure us)) (unbound_out schema ws) in
-      let low : nat_le (nesting d.0) max_nesting ≡ true =
-      ap (λ (r : Result Document DocumentFault). is_shallow (result_ok r)) (sym d.1) ∙ ap (λ (o : Option Value). is_shallow (option_and_then doc_of o)) (sym there) ∙ typed.shallow in
-      record { shaped = shaped; doc = d.0; has = d.1; sound = sound node body_value d.0 (body_node_stands schema well_made) shaped d.1; shallow = leb-true (nesting d.0) max_nesting low }
+      own_text out ws node body_value typed.shallow (body_node_stands schema well_made) (document_value_is out ws form.Unbound form_is ∙ ap (λ us. Some (value.structure us)) (unbound_out schema ws))
+      (body_follows is_response_bound schema (names_out schema checked) well_made rs bodied)
 
   bytes_are : (body protocol.text_of out ws).bytes ≡ protocol.text_of own.doc
   bytes_are =
@@ -288,29 +218,23 @@ module _ (protocol : Protocol) (schema : Schema) (ws : List Write) (checked : Is
 
   -- what the members that stand in the body have
   abbrev pub ordered : List Write
-  ordered = filter_map (field_of (body_fields schema rs)) (members_of schema)
+  ordered = filter_map (field_of (body_fields is_response_bound schema rs)) (members_of schema)
 
   pub read : AreFieldsRead schema own.doc ordered
-  read = fields_read schema own.doc ordered (reads_normal_structure node (bodied_writes rs) own.doc (body_node_stands schema well_made) own.shaped own.has)
-
-  field_is : (i : ℕ) (m : Schema) → member_at schema i ≡ Some m → field_of (body_fields schema rs) m ≡ option_map (write_by m) (free_view i m rs)
-  field_is i m at =
-      let member = member_in_place schema i m well_made at in
-      ap (λ o. option_map (write_by m) (option_and_then (λ name. last_named name (body_fields schema rs)) o)) member.name
-      ∙ ap (option_map (write_by m)) (body_field schema checked well_made i m member.own_name at member.name rs bodied)
+  read = fields_read schema own.doc ordered (reads_normal_structure node (bodied_writes is_response_bound rs) own.doc (body_node_stands schema well_made) own.shaped own.has)
 
   ordered_free : AllByRecursion (IsFree schema) ordered
   ordered_free =
-      all_made (IsFree schema) write_by (λ m. option_and_then (λ name. last_named name (body_fields schema rs)) m.node.member_name) (members_of schema)
-      (all_at (λ m. (v : Value) → option_and_then (λ name. last_named name (body_fields schema rs)) m.node.member_name ≡ Some v → IsFree schema (write_by m v)) (members_of schema)
+      all_made (IsFree schema) write_by (λ m. option_and_then (λ name. last_named name (body_fields is_response_bound schema rs)) m.node.member_name) (members_of schema)
+      (all_at (λ m. (v : Value) → option_and_then (λ name. last_named name (body_fields is_response_bound schema rs)) m.node.member_name ≡ Some v → IsFree schema (write_by m v)) (members_of schema)
       (λ j m at_j v e p n index at.
-      let at_m : member_at schema j ≡ Some m = sym (by-position schema checked j) ∙ at_j in
+      let at_m : member_at schema j ≡ Some m = sym (members_by_position schema checked.cited j) ∙ at_j in
       let member = member_in_place schema j m well_made at_m in
       let both : Some j ≡ Some p = sym member.index ∙ index in
       let place : j ≡ p = cc both in
       let nodes : Some m ≡ Some n = sym at_m ∙ ap (member_at schema) place ∙ at in
       let same : m ≡ n = cc nodes in
-      let has : free_view j m rs ≡ Some v = sym (body_field schema checked well_made j m member.own_name at_m member.name rs bodied) ∙ sym (ap (option_and_then (λ name. last_named name (body_fields schema rs))) member.name) ∙ e in
+      let has : free_view is_response_bound j m rs ≡ Some v = sym (body_field is_response_bound schema (names_out schema checked) well_made j m member.own_name at_m member.name rs bodied) ∙ sym (ap (option_and_then (λ name. last_named name (body_fields is_response_bound schema rs))) member.name) ∙ e in
       sym (ap is_response_bound same) ∙ unbound_by (is_response_bound m) _ has))
     where
       unbound_by : (b : Bool) (o : Option Value) {v : Value} → (if b then None else o) ≡ Some v → b ≡ false
@@ -334,13 +258,9 @@ module _ (protocol : Protocol) (schema : Schema) (ws : List Write) (checked : Is
   pub fields_ordered : in_order read.writes ≡ made_from (free_part (member_view schema ws)) 0 (members_of schema)
   fields_ordered =
       read.in_index
-      ∙ by_positions (field_of (body_fields schema rs)) (λ i m. option_map (write_by m) (free_part (member_view schema ws) i m)) 0 (members_of schema)
-      (all_placed (λ p. field_of (body_fields schema rs) p.1 ≡ option_map (write_by p.1) (free_part (member_view schema ws) p.0 p.1)) 0 (members_of schema)
-      (λ j m at_j.
-      let none_more : 0 + j ≡ j = omega arith in
-      let at : member_at schema (0 + j) ≡ Some m = ap (member_at schema) none_more ∙ sym (by-position schema checked j) ∙ at_j in
-      field_is (0 + j) m at ∙ ap (option_map (write_by m)) (same_view (0 + j) m (is_response_bound m) refl)))
+      ∙ by_positions (field_of (body_fields is_response_bound schema rs)) (λ p. option_map (write_by p.1) (free_view is_response_bound p.0 p.1 rs)) 0 (members_of schema)
+      (fields_placed is_response_bound schema (names_out schema checked) well_made rs bodied)
+      ∙ (λ i. made_from (λ j m. same j m i) 0 (members_of schema))
     where
-      same_view : (i : ℕ) (m : Schema) (b : Bool) → is_response_bound m ≡ b → free_view i m rs ≡ free_part (member_view schema ws) i m
-      same_view i m true e = rw e refl
-      same_view i m false e = rw e refl
+      same : (j : ℕ) (m : Schema) → free_view is_response_bound j m rs ≡ free_part (member_view schema ws) j m
+      same j m = unless_bound (is_response_bound m) _ _

@@ -1,10 +1,9 @@
 -- The response of a typed output hands out the normal form.
-use Rattle.std.proofs.Common.{◌≡◌, ◌≢◌, refl, sym, ◌∙◌, ap, subst, cond, ℕ, ◌+◌, arith, Bool, true, false, not, ◌&&◌, ◌||◌, List, [], ◌∷◌, ◌++◌, find, slice_get, zero, suc, Option, Some, None, option_map, option_and_then, is_some, if◌then◌else◌}
+use Rattle.std.proofs.Common.{◌≡◌, ◌≢◌, refl, sym, ◌∙◌, ap, subst, cond, ℕ, ◌+◌, arith, Bool, true, false, not, ◌&&◌, ◌||◌, List, [], ◌∷◌, ◌++◌, find, Option, Some, None, option_map, option_and_then, if◌then◌else◌}
 use Rattle.std.specs.List.{AllByRecursion, cons_option, enumerate_from, list_any}
 use Rattle.smithy_http.specs.Responses.{Response}
 use Rattle.smithy_http.specs.declared.non_utf8.NonUtf8HeaderHandling.{NonUtf8HeaderHandling}
 use Rattle.smithy_schema.specs.Nodes.{Schema, is_response_bound, member_at, members_of}
-use Rattle.smithy_schema.specs.WellMade.{is_well_made}
 use Rattle.smithy_serde.specs.Held as held
 use Rattle.smithy_serde.specs.Held.{Held}
 use Rattle.smithy_serde.specs.Lawful.{IsLawfulText}
@@ -12,25 +11,28 @@ use Rattle.smithy_serde.specs.Listings.{contents}
 use Rattle.smithy_serde.specs.ValueRead.{write_by}
 use Rattle.smithy_serde.specs.Values.{Value, Write}
 use Rattle.smithy_serde.specs.declared.scalar.Group.TheVariants as group
-use Rattle.smithy_binding.specs.Bodies.{body}
-use Rattle.smithy_binding.specs.CheckedOutput.{IsCheckedOutput}
+use Rattle.smithy_binding.specs.Bodies.{body, is_codec_kind, is_raw_kind}
+use Rattle.smithy_binding.specs.CheckedOutput.{IsCheckedOutput, has_response_body_member, response_payload_kind}
 use Rattle.smithy_binding.specs.Outputs.{as_output}
 use Rattle.smithy_binding.specs.Placing.{Protocol}
 use Rattle.smithy_binding.proofs.CheckedOutputLaws.{IsCheckedOutput-from_test}
-use Rattle.smithy_unambiguity.proofs.Lists.{all_placed}
-use Rattle.smithy_unambiguity.proofs.Members.{member_in_place}
+use Rattle.smithy_unambiguity.proofs.Lists.{all_placed, all_get}
 use Rattle.smithy_response.specs.Handed.{Ended, nothing, handed, has_payload, has_unbound, only_unbound, body_part, routed}
 use Rattle.smithy_response.specs.Routes.{Source, in_header, in_prefix, in_status, in_payload, in_body, passed_over, handed_body, source_at, source_of, route, route_at}
 use Rattle.smithy_response.proofs.TransportLaw.{transport_is_heard}
 use Rattle.smithy_served.specs.AnswerView.{answer_view, member_view}
 use Rattle.smithy_served.specs.Laws.{HandsOut, IsAnswered, OutputsAreReadBack, AreReadBackBeside, with_body}
-use Rattle.smithy_served.proofs.Apart.{by-position}
 use Rattle.smithy_served.proofs.BoundBack.{all_bound, bound_members_are_read_back}
 use Rattle.smithy_served.proofs.Conforming.{response_is}
-use Rattle.smithy_served.proofs.FieldsBack.{fields_handed, fields_ordered, no_payload, read}
+use Rattle.smithy_served.proofs.FieldsBack.{fields_handed, fields_ordered, read}
 use Rattle.smithy_served.proofs.Join.{HasNoPayload, IsHanded, body_is_payload, step}
 use Rattle.smithy_served.proofs.MemberHanded.{HandsSame}
-use Rattle.smithy_served.proofs.Merge.{AreIndexed, bound_part, made_from, merged}
+use Rattle.smithy_served.proofs.Merge.{bound_part, made_from, merged}
+use Rattle.smithy_unambiguity.proofs.Positions.{members_by_position}
+use Rattle.smithy_recovery.proofs.Joining.{indexed}
+use Rattle.smithy_response.proofs.Turns.{source_unbound}
+use Rattle.std.proofs.lemmas.Bool.{and_parts}
+use Rattle.smithy_binding.specs.Checked.{has_at_most_one, is_sound_payload}
 
 -- What stands in a response before what its body has.
 
@@ -61,21 +63,19 @@ none_any : (ms : List Schema) → AllByRecursion HasNoPayload ms → list_any (�
 none_any [] all = refl
 none_any (m ∷ ms) all = ap (λ b. b || list_any (λ m. m.node.traits.http_payload) ms) all.0 ∙ none_any ms all.1
 
-no_payload_at : (ms : List Schema) (j : ℕ) (m : Schema) → AllByRecursion HasNoPayload ms → slice_get ms j ≡ Some m → HasNoPayload m
-no_payload_at [] j m all at = absurd (cc at)
-no_payload_at (n ∷ ms) zero m all at = let same : n ≡ m = cc at in subst HasNoPayload same all.0
-no_payload_at (n ∷ ms) (suc j) m all at = no_payload_at ms j m all.1 at
+-- since one stands in the body
+no_payload : (schema : Schema) → IsCheckedOutput schema → has_unbound schema ≡ true → AllByRecursion HasNoPayload (members_of schema)
+no_payload schema checked some =
+    none_found (members_of schema)
+    (by (find (λ m. m.node.traits.http_payload) (members_of schema)) (ap (is_sound_payload (response_payload_kind schema)) (sym some) ∙ (and_parts (has_at_most_one (λ t. t.http_payload) schema) (is_sound_payload (response_payload_kind schema) (has_response_body_member schema)) checked.payload).1))
+  where
+    by : (o : Option Schema) → is_sound_payload (option_map (λ m. m.node.kind) o) true ≡ true → o ≡ None
+    by None e = refl
+    by (Some m) e = let q = (and_parts (is_raw_kind m.node.kind || is_codec_kind m.node.kind) false e).1 in absurd (cc q)
 
 -- a member of the body has no route
-free_source : (header prefix : Option (List ℕ)) (code payload : Bool) → (is_some header || is_some prefix || code || payload) ≡ false → source_at header prefix code payload ≡ in_body
-free_source (Some n) prefix code payload e = absurd (cc e)
-free_source None (Some p) code payload e = absurd (cc e)
-free_source None None true payload e = absurd (cc e)
-free_source None None false true e = absurd (cc e)
-free_source None None false false e = refl
-
 free_route : (m : Schema) (response : Response) → is_response_bound m ≡ false → route m response ≡ passed_over
-free_route m response e = let t = m.node.traits in ap (λ s. route_at s m response) (free_source t.http_header t.http_prefix_headers t.http_response_code t.http_payload e)
+free_route m response e = let t = m.node.traits in ap (λ s. route_at s m response) (source_unbound t.http_header t.http_prefix_headers t.http_response_code t.http_payload e)
 
 -- another body changes no route but a payload's
 source_no_payload : (header prefix : Option (List ℕ)) (code payload : Bool) → payload ≡ false → source_at header prefix code payload ≢ in_payload
@@ -99,13 +99,6 @@ is_read : (a b c : Bool) → a ≡ false → b ≡ true → c ≡ false → (not
 is_read a b c e f g = λ i. not (e i) && f i && not (g i)
 
 module _ (protocol : Protocol) (holds : List ℕ → Option Held) (lawful : IsLawfulText protocol.text_of holds) where
-  indexed : (schema : Schema) → IsCheckedOutput schema → is_well_made schema ≡ true → AreIndexed 0 (members_of schema)
-  indexed schema checked well_made =
-      all_placed (λ p. p.1.node.member_index ≡ Some p.0) 0 (members_of schema)
-      (λ j m at.
-      let none_more : 0 + j ≡ j = omega arith in
-      (member_in_place schema (0 + j) m well_made (ap (member_at schema) none_more ∙ sym (by-position schema checked j) ∙ at)).index)
-
   -- with unbound members, over the response or one with another body
   beside : (schema : Schema) (ws : List Write) (code : ℕ) (response other : Response) (body : Held) (policy : NonUtf8HeaderHandling) → IsAnswered protocol holds schema ws code response body → has_unbound schema ≡ true
       → ((m : Schema) → HasNoPayload m → route m other ≡ route m response) → HandsOut (handed schema other body false policy) (answer_view schema ws)
@@ -115,14 +108,14 @@ module _ (protocol : Protocol) (holds : List ℕ → Option Held) (lawful : IsLa
         without_refusal = x.without_refusal;
         writes = made_from (bound_part (member_view schema ws)) 0 (members_of schema) ++ (read protocol schema ws checked is.well_made is.typed some).writes;
         members = x.members;
-        each_once = merged (member_view schema ws) (members_of schema) (read protocol schema ws checked is.well_made is.typed some).writes (indexed schema checked is.well_made) (fields_ordered protocol schema ws checked is.well_made is.typed some);
+        each_once = merged (member_view schema ws) (members_of schema) (read protocol schema ws checked is.well_made is.typed some).writes (indexed schema checked.cited is.well_made) (fields_ordered protocol schema ws checked is.well_made is.typed some);
       }
     where
       checked : IsCheckedOutput schema
       checked = IsCheckedOutput-from_test schema is.checked
 
       none : AllByRecursion HasNoPayload (members_of schema)
-      none = none_found (members_of schema) (no_payload protocol schema ws checked is.well_made is.typed some)
+      none = no_payload schema checked some
 
       holding : holds (body protocol.text_of (as_output schema) ws).bytes ≡ Some held
       holding = ap (λ (o : Option (List ℕ)). option_and_then holds o) (sym (ap (λ (r : Response). r.body) (response_is protocol schema ws code response is.typed.conforming is.answered))) ∙ is.body_held
@@ -145,7 +138,7 @@ module _ (protocol : Protocol) (holds : List ℕ → Option Held) (lawful : IsLa
           all_placed (λ p. HandsSame held (route p.1 other) p.1 (bound_part (member_view schema ws) p.0 p.1)) 0 (members_of schema)
           (λ j m at.
           let none_more : 0 + j ≡ j = omega arith in
-          part (0 + j) m (ap (member_at schema) none_more ∙ sym (by-position schema checked j) ∙ at) (no_payload_at (members_of schema) j m none at))
+          part (0 + j) m (ap (member_at schema) none_more ∙ sym (members_by_position schema checked.cited j) ∙ at) (all_get HasNoPayload (members_of schema) j m none at))
 
       x : IsHanded (routed other (body_part schema other false) (Some held) (members_of schema)) (made_from (bound_part (member_view schema ws)) 0 (members_of schema) ++ (read protocol schema ws checked is.well_made is.typed some).writes)
       x = before other held held (body_part schema other false) (read protocol schema ws checked is.well_made is.typed some).writes (bound_part (member_view schema ws)) end 0 (members_of schema) all none
@@ -155,7 +148,7 @@ module _ (protocol : Protocol) (holds : List ℕ → Option Held) (lawful : IsLa
     where
       go : (b : Bool) → has_unbound schema ≡ b → HandsOut (handed schema response body false policy) (answer_view schema ws)
       go true e = beside schema ws code response response body policy is e (λ m none. refl)
-      go false e = all_bound protocol holds lawful schema (indexed schema (IsCheckedOutput-from_test schema is.checked) is.well_made) ws code response body policy is e
+      go false e = all_bound protocol holds lawful schema (indexed schema (IsCheckedOutput-from_test schema is.checked).cited is.well_made) ws code response body policy is e
 
   pub outputs_are_read_back_beside : AreReadBackBeside protocol holds
   outputs_are_read_back_beside schema ws code response policy d other bytes is some alike =
@@ -166,7 +159,7 @@ module _ (protocol : Protocol) (holds : List ℕ → Option Held) (lawful : IsLa
       checked = IsCheckedOutput-from_test schema is.checked
 
       none : has_payload schema ≡ false
-      none = none_any (members_of schema) (none_found (members_of schema) (no_payload protocol schema ws checked is.well_made is.typed some))
+      none = none_any (members_of schema) (no_payload schema checked some)
 
       same : handed schema (with_body bytes response) (held.document other) false policy ≡ handed schema (with_body bytes response) (held.document d) false policy
       same =

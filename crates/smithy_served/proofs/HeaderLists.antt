@@ -1,10 +1,7 @@
 -- A header is read as the list that its text was written of.
 use Rattle.std.proofs.Common.{◌≡◌, ◌≢◌, refl, sym, ◌∙◌, ap, subst, ℕ, ℤ, Bool, true, false, not, cond, ◌&&◌, ◌||◌, List, [], ◌∷◌, map, Option, Some, None, Result, Ok, option_map, is_some, is_none, unwrap_or}
-use Rattle.std.specs.List.{AllByRecursion}
 use Rattle.std.specs.Option.{option_map_or}
-use Rattle.std.specs.Str.{IsUtf8, is_utf8}
 use Rattle.std.proofs.lemmas.Bool.{and_parts}
-use Rattle.std.proofs.lemmas.Str.{IsUtf8-from_is_utf8}
 use Rattle.smithy_types.specs.Results.{each, then_try, then_give}
 use Rattle.smithy_types.specs.declared.date_time.Format.TheVariants.{HttpDate}
 use Rattle.smithy_ids.specs.declared.shape_type.ShapeType.{ShapeType}
@@ -37,7 +34,7 @@ use Rattle.smithy_strings.proofs.TimeLists.{times_are_read}
 use Rattle.smithy_binding.specs.Checked.{is_element_plain, same_format}
 use Rattle.smithy_binding.specs.views.StoredTexts.{element_text}
 use Rattle.smithy_unambiguity.proofs.Fits.{is_flat, taken}
-use Rattle.smithy_unambiguity.proofs.HeaderTexts.{items_utf8, time_items}
+use Rattle.smithy_unambiguity.proofs.HeaderTexts.{items_utf8, time_items, all_utf8}
 use Rattle.smithy_unambiguity.proofs.Values.{AreItems, HaveFormat, is_flat_value, flat_value, each_first, one_format_or_none}
 use Rattle.smithy_recovery.proofs.TextsBack.{values_in, own_elements}
 use Rattle.smithy_served.proofs.Scalars.{IsHeaderText, spelled, item_read, read_flat}
@@ -103,10 +100,6 @@ times_read e [] is = refl
 times_read e (z ∷ zs) is = λ i. then_try (time_item e z is i) (λ y. then_give (times_read e zs is i) (λ ys. y ∷ ys))
 
 -- The list.
-
-all_utf8 : (ts : List (List ℕ)) → AllByRecursion (λ t. is_utf8 t ≡ true) ts → AllByRecursion IsUtf8 ts
-all_utf8 [] all = tt
-all_utf8 (t ∷ ts) all = (IsUtf8-from_is_utf8 t all.0, all_utf8 ts all.1)
 
 -- the times of a list have its element's format
 one_header_format : (m e : Schema) → m.node.kind ≡ kind.List → element_of m ≡ Some e → is_element_plain m ≡ true → (is_some e.node.traits.media_type ≡ false) × (header_format m ≡ header_format e)

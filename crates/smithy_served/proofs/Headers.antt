@@ -4,27 +4,27 @@ use Rattle.std.specs.List.{list_all}
 use Rattle.std.specs.Option.{option_map_or}
 use Rattle.std.specs.Str.{str_to_ascii_lowercase}
 use Rattle.std.proofs.lemmas.Bool.{and_parts}
-use Rattle.smithy_types.specs.Results.{each, first_of_all, unless}
+use Rattle.smithy_types.specs.Results.{each}
 use Rattle.smithy_ids.specs.declared.shape_type.ShapeType.{ShapeType}
 use Rattle.smithy_ids.specs.declared.shape_type.ShapeType.TheVariants as kind
 use Rattle.smithy_ids.specs.Kinds.{same_kind}
-use Rattle.smithy_schema.specs.Nodes.{Schema, binding_at, binding_of, to_header, element_of, member_at, is_bound, is_outside_body}
-use Rattle.smithy_serde.specs.Fits.{fits, is_null, scalar_kind}
+use Rattle.smithy_schema.specs.Nodes.{Schema, binding_at, binding_of, to_header, element_of, member_at}
+use Rattle.smithy_serde.specs.Fits.{fits, scalar_kind}
 use Rattle.smithy_serde.specs.Held as held
 use Rattle.smithy_serde.specs.Held.{Held}
 use Rattle.smithy_serde.specs.NormalBody.{settled_elements}
 use Rattle.smithy_serde.specs.Ranges.{is_in_range}
 use Rattle.smithy_serde.specs.ValueRead.{value_read}
 use Rattle.smithy_serde.specs.Values as value
-use Rattle.smithy_serde.specs.Values.{Scalar, Value, Write, Writes, list_of, text_of_key}
+use Rattle.smithy_serde.specs.Values.{Scalar, Value, Write, list_of, text_of_key}
 use Rattle.smithy_strings.specs.Lists.{listed}
 use Rattle.smithy_strings.specs.Wire.{scalar_wire}
 use Rattle.smithy_strings.specs.declared.wire.Place.TheVariants.{Header}
-use Rattle.smithy_binding.specs.Bindings.{headers, inserted_at, texts, kind_or_none, place_at}
+use Rattle.smithy_binding.specs.Bindings.{headers, texts, kind_or_none, place_at}
 use Rattle.smithy_binding.specs.Bodies.{body}
 use Rattle.smithy_binding.specs.Checked.{has_element, is_element_plain, is_header_kind, same_format}
 use Rattle.smithy_binding.specs.CheckedOutput.{IsCheckedOutput}
-use Rattle.smithy_binding.specs.Faults.{Fault, bound_fault, value_fault, item_fault, key_fault, year_fault, pairs_fault, no_year, is_placed_at}
+use Rattle.smithy_binding.specs.Faults.{is_placed_at}
 use Rattle.smithy_binding.specs.Messages.{message_headers}
 use Rattle.smithy_binding.specs.NormalForm.{with_own_elements}
 use Rattle.smithy_binding.specs.Outputs.{as_output, keep_defaults}
@@ -32,15 +32,13 @@ use Rattle.smithy_binding.specs.Placing.{Protocol}
 use Rattle.smithy_binding.specs.Typed.{element_format, has_distinct_keys, has_own_formats, writes_default}
 use Rattle.smithy_binding.specs.views.StoredTexts.{member_text, element_text}
 use Rattle.smithy_binding.proofs.WriteSteps.{member-passes}
-use Rattle.smithy_unambiguity.proofs.ByMember.{at_member}
-use Rattle.smithy_unambiguity.proofs.Conforming.{conforming_bound, no_first}
 use Rattle.smithy_unambiguity.proofs.Defaults.{all_headers_at}
 use Rattle.smithy_unambiguity.proofs.Fits.{is_flat, taken}
 use Rattle.smithy_unambiguity.proofs.Headers.{headers_of_member}
 use Rattle.smithy_unambiguity.proofs.HeadersTold.{one_header_value}
 use Rattle.smithy_unambiguity.proofs.LastTexts.{last_value}
 use Rattle.smithy_unambiguity.proofs.MemberTexts.{IsListOf, list_of_element, bound_list, list_form, listed_of, one_header}
-use Rattle.smithy_unambiguity.proofs.Placed.{IsPlacedValue, bound_fits, first_fitting, first_found, first_has}
+use Rattle.smithy_unambiguity.proofs.Placed.{IsPlacedValue, first_has, placed_of}
 use Rattle.smithy_unambiguity.proofs.Values.{is_flat_value, flat_value, flat_own}
 use Rattle.smithy_response.specs.PrefixedHeaders.{values_named}
 use Rattle.smithy_response.specs.Routes.{header_route, in_header, source_at, source_of, is_plain_text, has_nothing, passed_over, handed_out}
@@ -48,11 +46,12 @@ use Rattle.smithy_served.specs.AnswerView.{first_value, header_values, header_vi
 use Rattle.smithy_served.specs.Laws.{IsSame}
 use Rattle.smithy_served.specs.TypedOutputs.{IsTypedOutput, is_trimmed, is_typed_at, is_typed_header}
 use Rattle.smithy_served.proofs.Alike.{first_value-out, member_at-out, element-out}
-use Rattle.smithy_served.proofs.Apart.{headers_apart-out}
-use Rattle.smithy_served.proofs.Conforming.{no_write_fault}
 use Rattle.smithy_served.proofs.HeaderLists.{scalar_form, list_back}
 use Rattle.smithy_served.proofs.MemberHanded.{HandsSame}
 use Rattle.smithy_served.proofs.Scalars.{scalar_back, flat_header_read}
+use Rattle.smithy_unambiguity.proofs.HeaderNames.{headers_apart}
+use Rattle.smithy_served.proofs.Messages.{sound_output}
+use Rattle.smithy_served.proofs.Conforming.{fitting_out, unfaulted_out}
 
 -- A member with this header.
 pub record IsHeader (m : Schema) (name : List ℕ) : Type 0 where
@@ -74,7 +73,7 @@ header_values_are protocol schema ws i m name checked typed at is =
     all_headers_at protocol (body protocol.text_of out ws) keep_defaults (headers out ws) (str_to_ascii_lowercase name)
     (ap (writes_default (body protocol.text_of out ws) keep_defaults (headers out ws)) (sym header)
     ∙ member-passes (λ m. writes_default (body protocol.text_of out ws) keep_defaults (headers out ws) (binding_of m)) out i (as_output m) typed.defaults at_out)
-    ∙ headers_of_member out ws i (as_output m) name (headers_apart-out schema checked) at_out header
+    ∙ headers_of_member out ws i (as_output m) name (headers_apart (as_output schema) (sound_output schema checked)) at_out header
     ∙ ap (λ o. option_to_list (last_value (option_map_or (header_values (as_output m)) o []))) (first_value-out schema ws i)
   where
     out : Schema
@@ -208,39 +207,12 @@ typed_header protocol schema ws i m name u typed is at e =
     and_parts (not (is_plain_text m) || is_trimmed (text_of_key u)) (has_own_formats m u)
     (ap (λ s. is_typed_at s m u) (sym (own_source m name is)) ∙ first_has (λ r. IsTrue (is_typed_header r)) schema ws i m u at e typed.header_values)
 
-pub there : (m : Schema) (o : Option (List (List ℕ))) → is_some o ≡ true → (ts : List (List ℕ)) × (o ≡ Some ts)
-there m None e = absurd (cc e)
-there m (Some ts) e = (ts, refl)
-
-pub unfaulted : (b : Bool) (f : Fault) → unless b f ≡ None → b ≡ true
-unfaulted true f e = refl
-unfaulted false f e = absurd (cc e)
-
 placed_out : (protocol : Protocol) (schema : Schema) (ws : List Write) (i : ℕ) (m : Schema) (name : List ℕ) (u : Value) → IsTypedOutput protocol schema ws → IsHeader m name → member_at schema i ≡ Some m → first_value schema ws i ≡ Some u
     → IsPlacedValue (as_output m) u
 placed_out protocol schema ws i m name u typed is at e =
-    let out = as_output schema in
-    let member = as_output m in
-    let conforming = no_write_fault schema ws typed.conforming in
-    let header = out_binding m name is.trait in
-    let at_out = member_at-out schema i m at in
-    let e_out : first_value out ws i ≡ Some u = first_value-out schema ws i ∙ e in
-    let fitting = first_fitting out ws i member u conforming typed.in_range at_out e_out in
-    let fit = bound_fits (fits m.node.kind u) (is_null u) (is_bound member) (ap is_outside_body header) fitting.fits in
-    let fault : bound_fault (at_member i member u) ≡ None = conforming_bound out ws conforming i (at_member i member u) (first_found out ws i member u at_out e_out) (ap is_placed_at header) in
-    let a = no_first (value_fault member u) (pairs_fault member (inserted_at (binding_of member) member u)) fault in
-    let b = no_first (item_fault member u) (first_of_all (key_fault member u ∷ year_fault member u ∷ [])) a.0 in
-    let c = no_first (key_fault member u) (first_of_all (year_fault member u ∷ [])) b.1 in
-    let d = no_first (year_fault member u) None c.1 in
-    let x = there member (texts member u) (unfaulted (is_some (texts member u)) no_year d.0) in
-    record {
-      value = record { fits = fit; in_range = fitting.in_range; items = b.0; formats = formats_own m u ∙ (typed_header protocol schema ws i m name u typed is.trait at e).1 };
-      keys = header_keys m u is.kinds fit;
-      paired = c.0;
-      ts = x.0;
-      texts = x.1;
-      headers = a.1;
-    }
+    let placed = ap is_placed_at (out_binding m name is.trait) in
+    placed_of i (as_output m) u (fitting_out protocol schema ws i m u typed at e) placed (unfaulted_out protocol schema ws i m u typed at e placed).0 (header_keys m u is.kinds)
+    (formats_own m u ∙ (typed_header protocol schema ws i m name u typed is.trait at e).1)
 
 -- The member is handed out as the normal form has it.
 

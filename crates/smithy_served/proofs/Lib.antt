@@ -1,5 +1,5 @@
 pub mod Alike
-pub mod Apart
+pub mod Messages
 pub mod Plain
 pub mod Scalars
 pub mod HeaderLists
@@ -9,11 +9,9 @@ pub mod Headers
 pub mod Status
 pub mod Behind
 pub mod PrefixBack
-pub mod Singles
 pub mod Payload
 pub mod Join
 pub mod Merge
-pub mod BodyMembers
 pub mod FieldsBack
 pub mod BoundBack
 pub mod FullBack

@@ -1,6 +1,5 @@
 -- The fields of typed outputs as tests: an output that passes all of them is typed.
 use Rattle.std.proofs.Common.{◌≡◌, refl, ℕ, codes, Bool, true, false, not, ◌||◌, List, [], ◌∷◌, Option, Some, None, is_none, is_some, option_and_then}
-use Rattle.std.proofs.lemmas.Bool.{and_parts}
 use Rattle.std.specs.Bool.{IsTrue}
 use Rattle.std.specs.List.{list_all, AllByRecursion}
 use Rattle.smithy_schema.specs.Nodes.{Schema}
@@ -16,6 +15,7 @@ use Rattle.smithy_binding.specs.ResponseCodes.{code_write}
 use Rattle.smithy_binding.specs.Typed.{is_shaped_write, is_shallow}
 use Rattle.smithy_serve.specs.Answer.{answer_fault}
 use Rattle.smithy_served.specs.TypedOutputs.{IsTypedOutput, bodied, is_shaped_payload, is_typed_header, has_code, writes_defaults, begins_no_default}
+use Rattle.smithy_unambiguity.proofs.Lists.{all_from_test}
 
 -- the tests under the names of their fields
 abbrev tests : Protocol → Schema → List Write → List (List ℕ × Bool)
@@ -46,10 +46,6 @@ passed [] e = tt
 passed ((name, true) ∷ ts) e = (refl, passed ts e)
 passed ((name, false) ∷ ts) e = absurd (cc e)
 
-each : {X : Type 0} (test : X → Bool) (xs : List X) → list_all test xs ≡ true → AllByRecursion (λ x. IsTrue (test x)) xs
-each test [] e = tt
-each test (x ∷ xs) e = let p = and_parts (test x) (list_all test xs) e in (p.0, each test xs p.1)
-
 none : {X : Type 0} (o : Option X) → is_none o ≡ true → o ≡ None
 none None e = refl
 none (Some x) e = absurd (cc e)
@@ -60,10 +56,10 @@ typed_if_nothing_fails protocol schema ws e =
     record {
       in_range = t.0;
       conforming = none _ t.1.0;
-      unbound_shaped = each is_shaped_write _ t.1.1.0;
-      payload_shaped = each is_shaped_payload _ t.1.1.1.0;
+      unbound_shaped = all_from_test is_shaped_write _ t.1.1.0;
+      payload_shaped = all_from_test is_shaped_payload _ t.1.1.1.0;
       shallow = t.1.1.1.1.0;
-      header_values = each is_typed_header _ t.1.1.1.1.1.0;
+      header_values = all_from_test is_typed_header _ t.1.1.1.1.1.0;
       code = t.1.1.1.1.1.1.0;
       defaults = t.1.1.1.1.1.1.1.0;
       prefixed = t.1.1.1.1.1.1.1.1.0;

@@ -1,55 +1,44 @@
 -- The body of a response is read as the payload that was written.
-use Rattle.std.proofs.Common.{◌≡◌, ◌≢◌, refl, sym, ◌∙◌, ap, subst, ℕ, zero, suc, ◌≤◌, ◌⊎◌, inl, inr, nat_le, Bool, true, false, not, ◌&&◌, ◌||◌, ◌==◌, List, [], ◌∷◌, filter, length, map, slice_get, Option, Some, None, Result, Ok, option_map, option_and_then, unwrap_or, eq-eqb, IsTrue, if◌then◌else◌}
+use Rattle.std.proofs.Common.{◌≡◌, ◌≢◌, refl, sym, ◌∙◌, ap, subst, ℕ, ◌≤◌, ◌⊎◌, inl, inr, Bool, true, false, not, ◌&&◌, ◌||◌, ◌==◌, List, [], ◌∷◌, Option, Some, None, Ok, option_map, option_and_then, unwrap_or, IsTrue, if◌then◌else◌}
 use Rattle.std.specs.Str.{is_utf8}
-use Rattle.std.specs.Result.{result_ok}
-use Rattle.std.proofs.lemmas.Bool.{and_parts, eqb-true, leb-true}
 use Rattle.std.proofs.lemmas.Str.{IsUtf8-from_is_utf8, utf8_lossy-IsUtf8}
-use Rattle.smithy_types.specs.Documents.{Document, nesting}
+use Rattle.smithy_types.specs.Documents.{Document}
 use Rattle.smithy_ids.specs.declared.shape_type.ShapeType.{ShapeType}
 use Rattle.smithy_ids.specs.declared.shape_type.ShapeType.TheVariants as kind
-use Rattle.smithy_schema.specs.Nodes.{Schema, binding_at, binding_of, to_payload, is_bound, is_outside_body, member_at, members_of}
+use Rattle.smithy_schema.specs.Nodes.{Schema, binding_at, binding_of, to_payload, is_bound, is_outside_body, member_at}
 use Rattle.smithy_schema.specs.WellMade.{is_well_made}
-use Rattle.smithy_serde.specs.DocumentOf.{doc_of, DocumentFault}
 use Rattle.smithy_serde.specs.Fits.{fits, is_null}
 use Rattle.smithy_serde.specs.Held as held
 use Rattle.smithy_serde.specs.Held.{Held}
 use Rattle.smithy_serde.specs.HeldReads.{read_scalar}
-use Rattle.smithy_serde.specs.Lawful.{IsLawfulText, max_nesting}
+use Rattle.smithy_serde.specs.Lawful.{IsLawfulText}
 use Rattle.smithy_serde.specs.NormalBody.{settled}
 use Rattle.smithy_serde.specs.Ranges.{is_in_range}
 use Rattle.smithy_serde.specs.Shaped.{is_shaped}
 use Rattle.smithy_serde.specs.ValueRead.{value_read, value_within, value_by_kind}
 use Rattle.smithy_serde.specs.Values as value
 use Rattle.smithy_serde.specs.Values.{Value, Write}
-use Rattle.smithy_serde.specs.Writes.{Resolved, all_resolved, firsts, is_of}
-use Rattle.smithy_binding.specs.Bodies.{is_payload, has_unbound_member, is_raw_kind, is_codec_kind, form_at, form_in, body_parts, body, raw_bytes, text_of_document, bytes_by, document_value}
+use Rattle.smithy_binding.specs.Bodies.{has_unbound_member, is_codec_kind, form_at, form_in, body_parts, body, raw_bytes, text_of_document, bytes_by}
 use Rattle.smithy_binding.specs.declared.body_form.BodyForm.TheVariants as form
-use Rattle.smithy_binding.specs.Checked.{has_at_most_one, is_sound_payload}
-use Rattle.smithy_binding.specs.CheckedOutput.{IsCheckedOutput, response_payload_kind, has_response_body_member}
+use Rattle.smithy_binding.specs.CheckedOutput.{IsCheckedOutput}
 use Rattle.smithy_binding.specs.NormalForm.{unless_empty}
 use Rattle.smithy_binding.specs.Outputs.{as_output}
 use Rattle.smithy_binding.specs.Placing.{Protocol}
-use Rattle.smithy_binding.specs.Typed.{is_shallow}
 use Rattle.smithy_document.proofs.NamedPairs.{text_form}
-use Rattle.smithy_document.proofs.ShapedDocuments.{has_document}
 use Rattle.smithy_document.proofs.ShapedReads.{reads_normal_form}
-use Rattle.smithy_unambiguity.proofs.Common.{both_ways}
-use Rattle.smithy_unambiguity.proofs.Conforming.{resolved_at}
-use Rattle.smithy_unambiguity.proofs.Firsts.{all_firsts, first_finds}
-use Rattle.smithy_unambiguity.proofs.Lists.{all_apply}
 use Rattle.smithy_unambiguity.proofs.Members.{member_in_place}
-use Rattle.smithy_unambiguity.proofs.PayloadTold.{HasOwnText, own_bytes, blob_form, data_kind, codec_form, body_bytes, document_value_is, payload_of}
-use Rattle.smithy_unambiguity.proofs.Placed.{bound_fits, first_fitting, first_has}
-use Rattle.smithy_served.proofs.Singles.{single, find_same, find_alone}
+use Rattle.smithy_unambiguity.proofs.PayloadTold.{HasOwnText, own_bytes, blob_form, data_kind, codec_form, body_bytes, document_value_is, own_text, payload_form, payload_is_data, payload_value}
+use Rattle.smithy_unambiguity.proofs.Placed.{bound_fits, first_has}
 use Rattle.smithy_unambiguity.proofs.Sound.{sound}
 use Rattle.smithy_response.specs.Routes.{handed_out, handed_body, passed_over, is_raw, body_route, payload_route}
 use Rattle.smithy_served.specs.AnswerView.{first_value, payload_view}
 use Rattle.smithy_served.specs.TypedOutputs.{IsTypedOutput, is_codec_payload, is_shaped_payload}
-use Rattle.smithy_served.proofs.Alike.{first_value-out, member_at-out, members-out}
-use Rattle.smithy_served.proofs.Apart.{at-position, out_member}
-use Rattle.smithy_served.proofs.Conforming.{no_write_fault}
+use Rattle.smithy_served.proofs.Alike.{first_value-out, member_at-out}
+use Rattle.smithy_served.proofs.Messages.{sound_output}
+use Rattle.smithy_served.proofs.Conforming.{fitting_out}
 use Rattle.smithy_served.proofs.Headers.{same_self}
 use Rattle.smithy_served.proofs.MemberHanded.{HandsSame}
+use Rattle.smithy_unambiguity.proofs.Positions.{IsSoundMessage}
 
 -- The payload member of a response.
 pub record IsPayload (m : Schema) : Type 0 where
@@ -60,15 +49,6 @@ pub record IsPayload (m : Schema) : Type 0 where
 
 out_payload : (m : Schema) → IsPayload m → binding_of (as_output m) ≡ to_payload
 out_payload m is = λ j. binding_at (is.no_header j) (is.no_prefix j) None false (is.no_code j) (is.payload j)
-
-get_mapped : {X Y : Type 0} (f : X → Y) (xs : List X) (i : ℕ) → slice_get (map f xs) i ≡ option_map f (slice_get xs i)
-get_mapped f [] i = refl
-get_mapped f (x ∷ xs) zero = refl
-get_mapped f (x ∷ xs) (suc i) = get_mapped f xs i
-
-some_mapped : {X Y : Type 0} (f : X → Y) (o : Option X) (y : Y) → option_map f o ≡ Some y → (x : X) × (o ≡ Some x) × (f x ≡ y)
-some_mapped f None y e = absurd (cc e)
-some_mapped f (Some x) y e = (x, refl, cc e)
 
 -- The bytes of raw payloads.
 
@@ -116,79 +96,34 @@ module _ (protocol : Protocol) (schema : Schema) (ws : List Write) (i : ℕ) (m 
   at_out : member_at (as_output schema) i ≡ Some (as_output m)
   at_out = member_at-out schema i m at
 
-  sound_payload : is_sound_payload (response_payload_kind schema) (has_response_body_member schema) ≡ true
-  sound_payload = (and_parts (has_at_most_one (λ t. t.http_payload) schema) (is_sound_payload (response_payload_kind schema) (has_response_body_member schema)) checked.payload).1
+  message : IsSoundMessage (as_output schema)
+  message = sound_output schema checked
 
-  one : length (filter (λ m. m.node.traits.http_payload) (members_of schema)) ≤ 1
-  one =
-      leb-true (length (filter (λ m. m.node.traits.http_payload) (members_of schema))) 1
-      (and_parts (has_at_most_one (λ t. t.http_payload) schema) (is_sound_payload (response_payload_kind schema) (has_response_body_member schema)) checked.payload).0
-
-  only : (j : ℕ) (n : Schema) → slice_get (members_of schema) j ≡ Some n → n.node.traits.http_payload ≡ true → j ≡ i
-  only j n at_n payload = single (λ m. m.node.traits.http_payload) (members_of schema) one j i n m at_n (at-position schema checked i m at) payload is.payload
+  bound : binding_of (as_output m) ≡ to_payload
+  bound = out_payload m is
 
   -- the first write of the payload is the member's
   first_payload : (body_parts out ws).payload ≡ first_value schema ws i
-  first_payload =
-      ap (option_map (λ (r : Resolved). r.value))
-      (find_same (λ (r : Resolved). is_payload (binding_of r.member)) (is_of i) (firsts out ws)
-      (all_firsts (λ r. is_payload (binding_of r.member) ≡ is_of i r) (all_resolved out ws) (all_apply (λ r. member_at out r.position ≡ Some r.member) (λ r. is_payload (binding_of r.member) ≡ is_of i r) (all_resolved out ws) same_test (resolved_at out ws)))
-      ∙ first_finds i (all_resolved out ws))
-      ∙ first_value-out schema ws i
-    where
-      same_test : (r : Resolved) → member_at out r.position ≡ Some r.member → is_payload (binding_of r.member) ≡ is_of i r
-      same_test r at_r =
-          both_ways (is_payload (binding_of r.member)) (r.position == i)
-          (λ paid.
-          let x = out_member schema r.position r.member at_r in
-          eq-eqb r.position i (only r.position x.own (at-position schema checked r.position x.own x.at) (ap (λ (s : Schema). s.node.traits.http_payload) x.is ∙ payload_of r.member paid)))
-          (λ e.
-          let members : Some r.member ≡ Some (as_output m) = sym at_r ∙ ap (member_at out) (eqb-true r.position i e) ∙ at_out in
-          let same : r.member ≡ as_output m = cc members in
-          ap (λ n. is_payload (binding_of n)) same ∙ ap is_payload (out_payload m is))
+  first_payload = payload_value out message ws i (as_output m) at_out bound ∙ first_value-out schema ws i
 
   -- the form of the body is the payload's
   form_is : form_in out ≡ form_at (Some m.node.kind) (has_unbound_member out)
-  form_is =
-      ap (λ o. form_at (option_map (λ (n : Schema). n.node.kind) o) (has_unbound_member out))
-      (find_alone (λ n. is_payload (binding_of n)) (members_of out) i (as_output m)
-      (ap (λ ms. slice_get ms i) (members-out schema) ∙ get_mapped as_output (members_of schema) i ∙ ap (option_map as_output) (at-position schema checked i m at))
-      (ap is_payload (out_payload m is))
-      (λ j n at_n paid.
-      let x = some_mapped as_output (slice_get (members_of schema) j) n (sym (get_mapped as_output (members_of schema) j) ∙ ap (λ ms. slice_get ms j) (sym (members-out schema)) ∙ at_n) in
-      only j x.0 x.1 (ap (λ (s : Schema). s.node.traits.http_payload) x.2 ∙ payload_of n paid)))
-
-  -- it has bytes or a document
-  is_data : (is_raw_kind m.node.kind || is_codec_kind m.node.kind) ≡ true
-  is_data =
-      (and_parts (is_raw_kind m.node.kind || is_codec_kind m.node.kind) (not (has_response_body_member schema))
-      (ap (λ o. is_sound_payload (option_map (λ (n : Schema). n.node.kind) o) (has_response_body_member schema))
-      (sym (find_alone (λ n. n.node.traits.http_payload) (members_of schema) i m (at-position schema checked i m at) is.payload only)) ∙ sound_payload)).0
+  form_is = payload_form out message i (as_output m) at_out bound
 
   bytes_are : (body protocol.text_of out ws).bytes ≡ bytes_by (form_in out) protocol.text_of (body_parts out ws)
   bytes_are = body_bytes protocol.text_of out ws
 
   fitting : (k : ShapeType) → m.node.kind ≡ k → (u : Value) → first_value schema ws i ≡ Some u → (fits k u ≡ true) × (is_in_range u ≡ true)
   fitting k of_kind u e =
-      let f = first_fitting out ws i (as_output m) u (no_write_fault schema ws typed.conforming) typed.in_range at_out (first_value-out schema ws i ∙ e) in
-      (ap (λ k. fits k u) (sym of_kind) ∙ bound_fits (fits m.node.kind u) (is_null u) (is_bound (as_output m)) (ap is_outside_body (out_payload m is)) f.fits, f.in_range)
+      let f = fitting_out protocol schema ws i m u typed at e in
+      (ap (λ k. fits k u) (sym of_kind) ∙ bound_fits (fits m.node.kind u) (is_null u) (is_bound (as_output m)) (ap is_outside_body bound) f.fits, f.in_range)
 
   -- the value that the codec writes
-  own_text : (u : Value) → is_well_made schema ≡ true → is_codec_kind m.node.kind ≡ true → form_in out ≡ form.Payload → first_value schema ws i ≡ Some u → HasOwnText m u
-  own_text u well_made codec formed e =
+  codec_text : (u : Value) → is_well_made schema ≡ true → is_codec_kind m.node.kind ≡ true → form_in out ≡ form.Payload → first_value schema ws i ≡ Some u → HasOwnText m u
+  codec_text u well_made codec formed e =
       let tested : (not (is_codec_payload m) || is_shaped (Some m) u) ≡ true = first_has (λ r. IsTrue (is_shaped_payload r)) schema ws i m u at e typed.payload_shaped in
-      let shaped : is_shaped (Some m) u ≡ true = ap (λ b. not b || is_shaped (Some m) u) (λ j. sym is.payload j && sym codec j) ∙ tested in
-      let d = has_document m u shaped in
-      let there : document_value out ws ≡ Some u = document_value_is out ws form.Payload formed ∙ first_payload ∙ e in
-      let low : nat_le (nesting d.0) max_nesting ≡ true =
-      ap (λ (r : Result Document DocumentFault). is_shallow (result_ok r)) (sym d.1) ∙ ap (λ (o : Option Value). is_shallow (option_and_then doc_of o)) (sym there) ∙ typed.shallow in
-      record {
-        shaped = shaped;
-        doc = d.0;
-        has = d.1;
-        sound = sound m u d.0 (member_in_place schema i m well_made at).stands shaped d.1;
-        shallow = leb-true (nesting d.0) max_nesting low;
-      }
+      own_text out ws m u typed.shallow (member_in_place schema i m well_made at).stands (document_value_is out ws form.Payload formed ∙ first_payload ∙ e)
+      (ap (λ b. not b || is_shaped (Some m) u) (λ j. sym is.payload j && sym codec j) ∙ tested)
 
   -- the body's bytes
   abbrev bytes : List ℕ
@@ -241,7 +176,7 @@ module _ (protocol : Protocol) (schema : Schema) (ws : List Write) (i : ℕ) (m 
       go : (o : Option Value) → first_value schema ws i ≡ o → HandsSame h (body_route m bytes) m (option_and_then (λ u. Some (settled (Some m) u)) o)
       go None e = subst (λ b. HandsSame h (body_route m b) m None) (sym (written ∙ ap (text_of_document protocol.text_of) e)) refl
       go (Some u) e =
-          let own = own_text u well_made codec formed e in
+          let own = codec_text u well_made codec formed e in
           let text : bytes ≡ protocol.text_of own.doc = written ∙ ap (text_of_document protocol.text_of) e ∙ own_bytes protocol.text_of m u own in
           let both : Some (held.document own.doc) ≡ Some h = sym (lawful.reads_back own.doc own.sound own.shallow) ∙ ap holds (sym text) ∙ holding in
           let same : held.document own.doc ≡ h = cc both in
@@ -252,7 +187,7 @@ module _ (protocol : Protocol) (schema : Schema) (ws : List Write) (i : ℕ) (m 
       → given ≡ Some (body protocol.text_of (as_output schema) ws).bytes → HandsSame h (payload_route m given) m (option_and_then (payload_view m) (first_value schema ws i))
   payload_handed holds h given lawful well_made holding same =
       subst (λ o. HandsSame h (payload_route m o) m (option_and_then (payload_view m) (first_value schema ws i))) (sym same)
-      (streamed m.node.traits.streaming refl (buffered (data_kind m.node.kind is_data)))
+      (streamed m.node.traits.streaming refl (buffered (data_kind m.node.kind (payload_is_data out message i (as_output m) at_out bound))))
     where
       buffered : (m.node.kind ≡ kind.Blob) ⊎ ((m.node.kind ≡ kind.String) ⊎ (is_codec_kind m.node.kind ≡ true)) → HandsSame h (body_route m bytes) m (option_and_then buffered_view (first_value schema ws i))
       buffered (inl e) = blob_back h e

@@ -25,13 +25,13 @@ is_bare b = nat_lt b 128 && (not (is_delimiter b) && not (is_whitespace b))
 abbrev pub are_bare : List ℕ → Bool
 are_bare text = list_all is_bare text
 
+pub neither : (a b : Bool) → (not a && not b) ≡ true → (a ≡ false) × (b ≡ false)
+neither false false h = (refl, refl)
+neither true b h = absurd (cc h)
+neither false true h = absurd (cc h)
+
 no_mark : (b : ℕ) → is_bare b ≡ true → (is_delimiter b ≡ false) × (is_whitespace b ≡ false)
-no_mark b e = go (is_delimiter b) (is_whitespace b) (and_parts (nat_lt b 128) (not (is_delimiter b) && not (is_whitespace b)) e).1
-  where
-    go : (d w : Bool) → (not d && not w) ≡ true → (d ≡ false) × (w ≡ false)
-    go false false h = (refl, refl)
-    go true w h = absurd (cc h)
-    go false true h = absurd (cc h)
+no_mark b e = neither (is_delimiter b) (is_whitespace b) (and_parts (nat_lt b 128) (not (is_delimiter b) && not (is_whitespace b)) e).1
 
 pub bare_low : (text : List ℕ) → are_bare text ≡ true → are_low text ≡ true
 bare_low [] e = refl

@@ -1,11 +1,11 @@
 -- What a response has behind a prefix is read as the map that was written.
-use Rattle.std.proofs.Common.{◌≡◌, ◌≢◌, refl, sym, ◌∙◌, ap, subst, ℕ, nat_eq, Bool, true, false, not, cond, ◌&&◌, ◌||◌, List, [], ◌∷◌, ◌++◌, map, filter, filter_map, Option, Some, None, Result, Ok, option_to_list, unwrap_or, is_some, is_none, IsTrue}
+use Rattle.std.proofs.Common.{◌≡◌, ◌≢◌, refl, sym, ◌∙◌, ap, subst, ℕ, nat_eq, Bool, true, false, not, cond, ◌&&◌, ◌||◌, List, [], ◌∷◌, ◌++◌, map, filter_map, Option, Some, None, Result, Ok, option_to_list, unwrap_or, is_some, is_none, IsTrue}
 use Rattle.std.specs.List.{AllByRecursion, list_all, list_any, starts_with}
 use Rattle.std.specs.Option.{ok_or, option_map_or, option_or}
 use Rattle.std.specs.Str.{is_utf8, str_to_ascii_lowercase}
 use Rattle.std.specs.Cmp.Lexicographic.{same_text as same_from_test}
-use Rattle.std.proofs.lemmas.Bool.{and_parts}
-use Rattle.std.proofs.lemmas.List.{map-append, append_cancel_left}
+use Rattle.std.proofs.lemmas.Bool.{and_parts, or_right}
+use Rattle.std.proofs.lemmas.List.{map-append}
 use Rattle.smithy_types.specs.Maps.{all_put}
 use Rattle.smithy_types.specs.Results.{then_try, then_give, first_of_all}
 use Rattle.smithy_types.specs.Texts.{same_text, is_one_of}
@@ -15,7 +15,7 @@ use Rattle.smithy_ids.proofs.KindLemmas.{one_kind}
 use Rattle.smithy_http.specs.Facts.{values_at}
 use Rattle.smithy_http.specs.HeaderValues.{one_text_of}
 use Rattle.smithy_http.proofs.ValueLemmas.{lower_twice}
-use Rattle.smithy_schema.specs.Nodes.{Schema, Binding, binding_at, binding_of, to_header, to_prefix, is_bound, is_outside_body, key_of, value_of, member_at, members_of}
+use Rattle.smithy_schema.specs.Nodes.{Schema, binding_at, binding_of, to_prefix, is_bound, is_outside_body, key_of, value_of, member_at, members_of}
 use Rattle.smithy_serde.specs.Fits.{fits, is_null}
 use Rattle.smithy_serde.specs.HeaderReads.{one_token, decoded_text, or_parse_refusal, no_value}
 use Rattle.smithy_serde.specs.Held as held
@@ -26,14 +26,12 @@ use Rattle.smithy_serde.specs.Ranges.{is_in_range}
 use Rattle.smithy_serde.specs.ValueRead.{value_read, value_within, value_by_kind, map_by, all_read, entry_by, joined}
 use Rattle.smithy_serde.specs.Values as value
 use Rattle.smithy_serde.specs.Values.{Label, Scalar, Value, Write, Writes, text_of_key, writes_of}
-use Rattle.smithy_serde.specs.Writes.{Resolved}
 use Rattle.smithy_serde.specs.declared.error.SerdeError.{SerdeError}
-use Rattle.smithy_strings.proofs.UnescapeLaws.{same_self}
 use Rattle.smithy_binding.specs.Bindings.{entries_of, headers, inserted_at, map_entries}
 use Rattle.smithy_binding.specs.Bodies.{body}
 use Rattle.smithy_binding.specs.Checked.{is_plain_string, is_text_map, prefixes}
 use Rattle.smithy_binding.specs.CheckedOutput.{IsCheckedOutput}
-use Rattle.smithy_binding.specs.Faults.{bound_fault, value_fault, item_fault, key_fault, year_fault, pairs_fault, is_placed_at}
+use Rattle.smithy_binding.specs.Faults.{value_fault, item_fault, key_fault, year_fault, pairs_fault, is_placed_at}
 use Rattle.smithy_binding.specs.Messages.{message_headers}
 use Rattle.smithy_binding.specs.NormalForm.{in_lower_case, own_entries}
 use Rattle.smithy_binding.specs.Outputs.{as_output, keep_defaults}
@@ -42,28 +40,28 @@ use Rattle.smithy_binding.specs.Typed.{default_names, has_distinct_keys}
 use Rattle.smithy_binding.specs.declared.direction.Direction.TheVariants as direction
 use Rattle.smithy_binding.proofs.Directions.{map_fault-in}
 use Rattle.smithy_document.proofs.OrderedPairs.{look_ordered, last_ascending}
-use Rattle.smithy_unambiguity.proofs.ByMember.{at_member, none_given}
-use Rattle.smithy_unambiguity.proofs.Conforming.{conforming_bound, no_first}
+use Rattle.smithy_unambiguity.proofs.Conforming.{no_first}
 use Rattle.smithy_unambiguity.proofs.Defaults.{all_headers_at, leaves-elsewhere}
 use Rattle.smithy_unambiguity.proofs.EntriesTold.{as_text, in_order, last_of-texts, lower_entries, ordered_told, own_text_entries}
-use Rattle.smithy_unambiguity.proofs.Headers.{headers_at, given, nothing_inserted, named_header, headers_of_prefix, map_pairs}
-use Rattle.smithy_unambiguity.proofs.LastTexts.{last_value, last_at, lowered}
+use Rattle.smithy_unambiguity.proofs.Headers.{given, map_pairs}
+use Rattle.smithy_unambiguity.proofs.LastTexts.{last_value, last_at, lowered, values_all}
 use Rattle.smithy_unambiguity.proofs.Lists.{all_from_test}
-use Rattle.smithy_unambiguity.proofs.MapsTold.{written_pairs, last_of_entries, not_lower}
+use Rattle.smithy_unambiguity.proofs.MapsTold.{written_pairs, not_lower, headers_behind}
 use Rattle.smithy_unambiguity.proofs.PairLemmas.{valued, ordered_ascends}
-use Rattle.smithy_unambiguity.proofs.Placed.{bound_fits, first_fitting, first_found, first_has}
-use Rattle.smithy_unambiguity.proofs.Positions.{at_name}
+use Rattle.smithy_unambiguity.proofs.Placed.{bound_fits, first_has}
+use Rattle.smithy_unambiguity.proofs.Positions.{at_name, members_by_position}
 use Rattle.smithy_unambiguity.proofs.TextsBytes.{IsEntryInRange, map_in_range, text_utf8}
 use Rattle.smithy_response.specs.PrefixedHeaders.{values_named, behind_lower, keys_behind_lower, entry_of, prefixed_in}
 use Rattle.smithy_response.specs.Routes.{in_prefix, source_at, source_of, handed_out}
 use Rattle.smithy_served.specs.AnswerView.{first_value, prefix_view}
 use Rattle.smithy_served.specs.TypedOutputs.{IsTypedOutput, begins_no_default, is_trimmed, is_typed_at, is_typed_header}
 use Rattle.smithy_served.proofs.Alike.{first_value-out, member_at-out}
-use Rattle.smithy_served.proofs.Apart.{at-position, headers_apart-out, starts-self}
+use Rattle.smithy_served.proofs.Messages.{sound_output}
 use Rattle.smithy_served.proofs.Behind.{all_of, behind_any, has_value, last_keyed, with_new-any}
-use Rattle.smithy_served.proofs.Conforming.{no_write_fault}
+use Rattle.smithy_served.proofs.Conforming.{fitting_out, unfaulted_out}
 use Rattle.smithy_served.proofs.MemberHanded.{HandsSame}
 use Rattle.smithy_served.proofs.Scalars.{plain_read}
+use Rattle.smithy_unambiguity.proofs.HeaderNames.{headers_apart, starts-self}
 
 -- A prefix map of a response.
 pub record IsPrefixMap (m : Schema) (prefix : List ℕ) : Type 0 where
@@ -71,36 +69,11 @@ pub record IsPrefixMap (m : Schema) (prefix : List ℕ) : Type 0 where
   pub trait : m.node.traits.http_prefix_headers ≡ Some prefix
   pub text_map : is_text_map m ≡ true
 
--- No header of a response has a name that is not in lower case.
-no_upper : (schema : Schema) (ws : List Write) (name : List ℕ) → same_text (str_to_ascii_lowercase name) name ≡ false → values_at name (headers schema ws) ≡ []
-no_upper schema ws name upper = headers_at schema ws name ∙ ap (λ vs. option_to_list (last_value vs)) (none_given (given name) schema ws (λ r at. nothing_inserted name r (unnamed r) (λ prefix e key. unlike (prefix ++ key))))
-  where
-    unlike : (x : List ℕ) → str_to_ascii_lowercase x ≢ name
-    unlike x same =
-        let lower : str_to_ascii_lowercase name ≡ name = ap str_to_ascii_lowercase (sym same) ∙ lower_twice x ∙ same in
-        let q : true ≡ false = sym (same_self name) ∙ ap (λ n. same_text n name) (sym lower) ∙ upper in
-        cc q
-
-    unnamed : (r : Resolved) → named_header name (binding_of r.member) ≡ false
-    unnamed r = go (binding_of r.member)
-      where
-        go : (b : Binding) → named_header name b ≡ false
-        go (to_header n) = by (same_text (str_to_ascii_lowercase n) name) refl
-          where
-            by : (t : Bool) → same_text (str_to_ascii_lowercase n) name ≡ t → t ≡ false
-            by true e = absurd (unlike n (same_from_test (str_to_ascii_lowercase n) name (sym e)))
-            by false e = refl
-        go _ = refl
-
 -- a name with the front is none of these, where the front begins none of them
 any_front : (low key : List ℕ) (names : List (List ℕ)) → is_one_of (low ++ key) names ≡ true → list_any (λ name. starts_with nat_eq name low) names ≡ true
 any_front low key [] e = absurd (cc e)
 any_front low key (n ∷ names) e = go (same_text (low ++ key) n) refl e (any_front low key names)
   where
-    or_right : (a b : Bool) → b ≡ true → (a || b) ≡ true
-    or_right true b h = refl
-    or_right false b h = h
-
     go : (t : Bool) → same_text (low ++ key) n ≡ t → (t || is_one_of (low ++ key) names) ≡ true → (is_one_of (low ++ key) names ≡ true → list_any (λ name. starts_with nat_eq name low) names ≡ true)
         → (starts_with nat_eq n low || list_any (λ name. starts_with nat_eq name low) names) ≡ true
     go true is h rest = ap (λ t. t || list_any (λ name. starts_with nat_eq name low) names) (ap (λ x. starts_with nat_eq x low) (sym (same_from_test (low ++ key) n (sym is))) ∙ starts-self low key)
@@ -116,14 +89,6 @@ entries_whole [] range trimmed = tt
 entries_whole (e ∷ es) range trimmed =
     let parts = and_parts (is_trimmed (text_of_key e.1)) (list_all (λ e. is_trimmed (text_of_key e.1)) es) trimmed in
     ((text_utf8 e.1 range.0.1, parts.0), entries_whole es range.1 parts.1)
-
-values_all : (P : List ℕ → Type 0) (k : List ℕ) (ps : List (List ℕ × List ℕ)) → AllByRecursion (λ p. P p.1) ps → AllByRecursion P (values_at k ps)
-values_all P k [] all = tt
-values_all P k (p ∷ ps) all = go (same_text p.0 k) (values_all P k ps all.1)
-  where
-    go : (t : Bool) → AllByRecursion P (values_at k ps) → AllByRecursion P (map (λ (q : List ℕ × List ℕ). q.1) (cond t (p ∷ filter (λ q. same_text q.0 k) ps) (filter (λ q. same_text q.0 k) ps)))
-    go true rest = (all.0, rest)
-    go false rest = rest
 
 last_has : (P : List ℕ → Type 0) (vs : List (List ℕ)) (t : List ℕ) → AllByRecursion P vs → last_value vs ≡ Some t → P t
 last_has P [] t all e = absurd (cc e)
@@ -188,10 +153,6 @@ map_form (value.scalar (value.whole value.integer z)) e = absurd (cc e)
 map_form (value.scalar (value.whole value.long z)) e = absurd (cc e)
 map_form _ e = absurd (cc e)
 
-last_of_list : (o : Option (List ℕ)) → last_value (option_to_list o) ≡ o
-last_of_list None = refl
-last_of_list (Some x) = refl
-
 -- In one response.
 module _ (protocol : Protocol) (schema : Schema) (ws : List Write) (i : ℕ) (m : Schema) (prefix : List ℕ) (checked : IsCheckedOutput schema) (typed : IsTypedOutput protocol schema ws) (at : member_at schema i ≡ Some m) (is : IsPrefixMap m prefix) where
   abbrev out : Schema
@@ -216,7 +177,7 @@ module _ (protocol : Protocol) (schema : Schema) (ws : List Write) (i : ℕ) (m 
   no_default key = go (is_one_of (low ++ key) default_names) refl
     where
       alone : begins_no_default prefix ≡ true
-      alone = at_name (λ p. begins_no_default p ≡ true) (λ m. m.node.traits.http_prefix_headers) (members_of schema) i m prefix (all_from_test begins_no_default (prefixes schema) typed.prefixed) (at-position schema checked i m at) is.trait
+      alone = at_name (λ p. begins_no_default p ≡ true) (λ m. m.node.traits.http_prefix_headers) (members_of schema) i m prefix (all_from_test begins_no_default (prefixes schema) typed.prefixed) (members_by_position schema checked.cited i ∙ at) is.trait
 
       go : (t : Bool) → is_one_of (low ++ key) default_names ≡ t → t ≡ false
       go false e = refl
@@ -228,29 +189,9 @@ module _ (protocol : Protocol) (schema : Schema) (ws : List Write) (i : ℕ) (m 
 
   -- behind the prefix stand the entries that were written
   told : (key : List ℕ) → values_at (low ++ key) pairs ≡ last_at key written
-  told key = elsewhere key ∙ go (same_text (str_to_ascii_lowercase key) key) refl
-    where
-      go : (t : Bool) → same_text (str_to_ascii_lowercase key) key ≡ t → values_at (low ++ key) (headers out ws) ≡ last_at key written
-      go true e =
-          let lower = same_from_test (str_to_ascii_lowercase key) key (sym e) in
-          ap (λ n. values_at n (headers out ws)) (sym (map-append _ prefix key ∙ ap (λ x. low ++ x) lower))
-          ∙ headers_of_prefix out ws i (as_output m) prefix key (headers_apart-out schema checked) at_out begins
-          ∙ ap (λ o. option_map_or (λ v. last_at (str_to_ascii_lowercase key) (lowered (map_pairs v))) o []) (first_value-out schema ws i)
-          ∙ last_of_entries (str_to_ascii_lowercase key) (first_value schema ws i)
-          ∙ ap (λ n. last_at n written) lower
-      go false e = no_upper out ws (low ++ key) upper ∙ sym (ap (λ vs. option_to_list (last_value vs)) (not_lower key (written_pairs (first_value schema ws i)) e))
-        where
-          upper : same_text (str_to_ascii_lowercase (low ++ key)) (low ++ key) ≡ false
-          upper = no (same_text (str_to_ascii_lowercase (low ++ key)) (low ++ key)) refl
-            where
-              no : (s : Bool) → same_text (str_to_ascii_lowercase (low ++ key)) (low ++ key) ≡ s → s ≡ false
-              no false h = refl
-              no true h =
-                  let whole = same_from_test (str_to_ascii_lowercase (low ++ key)) (low ++ key) (sym h) in
-                  let split : low ++ str_to_ascii_lowercase key ≡ low ++ key = ap (λ x. x ++ str_to_ascii_lowercase key) (sym (lower_twice prefix)) ∙ sym (map-append _ low key) ∙ whole in
-                  let keys = append_cancel_left low (str_to_ascii_lowercase key) key split in
-                  let z : true ≡ false = sym (same_self key) ∙ ap (λ n. same_text n key) (sym keys) ∙ e in
-                  absurd (cc z)
+  told key =
+      elsewhere key ∙ headers_behind out ws i (as_output m) prefix (headers_apart out (sound_output schema checked)) at_out begins key
+      ∙ ap (λ o. last_at key (lowered (written_pairs o))) (first_value-out schema ws i)
 
   -- the text of an entry
   abbrev text : List ℕ → List ℕ
@@ -309,12 +250,10 @@ module _ (protocol : Protocol) (schema : Schema) (ws : List Write) (i : ℕ) (m 
 
   written_map : (u : Value) → first_value schema ws i ≡ Some u → IsWrittenMap u
   written_map u e =
-      let conforming = no_write_fault schema ws typed.conforming in
-      let e_out : first_value out ws i ≡ Some u = first_value-out schema ws i ∙ e in
-      let fitting = first_fitting out ws i (as_output m) u conforming typed.in_range at_out e_out in
+      let placed = ap is_placed_at begins in
+      let fitting = fitting_out protocol schema ws i m u typed at e in
       let fit = bound_fits (fits m.node.kind u) (is_null u) (is_bound (as_output m)) (ap is_outside_body begins) fitting.fits in
-      let fault : bound_fault (at_member i (as_output m) u) ≡ None = conforming_bound out ws conforming i (at_member i (as_output m) u) (first_found out ws i (as_output m) u at_out e_out) (ap is_placed_at begins) in
-      let a = no_first (value_fault (as_output m) u) (pairs_fault (as_output m) (inserted_at (binding_of (as_output m)) (as_output m) u)) fault in
+      let a = no_first (value_fault (as_output m) u) (pairs_fault (as_output m) (inserted_at (binding_of (as_output m)) (as_output m) u)) (unfaulted_out protocol schema ws i m u typed at e placed).0 in
       let x = map_form u (ap (λ k. fits k u) (sym map_kind) ∙ fit) in
       let own : value_fault m u ≡ None = ap (value_fault m) x.1 ∙ sym (map_fault-in direction.Response m x.0) ∙ ap (value_fault (as_output m)) (sym x.1) ∙ a.0 in
       let b = no_first (item_fault m u) (first_of_all (key_fault m u ∷ year_fault m u ∷ [])) own in

@@ -44,11 +44,8 @@ use Rattle.smithy_strings.proofs.UnwireLaws.{unwired-wire}
 use Rattle.smithy_unambiguity.proofs.Fits.{is_flat}
 use Rattle.smithy_response.specs.Routes.{is_plain_text, are_empty, has_nothing}
 use Rattle.smithy_served.specs.TypedOutputs.{is_trimmed}
-use Rattle.smithy_served.proofs.Plain.{are_bare, one_token-bare, bare_signed, bare_decimal, bare_base64}
-
-kept : {X : Type 0} (b : Bool) (y x : X) → only_if b y ≡ Some x → (b ≡ true) × (y ≡ x)
-kept true y x e = (refl, cc e)
-kept false y x e = absurd (cc e)
+use Rattle.smithy_served.proofs.Plain.{are_bare, one_token-bare, bare_signed, bare_decimal, bare_base64, neither}
+use Rattle.smithy_recovery.proofs.Exact.{kept}
 
 -- a scalar with its text in a header
 pub record IsHeaderText (format : Option TimestampFormat) (media : Bool) (k : ShapeType) (x : Scalar) (t : List ℕ) : Type 0 where
@@ -127,16 +124,11 @@ media_read name t x some bare e =
     go no_bytes no_text None h = absurd (cc h)
     go no_bytes no_text (Some bytes) h = by no_text bytes (is_utf8 bytes) h
 
-trimmed_parts : (b e : Bool) → (not b && not e) ≡ true → (b ≡ false) × (e ≡ false)
-trimmed_parts false false h = (refl, refl)
-trimmed_parts true e h = absurd (cc h)
-trimmed_parts false true h = absurd (cc h)
-
 pub plain_read : (m : Schema) (name t : List ℕ) → is_utf8 t ≡ true → is_trimmed t ≡ true
     → then_try (or_parse_refusal (one_text_of (t ∷ []))) (λ text. then_give (ok_or text (no_value kind.String name)) (λ u. value.text u)) ≡ Ok (value.text t)
 unfolding one_text_of
 plain_read m name t utf8 trimmed =
-    let ends = trimmed_parts (begins_with_white_space (chars t)) (ends_with_white_space (chars t)) trimmed in
+    let ends = neither (begins_with_white_space (chars t)) (ends_with_white_space (chars t)) trimmed in
     ap (λ b. then_try (or_parse_refusal (then_give (cond b (Ok t) (Err error.NotUtf8)) (λ text. Some (trim text)))) (λ text. then_give (ok_or text (no_value kind.String name)) (λ u. value.text u))) utf8
     ∙ ap (λ u. Ok (value.text u)) (trim_same t (IsUtf8-from_is_utf8 t utf8) ends.0 ends.1)
 

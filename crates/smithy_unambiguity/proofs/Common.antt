@@ -15,9 +15,9 @@ pub use Rattle.smithy_binding.specs.Bindings.{map_entries, pairs_at, pairs_with,
 pub use Rattle.smithy_binding.specs.Bodies.{Body, body_parts, bytes_by, document_by, form_at, form_in, has_unbound_member, is_codec_kind}
 unfoldable pub use Rattle.smithy_binding.specs.Bodies.{body, document_value}
 pub use Rattle.smithy_binding.specs.Bodies.{is_payload, is_raw_kind, payload_kind, raw_bytes, text_of_document}
-pub use Rattle.smithy_binding.specs.Checked.{IsCheckedInput, checked_input, has_at_most_one, has_bound_kind, has_element, has_header_kind}
+pub use Rattle.smithy_binding.specs.Checked.{IsCheckedInput, checked_input, has_cited_nodes, has_at_most_one, has_bound_kind, has_element, has_header_kind}
 pub use Rattle.smithy_binding.specs.Checked.{has_label_kind, has_query_kind, has_sound_headers, is_header_kind, is_plain_list}
-pub use Rattle.smithy_binding.specs.Checked.{is_plain_string, is_query_map, is_sound_payload, is_sound_prefix, is_text_map}
+pub use Rattle.smithy_binding.specs.Checked.{is_plain_string, is_query_map, has_sound_payload, is_sound_payload, is_sound_prefix, is_text_map}
 pub use Rattle.smithy_binding.specs.Checked.{lower_header_names, member_names, members_with, prefixes, same_format}
 pub use Rattle.smithy_binding.specs.Clear.{are_whole_segments, begins_segment, ends_segment, holes_named, is_greedy_last, label_members}
 unfoldable pub use Rattle.smithy_binding.specs.Clear.{is_clear}
@@ -25,7 +25,7 @@ pub use Rattle.smithy_binding.specs.Faults.{Fault, behind, bound_fault, custom, 
 unfoldable pub use Rattle.smithy_binding.specs.Faults.{body_fault, legal_target, writes_fault}
 pub use Rattle.smithy_binding.specs.Faults.{fault_of_document, is_placed_at, item_fault, key_fault, legal_fault, legal_or_fault}
 pub use Rattle.smithy_binding.specs.Faults.{nested_fault, no_member, no_year, not_legal, pair_fault, pairs_fault, part_fault}
-pub use Rattle.smithy_binding.specs.Faults.{resolved_fault, too_long, unmatched_key, value_fault, write_fault, wrong_header}
+pub use Rattle.smithy_binding.specs.Faults.{resolved_fault, resolved_fault_by, writes_fault_by, too_long, unmatched_key, value_fault, write_fault, wrong_header}
 pub use Rattle.smithy_binding.specs.Faults.{wrong_item_kind, wrong_kind, year_fault}
 pub use Rattle.smithy_binding.specs.Filling.{fill, fill_rest, filled_hole, hole_text, keep_slashes}
 pub use Rattle.smithy_binding.specs.NormalForm.{bound_view, bound_view_at, has_key_outside, has_pairs, in_lower_case, is_empty_list}

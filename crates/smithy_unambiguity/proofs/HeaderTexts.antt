@@ -57,7 +57,7 @@ times_told f place vs us ts others fit_v fit_u own_v own_u p q e =
 
 -- Lists of other elements.
 
-all_utf8 : (ts : List (List ℕ)) → AllByRecursion (λ t. is_utf8 t ≡ true) ts → AllByRecursion IsUtf8 ts
+pub all_utf8 : (ts : List (List ℕ)) → AllByRecursion (λ t. is_utf8 t ≡ true) ts → AllByRecursion IsUtf8 ts
 all_utf8 [] all = tt
 all_utf8 (t ∷ ts) all = (IsUtf8-from_is_utf8 t all.0, all_utf8 ts all.1)
 

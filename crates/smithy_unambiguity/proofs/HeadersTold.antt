@@ -13,6 +13,7 @@ use Rattle.smithy_unambiguity.proofs.Placed.{HasTypedWrites, IsPlacedValue, plac
 use Rattle.smithy_unambiguity.proofs.Requests.{IsPlacedRequest, placed_request, SeeSame, see_same}
 use Rattle.smithy_unambiguity.proofs.Traits.{trait_of}
 use Rattle.smithy_unambiguity.proofs.Values.{flat_value, flat_texts, flat_header}
+use Rattle.smithy_unambiguity.proofs.Positions.{sound_input}
 
 -- Two typed inputs with the same facts, in one setting.
 pub record AreSeenSame (protocol : Protocol) (schema : Schema) (endpoint : List ℕ) (omit : OmitFlags) (v w : List Write) : Type 0 where
@@ -127,8 +128,8 @@ header_member_told protocol schema endpoint omit v w are i m name at kinds heade
     bound_told protocol schema endpoint omit v w are i m (to_header name) at header refl
     (header_part m (query_names schema) name (first_value schema v i) (first_value schema w i) (header_kinds m name (trait_of m (to_header name) header) kinds) (ap place_at header)
     (λ u e. placed_value schema v i m u are.writes_v at (ap is_placed_at header) e) (λ u e. placed_value schema w i m u are.writes_w at (ap is_placed_at header) e)
-    (sym (headers_of_member schema v i m name (headers_apart schema are.checked) at header)
+    (sym (headers_of_member schema v i m name (headers_apart schema (sound_input schema are.checked)) at header)
     ∙ sym (header_leaves protocol schema endpoint omit v i m name are.checked are.typed_v at header)
     ∙ are.seen.headers (str_to_ascii_lowercase name)
     ∙ header_leaves protocol schema endpoint omit w i m name are.checked are.typed_w at header
-    ∙ headers_of_member schema w i m name (headers_apart schema are.checked) at header))
+    ∙ headers_of_member schema w i m name (headers_apart schema (sound_input schema are.checked)) at header))

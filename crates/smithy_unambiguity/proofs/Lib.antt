@@ -33,7 +33,7 @@ pub mod Requests
 pub mod Reserved
 mod Setting
 pub mod Settled
-mod Singles
+pub mod Singles
 pub mod Sound
 mod SoundMaps
 pub mod TargetTold
@@ -43,7 +43,7 @@ mod Totals
 pub mod Traits
 pub mod UnboundTold
 pub mod Values
-mod ViewBody
+pub mod ViewBody
 mod ViewDocument
 mod ViewHeaders
 mod ViewParts

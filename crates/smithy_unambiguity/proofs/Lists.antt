@@ -1,5 +1,5 @@
 -- Lists of which something holds at each element.
-use Rattle.smithy_unambiguity.proofs.Common.{◌≡◌, refl, subst, ℕ, zero, suc, ◌+◌, arith, Bool, true, false, cond, List, [], ◌∷◌, ◌++◌, filter, filter_map, flat_map, slice_get, Option, Some, None, option_map, AllByRecursion, enumerate_from, cons_option, list_all, and_parts, and_from, cond_both}
+use Rattle.smithy_unambiguity.proofs.Common.{◌≡◌, refl, subst, ℕ, zero, suc, ◌+◌, arith, Bool, true, false, cond, List, [], ◌∷◌, ◌++◌, filter, filter_map, flat_map, slice_get, Option, Some, None, option_map, AllByRecursion, enumerate_from, cons_option, list_all, and_parts, and_from, cond_both, ap, ◌∙◌, ◌||◌, list_any, or_right, find, option_to_list}
 
 pub all_apply : {X : Type 0} (P Q : X → Type 0) (xs : List X) → ((x : X) → P x → Q x) → AllByRecursion P xs → AllByRecursion Q xs
 all_apply P Q [] f all = tt
@@ -34,6 +34,25 @@ all_get P [] i x all at = absurd (cc at)
 all_get P (y ∷ xs) zero x all at = let same : y ≡ x = cc at in subst P same all.0
 all_get P (y ∷ xs) (suc i) x all at = all_get P xs i x all.1 at
 
+pub any_get : {X : Type 0} (p : X → Bool) (xs : List X) (i : ℕ) (x : X) → slice_get xs i ≡ Some x → p x ≡ true → list_any p xs ≡ true
+any_get p [] i x at is = absurd (cc at)
+any_get p (y ∷ xs) zero x at is = let same : y ≡ x = cc at in ap (λ b. b || list_any p xs) (ap p same ∙ is)
+any_get p (y ∷ xs) (suc i) x at is = or_right (p y) (list_any p xs) (any_get p xs i x at is)
+
+-- what alone passes is found first
+pub found_alone : {X : Type 0} (p : X → Bool) (xs : List X) (o : Option X) → filter p xs ≡ option_to_list o → find p xs ≡ o
+found_alone p [] None e = refl
+found_alone p [] (Some x) e = absurd (cc e)
+found_alone {X = X} p (x ∷ xs) o e = go (p x) e (found_alone p xs o)
+  where
+    only : (o : Option X) → x ∷ filter p xs ≡ option_to_list o → Some x ≡ o
+    only None h = absurd (cc h)
+    only (Some y) h = let same : x ≡ y = cc h in ap Some same
+
+    go : (t : Bool) → cond t (x ∷ filter p xs) (filter p xs) ≡ option_to_list o → (filter p xs ≡ option_to_list o → find p xs ≡ o) → cond t (Some x) (find p xs) ≡ o
+    go true h rest = only o h
+    go false h rest = rest h
+
 -- each element with its place
 pub all_placed : {X : Type 0} (P : ℕ × X → Type 0) (k : ℕ) (xs : List X) → ((j : ℕ) (x : X) → slice_get xs j ≡ Some x → P (k + j, x)) → AllByRecursion P (enumerate_from k xs)
 all_placed P k [] has = tt
@@ -58,6 +77,11 @@ all_made {Y = Y} P make has (x ∷ xs) all = go (has x) all.0 (all_made P make h
 pub filter_map_same : {X Y : Type 0} (f g : X → Option Y) (xs : List X) → AllByRecursion (λ x. f x ≡ g x) xs → filter_map f xs ≡ filter_map g xs
 filter_map_same f g [] all = refl
 filter_map_same f g (x ∷ xs) all = λ i. cons_option (all.0 i) (filter_map_same f g xs all.1 i)
+
+-- a list that is made with positions and without
+pub by_positions : {X Y : Type 0} (f : X → Option Y) (g : ℕ × X → Option Y) (k : ℕ) (xs : List X) → AllByRecursion (λ p. f p.1 ≡ g p) (enumerate_from k xs) → filter_map f xs ≡ filter_map g (enumerate_from k xs)
+by_positions f g k [] all = refl
+by_positions f g k (x ∷ xs) all = λ i. cons_option (all.0 i) (by_positions f g (k + 1) xs all.1 i)
 
 pub all_append : {X : Type 0} (P : X → Type 0) (xs ys : List X) → AllByRecursion P xs → AllByRecursion P ys → AllByRecursion P (xs ++ ys)
 all_append P [] ys a b = b

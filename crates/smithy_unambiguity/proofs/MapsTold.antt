@@ -1,20 +1,20 @@
 -- What is seen of a request tells the normal form's part of the prefix map and of the query map.
-use Rattle.smithy_unambiguity.proofs.Common.{◌≡◌, ◌≢◌, cond, refl, sym, ◌∙◌, ap, subst, ℕ, ◌⊎◌, inl, inr, arith, nat_lt, ltb-true, ltb-false, Bool, true, false, not, ◌&&◌, List, [], ◌∷◌, ◌++◌, filter, flat_map, Option, Some, None, option_and_then, option_to_list, is_some, IsTrue, AllByRecursion, list_all, option_map_or, str_to_ascii_lowercase, and_parts, lower_twice, same_text, is_one_of, are_distinct, same_kind, Schema, member_at, members_of, key_of, value_of, to_prefix, to_query_map, binding_of, Value, Write, map_value, in_key_order, AreBytes, values_at, headers, inserted_at, pairs, query_names, map_entries, entry_texts, body, IsCheckedInput, is_text_map, is_query_map, is_plain_string, is_placed_at, Protocol, OmitFlags, all_headers, IsTyped, default_names, has_no_default_name, member_view, bound_view_at, unless_empty, in_lower_case, has_pairs, same_text_self, all_put}
+use Rattle.smithy_unambiguity.proofs.Common.{◌≡◌, ◌≢◌, cond, refl, sym, ◌∙◌, ap, subst, ℕ, ◌⊎◌, inl, inr, arith, nat_lt, ltb-true, ltb-false, Bool, true, false, not, ◌&&◌, List, [], ◌∷◌, ◌++◌, filter, flat_map, Option, Some, None, option_and_then, option_to_list, is_some, IsTrue, AllByRecursion, list_all, option_map_or, str_to_ascii_lowercase, and_parts, lower_twice, same_text, is_one_of, are_distinct, same_kind, Schema, member_at, members_of, key_of, value_of, to_prefix, to_query_map, binding_of, Value, Write, map_value, in_key_order, AreBytes, values_at, headers, inserted_at, pairs, query_names, map_entries, entry_texts, body, IsCheckedInput, is_text_map, is_query_map, is_plain_string, is_placed_at, Protocol, OmitFlags, all_headers, IsTyped, default_names, has_no_default_name, member_view, bound_view_at, unless_empty, in_lower_case, has_pairs, same_text_self, all_put, Resolved, Binding, to_header, map-append, append_cancel_left}
 use Rattle.std.specs.Cmp.Lexicographic.{same_text as same_from_test}
 use Rattle.smithy_ids.specs.declared.shape_type.ShapeType.TheVariants as kind
 use Rattle.smithy_unambiguity.proofs.LastTexts.{last_value, last_at, lowered}
-use Rattle.smithy_unambiguity.proofs.ByMember.{first_value, at_member}
+use Rattle.smithy_unambiguity.proofs.ByMember.{first_value, at_member, none_given}
 use Rattle.smithy_unambiguity.proofs.Defaults.{all_headers_at, leaves-elsewhere}
 use Rattle.smithy_unambiguity.proofs.EntriesTold.{as_text, is_text_node, own_value, key_texts, written_texts, text_pairs, query_texts, own_query_entries, own_text_entries, query_entries, query_texts_told, entries_distinct, in_order, SameLast, ordered_told, lower_entries}
-use Rattle.smithy_unambiguity.proofs.HeaderNames.{headers_apart}
-use Rattle.smithy_unambiguity.proofs.Headers.{headers_of_prefix, inserted_entries, map_pairs, under_prefix}
+use Rattle.smithy_unambiguity.proofs.HeaderNames.{headers_apart, HasApartHeaders}
+use Rattle.smithy_unambiguity.proofs.Headers.{headers_of_prefix, inserted_entries, map_pairs, under_prefix, headers_at, given, nothing_inserted, named_header}
 use Rattle.smithy_unambiguity.proofs.HeadersTold.{AreSeenSame, bound_told}
 use Rattle.smithy_unambiguity.proofs.PairLemmas.{valued, names as keys, names-valued}
 use Rattle.smithy_unambiguity.proofs.ByName.{nothing_at}
 use Rattle.smithy_unambiguity.proofs.Lists.{all_apply, all_from_test}
 use Rattle.smithy_unambiguity.proofs.Traits.{trait_of}
 use Rattle.smithy_unambiguity.proofs.Placed.{HasTypedWrites, IsPlacedValue, placed_value, member_among, first_has}
-use Rattle.smithy_unambiguity.proofs.Positions.{members_by_position}
+use Rattle.smithy_unambiguity.proofs.Positions.{members_by_position, sound_input}
 use Rattle.smithy_unambiguity.proofs.QueryNames.{pairs_of_map, unnamed_outside}
 use Rattle.smithy_unambiguity.proofs.SoundMaps.{sound_maps}
 use Rattle.smithy_unambiguity.proofs.TargetTold.{pairs_told}
@@ -25,7 +25,7 @@ use Rattle.smithy_unambiguity.proofs.TextsBytes.{pairs_are_bytes, IsBytePair}
 -- what holds of each member that passes a test holds of a member that does
 mapped_at : (test : Schema → Bool) (is_map : Schema → Bool) (schema : Schema) → IsCheckedInput schema → (i : ℕ) (m : Schema) → list_all is_map (filter test (members_of schema)) ≡ true → member_at schema i ≡ Some m → test m ≡ true → is_map m ≡ true
 mapped_at test is_map schema checked i m all at is =
-    member_among (λ m. is_map m ≡ true) test (members_of schema) i m (all_from_test is_map (filter test (members_of schema)) all) (members_by_position schema checked i ∙ at) is
+    member_among (λ m. is_map m ≡ true) test (members_of schema) i m (all_from_test is_map (filter test (members_of schema)) all) (members_by_position schema checked.cited i ∙ at) is
 
 pub text_map_at : (schema : Schema) → IsCheckedInput schema → (i : ℕ) (m : Schema) (prefix : List ℕ) → member_at schema i ≡ Some m → binding_of m ≡ to_prefix prefix → is_text_map m ≡ true
 text_map_at schema checked i m prefix at begins =
@@ -54,6 +54,10 @@ query_map_part m names (Some v) query_map is = query_map_view m names v query_ma
 pub keys_distinct : (m : Schema) (v : Value) → IsPlacedValue m v → are_distinct (keys (key_texts v)) ≡ true
 keys_distinct m v is = ap are_distinct (names-valued entry_texts (map_entries v)) ∙ entries_distinct m v is.keys is.paired
 
+pub distinct_keys : (m : Schema) (o : Option Value) → ((u : Value) → o ≡ Some u → IsPlacedValue m u) → are_distinct (keys (written_texts o)) ≡ true
+distinct_keys m None is = refl
+distinct_keys m (Some u) is = keys_distinct m u (is u refl)
+
 pub query_map_told : (protocol : Protocol) (schema : Schema) (endpoint : List ℕ) (omit : OmitFlags) (v w : List Write) → AreSeenSame protocol schema endpoint omit v w → (i : ℕ) (m : Schema)
     → member_at schema i ≡ Some m → binding_of m ≡ to_query_map → ((key : List ℕ) → values_at key (pairs schema v) ≡ values_at key (pairs schema w)) → member_view schema v i m ≡ member_view schema w i m
 query_map_told protocol schema endpoint omit v w are i m at query_map same =
@@ -71,11 +75,7 @@ query_map_told protocol schema endpoint omit v w are i m at query_map same =
     shown ws typed = query_map_part m (query_names schema) (first_value schema ws i) (query_map_at schema are.checked i m at query_map) (λ u e. placed_value schema ws i m u typed at placed e)
 
     distinct : (ws : List Write) → HasTypedWrites schema ws → are_distinct (keys (written_texts (first_value schema ws i))) ≡ true
-    distinct ws typed = go (first_value schema ws i) (λ u e. placed_value schema ws i m u typed at placed e)
-      where
-        go : (o : Option Value) → ((u : Value) → o ≡ Some u → IsPlacedValue m u) → are_distinct (keys (written_texts o)) ≡ true
-        go None is = refl
-        go (Some u) is = keys_distinct m u (is u refl)
+    distinct ws typed = distinct_keys m (first_value schema ws i) (λ u e. placed_value schema ws i m u typed at placed e)
 
     of_map : (ws : List Write) (key : List ℕ) → is_one_of key (query_names schema) ≡ false → values_at key (pairs schema ws) ≡ values_at key (flat_map text_pairs (written_texts (first_value schema ws i)))
     of_map ws key outside =
@@ -151,12 +151,80 @@ not_lower name ps e = nothing_at name (lowered ps) (all ps)
     all [] = tt
     all (p ∷ ps) = (other p.0, all ps)
 
+-- No header of a message has a name that is not in lower case.
+no_upper : (schema : Schema) (ws : List Write) (name : List ℕ) → same_text (str_to_ascii_lowercase name) name ≡ false → values_at name (headers schema ws) ≡ []
+no_upper schema ws name upper = headers_at schema ws name ∙ ap (λ vs. option_to_list (last_value vs)) (none_given (given name) schema ws (λ r at. nothing_inserted name r (unnamed r) (λ prefix e key. unlike (prefix ++ key))))
+  where
+    unlike : (x : List ℕ) → str_to_ascii_lowercase x ≢ name
+    unlike x same =
+        let lower : str_to_ascii_lowercase name ≡ name = ap str_to_ascii_lowercase (sym same) ∙ lower_twice x ∙ same in
+        let q : true ≡ false = sym (same_text_self name) ∙ ap (λ n. same_text n name) (sym lower) ∙ upper in
+        cc q
+
+    unnamed : (r : Resolved) → named_header name (binding_of r.member) ≡ false
+    unnamed r = go (binding_of r.member)
+      where
+        go : (b : Binding) → named_header name b ≡ false
+        go (to_header n) = by (same_text (str_to_ascii_lowercase n) name) refl
+          where
+            by : (t : Bool) → same_text (str_to_ascii_lowercase n) name ≡ t → t ≡ false
+            by true e = absurd (unlike n (same_from_test (str_to_ascii_lowercase n) name (sym e)))
+            by false e = refl
+        go _ = refl
+
+-- so behind a prefix stand the entries that were written
+pub headers_behind : (schema : Schema) (ws : List Write) (i : ℕ) (m : Schema) (prefix : List ℕ) → HasApartHeaders schema → member_at schema i ≡ Some m → binding_of m ≡ to_prefix prefix
+    → (key : List ℕ) → values_at (str_to_ascii_lowercase prefix ++ key) (headers schema ws) ≡ last_at key (lowered (written_pairs (first_value schema ws i)))
+headers_behind schema ws i m prefix apart at begins key = go (same_text (str_to_ascii_lowercase key) key) refl
+  where
+    low : List ℕ
+    low = str_to_ascii_lowercase prefix
+
+    written : List (List ℕ × List ℕ)
+    written = written_pairs (first_value schema ws i)
+
+    go : (t : Bool) → same_text (str_to_ascii_lowercase key) key ≡ t → values_at (low ++ key) (headers schema ws) ≡ last_at key (lowered written)
+    go true e =
+        let lower = same_from_test (str_to_ascii_lowercase key) key (sym e) in
+        ap (λ n. values_at n (headers schema ws)) (sym (map-append _ prefix key ∙ ap (λ x. low ++ x) lower))
+        ∙ headers_of_prefix schema ws i m prefix key apart at begins ∙ last_of_entries (str_to_ascii_lowercase key) (first_value schema ws i)
+        ∙ ap (λ n. last_at n (lowered written)) lower
+    go false e = no_upper schema ws (low ++ key) (no (same_text (str_to_ascii_lowercase (low ++ key)) (low ++ key)) refl) ∙ sym (ap (λ vs. option_to_list (last_value vs)) (not_lower key written e))
+      where
+        no : (s : Bool) → same_text (str_to_ascii_lowercase (low ++ key)) (low ++ key) ≡ s → s ≡ false
+        no false h = refl
+        no true h =
+            let whole = same_from_test (str_to_ascii_lowercase (low ++ key)) (low ++ key) (sym h) in
+            let split : low ++ str_to_ascii_lowercase key ≡ low ++ key = ap (λ x. x ++ str_to_ascii_lowercase key) (sym (lower_twice prefix)) ∙ sym (map-append _ low key) ∙ whole in
+            let keys = append_cancel_left low (str_to_ascii_lowercase key) key split in
+            let z : true ≡ false = sym (same_text_self key) ∙ ap (λ n. same_text n key) (sym keys) ∙ e in
+            absurd (cc z)
+
 -- under a default's name no entry stands
 pub no_default_at : (name : List ℕ) (ps : List (List ℕ × List ℕ)) → list_all (λ (p : List ℕ × List ℕ). not (is_one_of p.0 default_names)) ps ≡ true → is_one_of name default_names ≡ true → values_at name ps ≡ []
 no_default_at name ps tests is =
     nothing_at name ps
     (all_apply (λ p. not (is_one_of p.0 default_names) ≡ true) (λ p. p.0 ≢ name) ps (λ p test e. let q : false ≡ true = sym (ap not (ap (λ n. is_one_of n default_names) e ∙ is)) ∙ test in cc q)
     (all_from_test (λ (p : List ℕ × List ℕ). not (is_one_of p.0 default_names)) ps tests))
+
+-- so behind a prefix no entry of a typed input makes one
+pub no_default_behind : (protocol : Protocol) (schema : Schema) (endpoint : List ℕ) (omit : OmitFlags) (ws : List Write) (i : ℕ) (m : Schema) (prefix : List ℕ) → IsTyped protocol schema endpoint omit ws
+    → member_at schema i ≡ Some m → binding_of m ≡ to_prefix prefix → (key : List ℕ) → is_one_of (str_to_ascii_lowercase prefix ++ key) default_names ≡ true → values_at key (lowered (written_pairs (first_value schema ws i))) ≡ []
+no_default_behind protocol schema endpoint omit ws i m prefix typed at begins key is = go (same_text (str_to_ascii_lowercase key) key) refl (first_value schema ws i) refl
+  where
+    go : (t : Bool) → same_text (str_to_ascii_lowercase key) key ≡ t → (o : Option Value) → first_value schema ws i ≡ o → values_at key (lowered (written_pairs o)) ≡ []
+    go false lower o e = not_lower key (written_pairs o) lower
+    go true lower None e = refl
+    go true lower (Some u) e =
+        let one : has_no_default_name (to_prefix prefix) (at_member i m u) ≡ true =
+        ap (λ b. has_no_default_name b (at_member i m u)) (sym begins) ∙ first_has (λ r. IsTrue (has_no_default_name (binding_of r.member) r)) schema ws i m u at e typed.prefixed in
+        let tested : list_all (λ (p : List ℕ × List ℕ). not (is_one_of p.0 default_names)) (inserted_at (to_prefix prefix) m u) ≡ true =
+        ap (λ b. list_all (λ (p : List ℕ × List ℕ). not (is_one_of p.0 default_names)) (inserted_at b m u)) (sym begins) ∙ one in
+        let own = same_from_test (str_to_ascii_lowercase key) key (sym lower) in
+        let name : str_to_ascii_lowercase (prefix ++ key) ≡ str_to_ascii_lowercase prefix ++ key = map-append _ prefix key ∙ ap (λ x. str_to_ascii_lowercase prefix ++ x) own in
+        ap (λ n. values_at n (lowered (map_pairs u))) (sym own)
+        ∙ sym (ap (values_at (str_to_ascii_lowercase (prefix ++ key))) (inserted_entries prefix m u) ∙ under_prefix prefix key (map_pairs u))
+        ∙ no_default_at (str_to_ascii_lowercase (prefix ++ key)) (inserted_at (to_prefix prefix) m u) tested (ap (λ n. is_one_of n default_names) name ∙ is)
 
 pub prefix_member_told : (protocol : Protocol) (schema : Schema) (endpoint : List ℕ) (omit : OmitFlags) (v w : List Write) → AreSeenSame protocol schema endpoint omit v w → (i : ℕ) (m : Schema) (prefix : List ℕ)
     → member_at schema i ≡ Some m → binding_of m ≡ to_prefix prefix → member_view schema v i m ≡ member_view schema w i m
@@ -170,38 +238,21 @@ prefix_member_told protocol schema endpoint omit v w are i m prefix at begins =
         → option_and_then (bound_view_at (to_prefix prefix) (query_names schema) m) (first_value schema ws i) ≡ unless_empty (map_value (Some m) (valued as_text (all_put (lowered (written_pairs (first_value schema ws i))) [])))
     shown ws typed = prefix_part m (query_names schema) prefix (first_value schema ws i) (text_map_at schema are.checked i m prefix at begins) (λ u e. placed_value schema ws i m u typed at (ap is_placed_at begins) e)
 
-    of_headers : (ws : List Write) (key : List ℕ) → values_at (str_to_ascii_lowercase (prefix ++ key)) (headers schema ws) ≡ last_at (str_to_ascii_lowercase key) (lowered (written_pairs (first_value schema ws i)))
-    of_headers ws key = headers_of_prefix schema ws i m prefix key (headers_apart schema are.checked) at begins ∙ last_of_entries (str_to_ascii_lowercase key) (first_value schema ws i)
+    low : List ℕ
+    low = str_to_ascii_lowercase prefix
 
-    elsewhere : (ws : List Write) (name : List ℕ) → is_one_of name default_names ≡ false
-        → values_at name (all_headers protocol (body protocol.text_of schema ws) omit (headers schema ws)) ≡ values_at name (headers schema ws)
-    elsewhere ws name outside = all_headers_at protocol (body protocol.text_of schema ws) omit (headers schema ws) name (leaves-elsewhere (body protocol.text_of schema ws) omit (headers schema ws) name outside)
+    behind : (ws : List Write) (key : List ℕ) → is_one_of (low ++ key) default_names ≡ false
+        → values_at (low ++ key) (all_headers protocol (body protocol.text_of schema ws) omit (headers schema ws)) ≡ last_at key (lowered (written_pairs (first_value schema ws i)))
+    behind ws key outside =
+        all_headers_at protocol (body protocol.text_of schema ws) omit (headers schema ws) (low ++ key) (leaves-elsewhere (body protocol.text_of schema ws) omit (headers schema ws) (low ++ key) outside)
+        ∙ headers_behind schema ws i m prefix (headers_apart schema (sound_input schema are.checked)) at begins key
 
-    -- no entry of a typed input has a default's name
-    none_there : (ws : List Write) (key : List ℕ) → IsTyped protocol schema endpoint omit ws → is_one_of (str_to_ascii_lowercase (prefix ++ key)) default_names ≡ true → values_at (str_to_ascii_lowercase key) (lowered (written_pairs (first_value schema ws i))) ≡ []
-    none_there ws key typed is = go (first_value schema ws i) refl
+    none : (ws : List Write) → IsTyped protocol schema endpoint omit ws → (key : List ℕ) → is_one_of (low ++ key) default_names ≡ true → values_at key (lowered (written_pairs (first_value schema ws i))) ≡ []
+    none ws typed key is = no_default_behind protocol schema endpoint omit ws i m prefix typed at begins key is
+
+    told : (key : List ℕ) → SameLast (lowered (written_pairs (first_value schema v i))) (lowered (written_pairs (first_value schema w i))) key
+    told key = go (is_one_of (low ++ key) default_names) refl
       where
-        go : (o : Option Value) → first_value schema ws i ≡ o → values_at (str_to_ascii_lowercase key) (lowered (written_pairs o)) ≡ []
-        go None e = refl
-        go (Some u) e =
-            let one : has_no_default_name (to_prefix prefix) (at_member i m u) ≡ true =
-            ap (λ b. has_no_default_name b (at_member i m u)) (sym begins) ∙ first_has (λ r. IsTrue (has_no_default_name (binding_of r.member) r)) schema ws i m u at e typed.prefixed in
-            let tested : list_all (λ (p : List ℕ × List ℕ). not (is_one_of p.0 default_names)) (inserted_at (to_prefix prefix) m u) ≡ true =
-            ap (λ b. list_all (λ (p : List ℕ × List ℕ). not (is_one_of p.0 default_names)) (inserted_at b m u)) (sym begins) ∙ one in
-            sym (ap (values_at (str_to_ascii_lowercase (prefix ++ key))) (inserted_entries prefix m u) ∙ under_prefix prefix key (map_pairs u)) ∙ no_default_at (str_to_ascii_lowercase (prefix ++ key)) (inserted_at (to_prefix prefix) m u) tested is
-
-    lower_told : (key : List ℕ) (t : Bool) → is_one_of (str_to_ascii_lowercase (prefix ++ key)) default_names ≡ t → last_at (str_to_ascii_lowercase key) (lowered (written_pairs (first_value schema v i))) ≡ last_at (str_to_ascii_lowercase key) (lowered (written_pairs (first_value schema w i)))
-    lower_told key true is = ap (λ vs. option_to_list (last_value vs)) (none_there v key are.typed_v is ∙ sym (none_there w key are.typed_w is))
-    lower_told key false is =
-        sym (of_headers v key) ∙ sym (elsewhere v (str_to_ascii_lowercase (prefix ++ key)) is) ∙ are.seen.headers (str_to_ascii_lowercase (prefix ++ key))
-        ∙ elsewhere w (str_to_ascii_lowercase (prefix ++ key)) is ∙ of_headers w key
-
-    told : (name : List ℕ) → SameLast (lowered (written_pairs (first_value schema v i))) (lowered (written_pairs (first_value schema w i))) name
-    told name = go (same_text (str_to_ascii_lowercase name) name) refl
-      where
-        go : (t : Bool) → same_text (str_to_ascii_lowercase name) name ≡ t → SameLast (lowered (written_pairs (first_value schema v i))) (lowered (written_pairs (first_value schema w i))) name
-        go false e = ap last_value (not_lower name (written_pairs (first_value schema v i)) e ∙ sym (not_lower name (written_pairs (first_value schema w i)) e))
-        go true e =
-            let lower = same_from_test (str_to_ascii_lowercase name) name (sym e) in
-            subst (λ (n : List ℕ). SameLast (lowered (written_pairs (first_value schema v i))) (lowered (written_pairs (first_value schema w i))) n) lower
-            (list-injective _ _ (lower_told name (is_one_of (str_to_ascii_lowercase (prefix ++ name)) default_names) refl))
+        go : (t : Bool) → is_one_of (low ++ key) default_names ≡ t → SameLast (lowered (written_pairs (first_value schema v i))) (lowered (written_pairs (first_value schema w i))) key
+        go true is = ap last_value (none v are.typed_v key is ∙ sym (none w are.typed_w key is))
+        go false is = list-injective _ _ (sym (behind v key is) ∙ are.seen.headers (low ++ key) ∙ behind w key is)

@@ -1,7 +1,7 @@
 -- The members of a schema that a program holds: each has its position for its index and a name of its own.
-use Rattle.smithy_unambiguity.proofs.Common.{◌≡◌, refl, sym, ◌∙◌, ap, subst, ℕ, suc, Bool, true, false, ◌==◌, List, [], ◌∷◌, filter, filter_map, slice_get, Option, Some, None, option_map, option_and_then, unwrap_or, is_some, AllByRecursion, cons_option, option_map_or, and_parts, eqb-true, Node, Schema, node_at, at_place, member_at, members_of, name_of, is_member, is_well_made, Stands, IsCheckedInput}
+use Rattle.smithy_unambiguity.proofs.Common.{◌≡◌, refl, sym, ◌∙◌, ap, subst, ℕ, suc, Bool, true, false, ◌==◌, List, [], ◌∷◌, filter, filter_map, slice_get, Option, Some, None, option_map, option_and_then, unwrap_or, is_some, AllByRecursion, cons_option, option_map_or, and_parts, eqb-true, Node, Schema, node_at, at_place, member_at, members_of, name_of, is_member, is_well_made, Stands}
 use Rattle.smithy_unambiguity.proofs.Lists.{all_filter}
-use Rattle.smithy_unambiguity.proofs.Positions.{members_by_position, apart_at}
+use Rattle.smithy_unambiguity.proofs.Positions.{HasOwnNames, members_by_position, apart_at}
 use Rattle.smithy_unambiguity.proofs.WellMadeNodes.{HasTexts, has_texts, well_made_stands}
 
 -- two members with one name are one
@@ -48,13 +48,13 @@ member_in_place schema i m well_made at = go (slice_get schema.node.members i) r
               name = name.1;
             })
 
-pub names_apart : (schema : Schema) → IsCheckedInput schema → is_well_made schema ≡ true → HasApartNames schema
-names_apart schema checked well_made i j m n at_i at_j same =
+pub names_apart : (schema : Schema) → HasOwnNames schema → is_well_made schema ≡ true → HasApartNames schema
+names_apart schema named well_made i j m n at_i at_j same =
     let x = member_in_place schema i m well_made at_i in
     let y = member_in_place schema j n well_made at_j in
     let names : x.own_name ≡ y.own_name = ap (λ (o : Option (List ℕ)). unwrap_or o []) (sym x.name) ∙ same ∙ ap (λ (o : Option (List ℕ)). unwrap_or o []) y.name in
-    apart_at (λ k. k.node.member_name) (members_of schema) checked.names i j m n x.own_name
-    (members_by_position schema checked i ∙ at_i) (members_by_position schema checked j ∙ at_j) x.name (y.name ∙ ap Some (sym names))
+    apart_at (λ k. k.node.member_name) (members_of schema) named.names i j m n x.own_name
+    (members_by_position schema named.cited i ∙ at_i) (members_by_position schema named.cited j ∙ at_j) x.name (y.name ∙ ap Some (sym names))
 
 -- so each label member has a name
 pub all_have_names : (test : Schema → Bool) (schema : Schema) → is_well_made schema ≡ true → AllByRecursion (λ m. is_some m.node.member_name ≡ true) (filter test (members_of schema))

@@ -15,7 +15,7 @@ use Rattle.smithy_unambiguity.proofs.Lists.{all_apply, all_from_test}
 use Rattle.smithy_unambiguity.proofs.Traits.{trait_of}
 use Rattle.smithy_unambiguity.proofs.Members.{member_in_place}
 use Rattle.smithy_unambiguity.proofs.Placed.{HasTypedWrites, bound_fits, first_fitting, first_has}
-use Rattle.smithy_unambiguity.proofs.Positions.{members_by_position}
+use Rattle.smithy_unambiguity.proofs.Positions.{IsSoundMessage, sound_input}
 use Rattle.smithy_unambiguity.proofs.Singles.{single, find_same, find_alone}
 use Rattle.smithy_unambiguity.proofs.Sound.{sound}
 
@@ -26,22 +26,22 @@ payload_is _ e = absurd (cc e)
 pub payload_of : (m : Schema) → is_payload (binding_of m) ≡ true → m.node.traits.http_payload ≡ true
 payload_of m e = trait_of m to_payload (payload_is (binding_of m) e)
 
-pub one_payload : (schema : Schema) → IsCheckedInput schema → length (filter (λ m. m.node.traits.http_payload) (members_of schema)) ≤ 1
-one_payload schema checked =
+pub one_payload : (schema : Schema) → IsSoundMessage schema → length (filter (λ m. m.node.traits.http_payload) (members_of schema)) ≤ 1
+one_payload schema message =
     leb-true (length (filter (λ m. m.node.traits.http_payload) (members_of schema))) 1
-    (and_parts (has_at_most_one (λ t. t.http_payload) schema) (is_sound_payload (payload_kind schema) (has_unbound_member schema)) checked.payload).0
+    (and_parts (has_at_most_one (λ t. t.http_payload) schema) (is_sound_payload (payload_kind schema) (has_unbound_member schema)) message.payload).0
 
 -- the payload member is the one that is found
-pub payload_kind_is : (schema : Schema) → IsCheckedInput schema → (i : ℕ) (m : Schema) → member_at schema i ≡ Some m → binding_of m ≡ to_payload → payload_kind schema ≡ Some m.node.kind
-payload_kind_is schema checked i m at payload =
+pub payload_kind_is : (schema : Schema) → IsSoundMessage schema → (i : ℕ) (m : Schema) → member_at schema i ≡ Some m → binding_of m ≡ to_payload → payload_kind schema ≡ Some m.node.kind
+payload_kind_is schema message i m at payload =
     ap (option_map (λ n. n.node.kind))
-    (find_alone (λ n. is_payload (binding_of n)) (members_of schema) i m (members_by_position schema checked i ∙ at) (ap is_payload payload)
-    (λ j n at_j is. single (λ n. n.node.traits.http_payload) (members_of schema) (one_payload schema checked) j i n m at_j (members_by_position schema checked i ∙ at) (payload_of n is) (payload_of m (ap is_payload payload))))
+    (find_alone (λ n. is_payload (binding_of n)) (members_of schema) i m (message.by_position i ∙ at) (ap is_payload payload)
+    (λ j n at_j is. single (λ n. n.node.traits.http_payload) (members_of schema) (one_payload schema message) j i n m at_j (message.by_position i ∙ at) (payload_of n is) (payload_of m (ap is_payload payload))))
 
 -- and its first write is the payload
-pub payload_value : (schema : Schema) → IsCheckedInput schema → (ws : List Write) (i : ℕ) (m : Schema) → member_at schema i ≡ Some m → binding_of m ≡ to_payload
+pub payload_value : (schema : Schema) → IsSoundMessage schema → (ws : List Write) (i : ℕ) (m : Schema) → member_at schema i ≡ Some m → binding_of m ≡ to_payload
     → option_map (λ (r : Resolved). r.value) (find (λ (r : Resolved). is_payload (binding_of r.member)) (firsts schema ws)) ≡ first_value schema ws i
-payload_value schema checked ws i m at payload =
+payload_value schema message ws i m at payload =
     ap (option_map (λ (r : Resolved). r.value))
     (find_same (λ (r : Resolved). is_payload (binding_of r.member)) (is_of i) (firsts schema ws)
     (all_firsts (λ r. is_payload (binding_of r.member) ≡ is_of i r) (all_resolved schema ws) (all_apply (λ r. member_at schema r.position ≡ Some r.member) (λ r. is_payload (binding_of r.member) ≡ is_of i r) (all_resolved schema ws) same_test (resolved_at schema ws)))
@@ -50,7 +50,7 @@ payload_value schema checked ws i m at payload =
     same_test : (r : Resolved) → member_at schema r.position ≡ Some r.member → is_payload (binding_of r.member) ≡ is_of i r
     same_test r at_r =
         both_ways (is_payload (binding_of r.member)) (r.position == i)
-        (λ is. eq-eqb r.position i (single (λ n. n.node.traits.http_payload) (members_of schema) (one_payload schema checked) r.position i r.member m (members_by_position schema checked r.position ∙ at_r) (members_by_position schema checked i ∙ at)
+        (λ is. eq-eqb r.position i (single (λ n. n.node.traits.http_payload) (members_of schema) (one_payload schema message) r.position i r.member m (message.by_position r.position ∙ at_r) (message.by_position i ∙ at)
         (payload_of r.member is) (payload_of m (ap is_payload payload))))
         (λ e.
         let members : Some r.member ≡ Some m = sym at_r ∙ ap (member_at schema) (eqb-true r.position i e) ∙ at in
@@ -127,12 +127,12 @@ texts_tell text_of holds lawful m stands None (Some w) is_o is_p e =
     let is = is_p w refl in absurd (lawful.is_not_empty is.doc is.sound (sym (own_bytes text_of m w is) ∙ sym e))
 texts_tell text_of holds lawful m stands (Some v) (Some w) is_o is_p e = ap Some (text_tells text_of holds lawful m v w stands (is_o v refl) (is_p w refl) e)
 
--- the value of a typed input's body follows its node
-pub own_text : (protocol : Protocol) (schema : Schema) (endpoint : List ℕ) (omit : OmitFlags) (ws : List Write) (m : Schema) (u : Value) → IsTyped protocol schema endpoint omit ws → Stands m → document_value schema ws ≡ Some u → is_shaped (Some m) u ≡ true → HasOwnText m u
-own_text protocol schema endpoint omit ws m u typed stands is shaped =
+-- the value of a body follows its node
+pub own_text : (schema : Schema) (ws : List Write) (m : Schema) (u : Value) → is_shallow (option_and_then doc_of (document_value schema ws)) ≡ true → Stands m → document_value schema ws ≡ Some u → is_shaped (Some m) u ≡ true → HasOwnText m u
+own_text schema ws m u shallow stands is shaped =
     let d = has_document m u shaped in
     let low : nat_le (nesting d.0) max_nesting ≡ true =
-    ap (λ (r : Result Document DocumentFault). is_shallow (result_ok r)) (sym d.1) ∙ ap (λ (o : Option Value). is_shallow (option_and_then doc_of o)) (sym is) ∙ typed.shallow in
+    ap (λ (r : Result Document DocumentFault). is_shallow (result_ok r)) (sym d.1) ∙ ap (λ (o : Option Value). is_shallow (option_and_then doc_of o)) (sym is) ∙ shallow in
     record { shaped = shaped; doc = d.0; has = d.1; sound = sound m u d.0 stands shaped d.1; shallow = leb-true (nesting d.0) max_nesting low }
 
 pub document_value_is : (schema : Schema) (ws : List Write) (f : BodyForm) → form_in schema ≡ f → document_value schema ws ≡ document_by f (body_parts schema ws)
@@ -153,18 +153,18 @@ codec_form kind.Document b e = refl
 codec_form _ b e = absurd (cc e)
 
 -- the form of the bodies, by the kind of the payload
-pub payload_form : (schema : Schema) → IsCheckedInput schema → (i : ℕ) (m : Schema) → member_at schema i ≡ Some m → binding_of m ≡ to_payload → form_in schema ≡ form_at (Some m.node.kind) (has_unbound_member schema)
-payload_form schema checked i m at payload = ap (λ o. form_at o (has_unbound_member schema)) (payload_kind_is schema checked i m at payload)
+pub payload_form : (schema : Schema) → IsSoundMessage schema → (i : ℕ) (m : Schema) → member_at schema i ≡ Some m → binding_of m ≡ to_payload → form_in schema ≡ form_at (Some m.node.kind) (has_unbound_member schema)
+payload_form schema message i m at payload = ap (λ o. form_at o (has_unbound_member schema)) (payload_kind_is schema message i m at payload)
 
 -- the kind of a payload
-pub payload_is_data : (schema : Schema) → IsCheckedInput schema → (i : ℕ) (m : Schema) → member_at schema i ≡ Some m → binding_of m ≡ to_payload → (is_raw_kind m.node.kind || is_codec_kind m.node.kind) ≡ true
-payload_is_data schema checked i m at payload =
-    let tests = and_parts (has_at_most_one (λ t. t.http_payload) schema) (is_sound_payload (payload_kind schema) (has_unbound_member schema)) checked.payload in
-    (and_parts (is_raw_kind m.node.kind || is_codec_kind m.node.kind) (not (has_unbound_member schema)) (ap (λ o. is_sound_payload o (has_unbound_member schema)) (sym (payload_kind_is schema checked i m at payload)) ∙ tests.1)).0
+pub payload_is_data : (schema : Schema) → IsSoundMessage schema → (i : ℕ) (m : Schema) → member_at schema i ≡ Some m → binding_of m ≡ to_payload → (is_raw_kind m.node.kind || is_codec_kind m.node.kind) ≡ true
+payload_is_data schema message i m at payload =
+    let tests = and_parts (has_at_most_one (λ t. t.http_payload) schema) (is_sound_payload (payload_kind schema) (has_unbound_member schema)) message.payload in
+    (and_parts (is_raw_kind m.node.kind || is_codec_kind m.node.kind) (not (has_unbound_member schema)) (ap (λ o. is_sound_payload o (has_unbound_member schema)) (sym (payload_kind_is schema message i m at payload)) ∙ tests.1)).0
 
 -- the codec writes the payload, where bodies have that form
-pub codec_payload : (schema : Schema) → IsCheckedInput schema → (i : ℕ) (m : Schema) → member_at schema i ≡ Some m → binding_of m ≡ to_payload → form_in schema ≡ form.Payload → is_codec_kind m.node.kind ≡ true
-codec_payload schema checked i m at payload is = go (is_raw_kind m.node.kind) (is_codec_kind m.node.kind) (payload_is_data schema checked i m at payload) (sym (payload_form schema checked i m at payload) ∙ is)
+pub codec_payload : (schema : Schema) → IsSoundMessage schema → (i : ℕ) (m : Schema) → member_at schema i ≡ Some m → binding_of m ≡ to_payload → form_in schema ≡ form.Payload → is_codec_kind m.node.kind ≡ true
+codec_payload schema message i m at payload is = go (is_raw_kind m.node.kind) (is_codec_kind m.node.kind) (payload_is_data schema message i m at payload) (sym (payload_form schema message i m at payload) ∙ is)
   where
     go : (r c : Bool) → (r || c) ≡ true → (if r then form.Raw else form.Payload) ≡ form.Payload → c ≡ true
     go true c taken h = absurd (cc h)
@@ -175,17 +175,17 @@ pub payload_own_text : (protocol : Protocol) (schema : Schema) (endpoint : List 
     → member_at schema i ≡ Some m → binding_of m ≡ to_payload → form_in schema ≡ form.Payload → (u : Value) → first_value schema ws i ≡ Some u → HasOwnText m u
 payload_own_text protocol schema endpoint omit ws i m checked well_made typed at payload is u e =
     let tested = first_has (λ r. (not (is_codec_payload r.member) || is_shaped_write r) ≡ true) schema ws i m u at e (all_from_test (λ r. not (is_codec_payload r.member) || is_shaped_write r) (firsts schema ws) typed.payload_shaped) in
-    let asked : is_codec_payload m ≡ true = ap (λ b. is_payload b && is_codec_kind m.node.kind) payload ∙ codec_payload schema checked i m at payload is in
-    own_text protocol schema endpoint omit ws m u typed (member_in_place schema i m well_made at).stands (document_value_is schema ws form.Payload is ∙ payload_value schema checked ws i m at payload ∙ e)
+    let asked : is_codec_payload m ≡ true = ap (λ b. is_payload b && is_codec_kind m.node.kind) payload ∙ codec_payload schema (sound_input schema checked) i m at payload is in
+    own_text schema ws m u typed.shallow (member_in_place schema i m well_made at).stands (document_value_is schema ws form.Payload is ∙ payload_value schema (sound_input schema checked) ws i m at payload ∙ e)
     (ap (λ t. not t || is_shaped (Some m) u) (sym asked) ∙ tested)
 
 pub payload_member_told : (protocol : Protocol) (schema : Schema) (endpoint : List ℕ) (omit : OmitFlags) (v w : List Write) → AreSeenSame protocol schema endpoint omit v w → (i : ℕ) (m : Schema)
     → member_at schema i ≡ Some m → binding_of m ≡ to_payload → member_view schema v i m ≡ member_view schema w i m
 payload_member_told protocol schema endpoint omit v w are i m at payload =
-    bound_told protocol schema endpoint omit v w are i m to_payload at payload refl (go (data_kind m.node.kind (payload_is_data schema are.checked i m at payload)))
+    bound_told protocol schema endpoint omit v w are i m to_payload at payload refl (go (data_kind m.node.kind (payload_is_data schema (sound_input schema are.checked) i m at payload)))
   where
     value_of : (ws : List Write) → (body_parts schema ws).payload ≡ first_value schema ws i
-    value_of ws = payload_value schema are.checked ws i m at payload
+    value_of ws = payload_value schema (sound_input schema are.checked) ws i m at payload
 
     fitting : (ws : List Write) → HasTypedWrites schema ws → (k : ShapeType) → m.node.kind ≡ k → (u : Value) → first_value schema ws i ≡ Some u → fits k u ≡ true
     fitting ws typed k is u e = ap (λ k. fits k u) (sym is) ∙ bound_fits (fits m.node.kind u) (is_null u) (is_bound m) (ap is_outside_body payload) (first_fitting schema ws i m u typed.conforming typed.in_range at e).fits
@@ -196,7 +196,7 @@ payload_member_told protocol schema endpoint omit v w are i m at payload =
         ∙ ap (λ g. bytes_by g protocol.text_of (body_parts schema w)) is
 
     form_is : (k : ShapeType) → m.node.kind ≡ k → form_in schema ≡ form_at (Some k) (has_unbound_member schema)
-    form_is k e = payload_form schema are.checked i m at payload ∙ ap (λ k. form_at (Some k) (has_unbound_member schema)) e
+    form_is k e = payload_form schema (sound_input schema are.checked) i m at payload ∙ ap (λ k. form_at (Some k) (has_unbound_member schema)) e
 
     raw : form_in schema ≡ form.Raw → unwrap_or (option_map raw_bytes (first_value schema v i)) [] ≡ unwrap_or (option_map raw_bytes (first_value schema w i)) []
     raw is =

@@ -47,31 +47,37 @@ first_has P schema ws i m v at e all =
     (find_has P i (firsts schema ws) (at_member i m v) all (first_finds i (all_resolved schema ws) ∙ first_found schema ws i m v at e)).0
 
 -- it fits, and is in range
-pub first_fitting : (schema : Schema) (ws : List Write) (i : ℕ) (m : Schema) (v : Value) → writes_fault schema [] ws ≡ None → are_in_range ws ≡ true → member_at schema i ≡ Some m → first_value schema ws i ≡ Some v → IsFittingWrite (at_member i m v)
-first_fitting schema ws i m v conforming range at e =
-    (find_has IsFittingWrite i (all_resolved schema ws) (at_member i m v) (fitting_writes schema ws conforming range) (first_found schema ws i m v at e)).0
+pub fitting_first : (schema : Schema) (ws : List Write) (i : ℕ) (m : Schema) (v : Value) → AllByRecursion IsFittingWrite (all_resolved schema ws) → member_at schema i ≡ Some m → first_value schema ws i ≡ Some v → IsFittingWrite (at_member i m v)
+fitting_first schema ws i m v fitting at e = (find_has IsFittingWrite i (all_resolved schema ws) (at_member i m v) fitting (first_found schema ws i m v at e)).0
 
-pub placed_value : (schema : Schema) (ws : List Write) (i : ℕ) (m : Schema) (v : Value) → HasTypedWrites schema ws → member_at schema i ≡ Some m → is_placed_at (binding_of m) ≡ true → first_value schema ws i ≡ Some v → IsPlacedValue m v
-placed_value schema ws i m v typed at placed e =
-    let fitting = first_fitting schema ws i m v typed.conforming typed.in_range at e in
-    let bound : is_bound m ≡ true = placed_bound (binding_of m) placed in
-    let fit = bound_fits (fits m.node.kind v) (is_null v) (is_bound m) bound fitting.fits in
-    let fault : bound_fault (at_member i m v) ≡ None = conforming_bound schema ws typed.conforming i (at_member i m v) (first_found schema ws i m v at e) placed in
+pub first_fitting : (schema : Schema) (ws : List Write) (i : ℕ) (m : Schema) (v : Value) → writes_fault schema [] ws ≡ None → are_in_range ws ≡ true → member_at schema i ≡ Some m → first_value schema ws i ≡ Some v → IsFittingWrite (at_member i m v)
+first_fitting schema ws i m v conforming range at e = fitting_first schema ws i m v (fitting_writes schema ws conforming range) at e
+
+-- so it is placed, where it has no fault, each key once and the formats of its schema
+pub placed_of : (i : ℕ) (m : Schema) (v : Value) → IsFittingWrite (at_member i m v) → is_placed_at (binding_of m) ≡ true → bound_fault (at_member i m v) ≡ None
+    → (fits m.node.kind v ≡ true → has_distinct_keys v ≡ true) → has_own_formats m v ≡ true → IsPlacedValue m v
+placed_of i m v fitting placed fault keys formats =
+    let fit = bound_fits (fits m.node.kind v) (is_null v) (is_bound m) (placed_bound (binding_of m) placed) fitting.fits in
     let a = no_first (value_fault m v) (pairs_fault m (inserted_at (binding_of m) m v)) fault in
     let b = no_first (item_fault m v) (first_of_all (key_fault m v ∷ year_fault m v ∷ [])) a.0 in
     let c = no_first (key_fault m v) (first_of_all (year_fault m v ∷ [])) b.1 in
     let d = no_first (year_fault m v) None c.1 in
     let x = texts_there m v (texts m v) _ d.0 in
-    let tests : (not (is_placed_at (binding_of m)) || (has_distinct_keys v && has_own_formats m v)) ≡ true = first_has (λ r. IsTrue (is_placed_typed r)) schema ws i m v at e typed.bound in
-    let both = and_parts (has_distinct_keys v) (has_own_formats m v) (ap (λ b. not b || (has_distinct_keys v && has_own_formats m v)) (sym placed) ∙ tests) in
     record {
-      value = record { fits = fit; in_range = fitting.in_range; items = b.0; formats = both.1 };
-      keys = both.0;
+      value = record { fits = fit; in_range = fitting.in_range; items = b.0; formats = formats };
+      keys = keys fit;
       paired = c.0;
       ts = x.0;
       texts = x.1;
       headers = a.1;
     }
+
+pub placed_value : (schema : Schema) (ws : List Write) (i : ℕ) (m : Schema) (v : Value) → HasTypedWrites schema ws → member_at schema i ≡ Some m → is_placed_at (binding_of m) ≡ true → first_value schema ws i ≡ Some v → IsPlacedValue m v
+placed_value schema ws i m v typed at placed e =
+    let tests : (not (is_placed_at (binding_of m)) || (has_distinct_keys v && has_own_formats m v)) ≡ true = first_has (λ r. IsTrue (is_placed_typed r)) schema ws i m v at e typed.bound in
+    let both = and_parts (has_distinct_keys v) (has_own_formats m v) (ap (λ b. not b || (has_distinct_keys v && has_own_formats m v)) (sym placed) ∙ tests) in
+    placed_of i m v (first_fitting schema ws i m v typed.conforming typed.in_range at e) placed
+    (conforming_bound schema ws typed.conforming i (at_member i m v) (first_found schema ws i m v at e) placed) (λ fit. both.0) both.1
 
 -- the normal form's part of a bound member
 pub bound_view_of : (schema : Schema) (ws : List Write) (i : ℕ) (m : Schema) (b : Binding) → member_at schema i ≡ Some m → binding_of m ≡ b → is_outside_body b ≡ true

@@ -1,6 +1,7 @@
 -- Members by position, and names that tell positions apart.
-use Rattle.smithy_unambiguity.proofs.Common.{◌≡◌, ◌≢◌, refl, ◌∙◌, ap, subst, ℕ, zero, suc, Bool, List, [], ◌∷◌, filter_map, slice_get, Option, Some, None, option_and_then, is_some, AllByRecursion, list_all, cons_option, and_parts, same_text, are_distinct, AreDistinct, Schema, at_place, members_of, member_at, query_names, AreDistinct-from_test, same_text_self, IsCheckedInput, list_any, enumerate_from, arith, or_right, true, is_one_of, ◌||◌, sym, ◌+◌}
+use Rattle.smithy_unambiguity.proofs.Common.{◌≡◌, ◌≢◌, refl, ◌∙◌, ap, subst, ℕ, zero, suc, Bool, List, [], ◌∷◌, filter_map, slice_get, Option, Some, None, option_and_then, is_some, AllByRecursion, list_all, cons_option, and_parts, same_text, are_distinct, AreDistinct, Schema, at_place, members_of, member_at, query_names, AreDistinct-from_test, same_text_self, IsCheckedInput, IsTrue, has_cited_nodes, member_names, list_any, enumerate_from, arith, or_right, true, is_one_of, ◌||◌, sym, ◌+◌, has_sound_headers, has_at_most_one, has_sound_payload}
 use Rattle.smithy_unambiguity.proofs.Lists.{all_placed}
+use Rattle.smithy_unambiguity.proofs.SoundMaps.{sound_maps}
 
 -- two members with one query name are one
 abbrev pub HasApartQueries : Schema → Type 0
@@ -20,16 +21,40 @@ slice_get-filter_map {Y = Y} f (x ∷ xs) (suc i) all = go (f x) (and_parts (is_
     go None e rest = absurd (cc e)
     go (Some y) e rest = rest
 
+-- what every checked schema has, of an input or an output: members at their places, under names of their own
+pub record HasOwnNames (schema : Schema) : Type 0 where
+  pub cited : IsTrue (has_cited_nodes schema)
+  pub names : AreDistinct (member_names schema)
+
+pub own_names : (schema : Schema) → IsCheckedInput schema → HasOwnNames schema
+own_names schema checked = record { cited = checked.cited; names = checked.names }
+
 -- the members of a schema whose cited nodes are there, by position
-pub members_by_position : (schema : Schema) → IsCheckedInput schema → (i : ℕ) → slice_get (members_of schema) i ≡ member_at schema i
-members_by_position schema checked i =
-    slice_get-filter_map (at_place schema.table) schema.node.members i (and_parts (list_all (λ p. is_some (at_place schema.table p)) schema.node.members) _ checked.cited).0
+pub members_by_position : (schema : Schema) → IsTrue (has_cited_nodes schema) → (i : ℕ) → slice_get (members_of schema) i ≡ member_at schema i
+members_by_position schema cited i =
+    slice_get-filter_map (at_place schema.table) schema.node.members i (and_parts (list_all (λ p. is_some (at_place schema.table p)) schema.node.members) _ cited).0
+
+-- What a checked schema says of the headers and the body of its messages: of an input that of its requests, of an output that of its
+-- responses, by the schema as these have it.
+pub record IsSoundMessage (schema : Schema) : Type 0 where
+  pub by_position : (i : ℕ) → slice_get (members_of schema) i ≡ member_at schema i
+  pub headers : IsTrue (has_sound_headers schema)
+  pub one_prefix_map : IsTrue (has_at_most_one (λ t. is_some t.http_prefix_headers) schema)
+  pub payload : IsTrue (has_sound_payload schema)
+
+pub sound_input : (schema : Schema) → IsCheckedInput schema → IsSoundMessage schema
+sound_input schema checked = record {
+  by_position = members_by_position schema checked.cited;
+  headers = (and_parts (has_sound_headers schema) (are_distinct (query_names schema)) checked.unlike_names).0;
+  one_prefix_map = (sound_maps schema checked).one_prefix_map;
+  payload = checked.payload;
+}
 
 -- each member stands at its place
 pub members_placed : (schema : Schema) → IsCheckedInput schema → AllByRecursion (λ p. member_at schema p.0 ≡ Some p.1) (enumerate_from 0 (members_of schema))
 members_placed schema checked =
     all_placed (λ p. member_at schema p.0 ≡ Some p.1) 0 (members_of schema)
-    (λ j m at. let none_more : 0 + j ≡ j = omega arith in ap (member_at schema) none_more ∙ sym (members_by_position schema checked j) ∙ at)
+    (λ j m at. let none_more : 0 + j ≡ j = omega arith in ap (member_at schema) none_more ∙ sym (members_by_position schema checked.cited j) ∙ at)
 
 -- what holds of each name holds of a member's
 pub at_name : (P : List ℕ → Type 0) (h : Schema → Option (List ℕ)) (ms : List Schema) (j : ℕ) (n : Schema) (name : List ℕ) → AllByRecursion P (filter_map h ms) → slice_get ms j ≡ Some n → h n ≡ Some name → P name
@@ -68,7 +93,7 @@ pub queries_apart : (schema : Schema) → IsCheckedInput schema → HasApartQuer
 queries_apart schema checked i j m n name at_i at_j is_m is_n =
     let distinct = AreDistinct-from_test (query_names schema) (and_parts _ (are_distinct (query_names schema)) checked.unlike_names).1 in
     apart_at (λ k. k.node.traits.http_query) (members_of schema) distinct i j m n name
-    (members_by_position schema checked i ∙ at_i) (members_by_position schema checked j ∙ at_j) is_m is_n
+    (members_by_position schema checked.cited i ∙ at_i) (members_by_position schema checked.cited j ∙ at_j) is_m is_n
 
 -- a test that a member's name passes
 pub any_at : (p : List ℕ → Bool) (h : Schema → Option (List ℕ)) (ms : List Schema) (j : ℕ) (n : Schema) (name : List ℕ) → slice_get ms j ≡ Some n → h n ≡ Some name → p name ≡ true → list_any p (filter_map h ms) ≡ true
@@ -83,4 +108,4 @@ any_at p h (x ∷ ms) (suc j) n name e is pass = go (h x) (any_at p h ms j n nam
 
 pub query_name_found : (schema : Schema) → IsCheckedInput schema → (i : ℕ) (m : Schema) (name : List ℕ) → member_at schema i ≡ Some m → m.node.traits.http_query ≡ Some name → is_one_of name (query_names schema) ≡ true
 query_name_found schema checked i m name at is =
-    any_at (same_text name) (λ k. k.node.traits.http_query) (members_of schema) i m name (members_by_position schema checked i ∙ at) is (same_text_self name)
+    any_at (same_text name) (λ k. k.node.traits.http_query) (members_of schema) i m name (members_by_position schema checked.cited i ∙ at) is (same_text_self name)

@@ -91,7 +91,7 @@ pairs_of_map schema checked ws i m name at query_map unnamed = pairs_at_name sch
     others r at_r other =
         nothing_asked schema name r (unnamed r.position r.member at_r)
         (false_from_ne_true (stands_at to_query_map (binding_of r.member)) (λ e.
-        other (single (λ m. m.node.traits.http_query_params) (members_of schema) one r.position i r.member m (members_by_position schema checked r.position ∙ at_r) (members_by_position schema checked i ∙ at)
+        other (single (λ m. m.node.traits.http_query_params) (members_of schema) one r.position i r.member m (members_by_position schema checked.cited r.position ∙ at_r) (members_by_position schema checked.cited i ∙ at)
         (trait_of r.member to_query_map (stands_there to_query_map (binding_of r.member) e)) (trait_of m to_query_map query_map))))
 
     go : (o : Option Value) → option_map_or (λ v. asked schema name (at_member i m v)) o [] ≡ cond (is_one_of name (query_names schema)) [] (values_at name (flat_map text_pairs (written_texts o)))

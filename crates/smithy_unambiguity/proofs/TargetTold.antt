@@ -13,7 +13,7 @@ use Rattle.smithy_unambiguity.proofs.Labels.{path_tells_labels}
 use Rattle.smithy_unambiguity.proofs.MemberTexts.{query_told, query_list_told, bound_list, list_of_element}
 use Rattle.smithy_unambiguity.proofs.Members.{member_in_place, names_apart, all_have_names, HasApartNames}
 use Rattle.smithy_unambiguity.proofs.Placed.{IsPlacedValue, placed_value, member_among}
-use Rattle.smithy_unambiguity.proofs.Positions.{members_by_position}
+use Rattle.smithy_unambiguity.proofs.Positions.{members_by_position, own_names}
 use Rattle.smithy_unambiguity.proofs.Queries.{query_tells_texts}
 use Rattle.smithy_unambiguity.proofs.QueryNames.{pairs_of_member}
 use Rattle.smithy_unambiguity.proofs.TemplateQuery.{pieces_of_template, query_leaves_path}
@@ -59,7 +59,7 @@ label_member_told protocol schema endpoint omit v w are i m at kinds label =
     (sym (of_first v) ∙ told ∙ of_first w)))
   where
     apart : HasApartNames schema
-    apart = names_apart schema are.checked are.setting.well_made
+    apart = names_apart schema (own_names schema are.checked) are.setting.well_made
 
     of_first : (ws : List Write) → found (name_of m) (labels schema ws) ≡ front (first_texts m (first_value schema ws i))
     of_first ws = found-front (name_of m) (labels schema ws) ∙ ap front (label_of_first schema apart ws i m at label)
@@ -71,7 +71,7 @@ label_member_told protocol schema endpoint omit v w are i m at kinds label =
         (labels_are_bytes schema v are.writes_v.conforming are.writes_v.in_range) (labels_are_bytes schema w are.writes_w.conforming are.writes_w.in_range)
         (all_have_names (λ n. n.node.traits.http_label) schema are.setting.well_made) (clear_template schema endpoint are.checked are.typed_v.clear) are.request_v.fills are.request_w.fills
         (sym (query_leaves_path are.request_v.path (pairs schema v)) ∙ are.seen.paths ∙ query_leaves_path are.request_w.path (pairs schema w)))
-        (members_by_position schema are.checked i ∙ at) (trait_of m to_label label)
+        (members_by_position schema are.checked.cited i ∙ at) (trait_of m to_label label)
 
 -- The query.
 

@@ -7,7 +7,7 @@ use Rattle.smithy_strings.proofs.UnwireLaws.{unwire_is_exact}
 use Rattle.smithy_unambiguity.proofs.Fits.{is_flat, taken}
 
 -- a value of a flat kind is read back from its text
-wire_back : (format : Option TimestampFormat) (media : Bool) (place : Place) (k : ShapeType) (v : Value) (t : List ℕ) → is_flat k ≡ true → fits_in_range k v ≡ true → wire format media place v ≡ Some t
+pub wire_back : (format : Option TimestampFormat) (media : Bool) (place : Place) (k : ShapeType) (v : Value) (t : List ℕ) → is_flat k ≡ true → fits_in_range k v ≡ true → wire format media place v ≡ Some t
     → option_map (λ x. value.scalar x) (unwired format media place k t) ≡ Some v
 wire_back format media place k (value.scalar x) t flat fit e =
     let parts = and_parts (is_in_range (value.scalar x)) (fits k (value.scalar x)) fit in

@@ -1,23 +1,23 @@
 -- The normal form has the same body.
-use Rattle.smithy_unambiguity.proofs.Common.{◌≡◌, refl, sym, ◌∙◌, ap, subst, ℕ, ◌+◌, ◌⊎◌, inl, inr, Bool, true, false, not, cond, List, [], ◌∷◌, map, filter, find, filter_map, Option, Some, None, option_map, option_and_then, unwrap_or, if◌then◌else◌, AllByRecursion, enumerate_from, cons_option, result_ok, Document, Schema, member_at, members_of as nodes_of, to_payload, binding_of, is_bound, is_well_made, Value, Write, no_writes, writes_of, label_of, document_of, doc_of, is_kind, settled, last_named, field_of, Resolved, all_resolved, firsts, is_payload, is_codec_kind, form_in, body_parts, body, document_value, document_by, raw_bytes, text_of_document, bytes_by, IsCheckedInput, view, member_view, unless_empty, Protocol, OmitFlags, IsTyped, cond_both}
+use Rattle.smithy_unambiguity.proofs.Common.{◌≡◌, refl, sym, ◌∙◌, ap, subst, ℕ, ◌+◌, ◌⊎◌, inl, inr, Bool, true, false, not, cond, List, [], ◌∷◌, map, filter, find, filter_map, Option, Some, None, option_map, option_and_then, unwrap_or, if◌then◌else◌, AllByRecursion, enumerate_from, cons_option, result_ok, Document, Schema, member_at, members_of as nodes_of, to_payload, binding_of, is_bound, is_well_made, Value, Write, no_writes, writes_of, label_of, document_of, doc_of, is_kind, settled, field_of, Resolved, all_resolved, firsts, is_payload, is_codec_kind, form_in, body_parts, body, document_value, document_by, raw_bytes, text_of_document, bytes_by, IsCheckedInput, view, member_view, unless_empty, Protocol, OmitFlags, IsTyped, cond_both}
 use Rattle.smithy_types.specs.Documents as doc
 use Rattle.smithy_ids.specs.declared.shape_type.ShapeType.TheVariants as kind
 use Rattle.smithy_serde.specs.Values as value
 use Rattle.smithy_binding.specs.declared.body_form.BodyForm.{BodyForm}
 use Rattle.smithy_binding.specs.declared.body_form.BodyForm.TheVariants as form
 use Rattle.smithy_document.proofs.NormalDocuments.{normal_document}
-use Rattle.smithy_unambiguity.proofs.BodyObject.{IsBodied, typed_bodied, body_node, bodied_writes, body_fields, body_field, free_view_shaped}
+use Rattle.smithy_unambiguity.proofs.BodyObject.{IsBodied, typed_bodied, body_node, bodied_writes, body_fields, free_view_shaped, fields_placed, free_view, unless_bound}
 use Rattle.smithy_unambiguity.proofs.ByMember.{at_member, first_value}
 use Rattle.smithy_unambiguity.proofs.Conforming.{resolved_at}
 use Rattle.smithy_unambiguity.proofs.Firsts.{all_firsts}
 use Rattle.smithy_unambiguity.proofs.Lists.{all_apply, all_made}
-use Rattle.smithy_unambiguity.proofs.Members.{member_in_place}
 use Rattle.smithy_unambiguity.proofs.PayloadTold.{body_bytes, document_value_is, payload_is, payload_value, payload_own_text, payload_view, codec_view, codec_payload, HasOwnText}
 use Rattle.smithy_unambiguity.proofs.Placed.{bound_view_of}
-use Rattle.smithy_unambiguity.proofs.Positions.{members_placed}
+use Rattle.smithy_unambiguity.proofs.Positions.{members_placed, own_names, sound_input}
 use Rattle.smithy_unambiguity.proofs.UnboundTold.{body_value, unbound_own_text}
 use Rattle.smithy_unambiguity.proofs.ViewParts.{member_or, SomeOrNone}
 use Rattle.smithy_unambiguity.proofs.ViewWrites.{own_resolved, resolved_view, first_value_of_view}
+use Rattle.smithy_serde.specs.ValueRead.{write_by}
 
 -- What holds of each member's part holds of each write of the normal form.
 
@@ -44,8 +44,8 @@ raw_left _ = refl
 
 -- The structure of the unbound members.
 
-pub bodied_view : (schema : Schema) (ws : List Write) → IsCheckedInput schema → is_well_made schema ≡ true → AllByRecursion (IsBodied schema) (all_resolved schema ws) → AllByRecursion (IsBodied schema) (all_resolved schema (view schema ws))
-bodied_view schema ws checked well_made bodied = all_of_view (IsBodied schema) schema ws checked well_made (λ i m u at e. record { at = at; shaped = λ free. free_view_shaped schema ws i m u checked well_made bodied at free e })
+pub bodied_view : (schema : Schema) (ws : List Write) → IsCheckedInput schema → is_well_made schema ≡ true → AllByRecursion (IsBodied is_bound schema) (all_resolved schema ws) → AllByRecursion (IsBodied is_bound schema) (all_resolved schema (view schema ws))
+bodied_view schema ws checked well_made bodied = all_of_view (IsBodied is_bound schema) schema ws checked well_made (λ i m u at e. record { at = at; shaped = λ free. free_view_shaped schema ws i m u checked well_made bodied at free e })
 
 -- the write of an unbound member
 abbrev own_field : Schema → List Write → ℕ × Schema → Option Write
@@ -67,21 +67,15 @@ view_writes schema ws fields k (m ∷ ms) each =
     go true (Some u) is rest = rw is rest
     go false (Some u) is rest = rw is (ap (λ ws. record { label = label_of m; value = u } ∷ ws) rest)
 
-view_settles_body : (schema : Schema) (ws : List Write) → IsCheckedInput schema → is_well_made schema ≡ true → AllByRecursion (IsBodied schema) (all_resolved schema ws) → body_value schema (view schema ws) ≡ settled (Some (body_node schema)) (body_value schema ws)
+view_settles_body : (schema : Schema) (ws : List Write) → IsCheckedInput schema → is_well_made schema ≡ true → AllByRecursion (IsBodied is_bound schema) (all_resolved schema ws) → body_value schema (view schema ws) ≡ settled (Some (body_node schema)) (body_value schema ws)
 view_settles_body schema ws checked well_made bodied =
-    ap (λ rs. value.structure (bodied_writes rs)) (resolved_view schema ws checked well_made)
-    ∙ ap (λ us. value.structure (writes_of us)) (view_writes schema ws (body_fields schema (all_resolved schema ws)) 0 (nodes_of schema)
-    (all_apply (λ p. member_at schema p.0 ≡ Some p.1) (λ p. field_of (body_fields schema (all_resolved schema ws)) p.1 ≡ own_field schema ws p) (enumerate_from 0 (nodes_of schema)) (λ p at. each p.0 p.1 at) (members_placed schema checked)))
+    ap (λ rs. value.structure (bodied_writes is_bound rs)) (resolved_view schema ws checked well_made)
+    ∙ ap (λ us. value.structure (writes_of us)) (view_writes schema ws (body_fields is_bound schema (all_resolved schema ws)) 0 (nodes_of schema)
+    (all_apply (λ p. field_of (body_fields is_bound schema rs) p.1 ≡ option_map (write_by p.1) (free_view is_bound p.0 p.1 rs)) (λ p. field_of (body_fields is_bound schema rs) p.1 ≡ own_field schema ws p) (enumerate_from 0 (nodes_of schema))
+    (λ p e. e ∙ ap (option_map (write_by p.1)) (unless_bound (is_bound p.1) _ _)) (fields_placed is_bound schema (own_names schema checked) well_made rs bodied)))
   where
-    left : (b : Bool) (x o : Option Value) → (if b then None else o) ≡ (if b then None else if b then x else o)
-    left true x o = refl
-    left false x o = refl
-
-    each : (j : ℕ) (m : Schema) → member_at schema j ≡ Some m → field_of (body_fields schema (all_resolved schema ws)) m ≡ own_field schema ws (j, m)
-    each j m at =
-        let member = member_in_place schema j m well_made at in
-        ap (λ o. option_map (λ v. record { label = label_of m; value = v }) (option_and_then (λ n. last_named n (body_fields schema (all_resolved schema ws))) o)) member.name
-        ∙ ap (option_map (λ v. record { label = label_of m; value = v })) (body_field schema checked well_made j m member.own_name at member.name (all_resolved schema ws) bodied ∙ left (is_bound m) _ _)
+    rs : List Resolved
+    rs = all_resolved schema ws
 
 -- The body, by its form.
 
@@ -115,8 +109,8 @@ payload_of_view schema ws checked well_made = go (member_or schema checked (λ m
           x.1,
           x.2,
           payload,
-          payload_value schema checked (view schema ws) x.0 x.1 x.2 payload ∙ first_value_of_view schema ws x.0 x.1 checked well_made x.2 ∙ bound_view_of schema ws x.0 x.1 to_payload x.2 payload refl,
-          payload_value schema checked ws x.0 x.1 x.2 payload,
+          payload_value schema (sound_input schema checked) (view schema ws) x.0 x.1 x.2 payload ∙ first_value_of_view schema ws x.0 x.1 checked well_made x.2 ∙ bound_view_of schema ws x.0 x.1 to_payload x.2 payload refl,
+          payload_value schema (sound_input schema checked) ws x.0 x.1 x.2 payload,
         )
 
 -- bodies with the same bytes are the same: the form is the schema's
@@ -147,7 +141,7 @@ payload_alike : (protocol : Protocol) (schema : Schema) (endpoint : List ℕ) (o
     → form_in schema ≡ form.Payload → PayloadOf schema ws → option_map document_of (body_parts schema (view schema ws)).payload ≡ option_map document_of (body_parts schema ws).payload
 payload_alike protocol schema endpoint omit ws checked well_made typed is (inr none) = ap (option_map document_of) (none.0 ∙ sym none.1)
 payload_alike protocol schema endpoint omit ws checked well_made typed is (inl x) =
-    ap (option_map document_of) (x.4 ∙ codec_view x.1 (first_value schema ws x.0) (codec_payload schema checked x.0 x.1 x.2 x.3 is))
+    ap (option_map document_of) (x.4 ∙ codec_view x.1 (first_value schema ws x.0) (codec_payload schema (sound_input schema checked) x.0 x.1 x.2 x.3 is))
     ∙ kept_document x.1 (first_value schema ws x.0) (payload_own_text protocol schema endpoint omit ws x.0 x.1 checked well_made typed x.2 x.3 is)
     ∙ ap (option_map document_of) (sym x.5)
 

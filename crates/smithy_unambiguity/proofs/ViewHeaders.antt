@@ -15,6 +15,7 @@ use Rattle.smithy_unambiguity.proofs.Queries.{values_at-append}
 use Rattle.smithy_unambiguity.proofs.Traits.{trait_of}
 use Rattle.smithy_unambiguity.proofs.ViewParts.{member_or, bound_part, SomeOrNone}
 use Rattle.smithy_unambiguity.proofs.ViewValues.{header_kept, map_left, ordered_last}
+use Rattle.smithy_unambiguity.proofs.Positions.{sound_input}
 
 -- Header members.
 
@@ -93,7 +94,7 @@ pub headers_of_view : (schema : Schema) (ws : List Write) → IsCheckedInput sch
 headers_of_view schema ws checked well_made typed name = go (member_or schema checked (λ m. named_header name (binding_of m))) (member_or schema checked (λ m. is_prefix (binding_of m)))
   where
     apart : HasApartHeaders schema
-    apart = headers_apart schema checked
+    apart = headers_apart schema (sound_input schema checked)
 
     go : SomeOrNone (member_at schema) (λ m. named_header name (binding_of m)) → SomeOrNone (member_at schema) (λ m. is_prefix (binding_of m))
         → values_at name (headers schema (view schema ws)) ≡ values_at name (headers schema ws)

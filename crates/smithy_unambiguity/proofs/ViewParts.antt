@@ -12,7 +12,7 @@ use Rattle.smithy_unambiguity.proofs.MapsTold.{query_map_view, query_map_at, key
 use Rattle.smithy_unambiguity.proofs.MemberTexts.{list_of_element, bound_list}
 use Rattle.smithy_unambiguity.proofs.Members.{names_apart, HasApartNames}
 use Rattle.smithy_unambiguity.proofs.Placed.{HasTypedWrites, IsPlacedValue, placed_value, bound_view_of, kinds_at}
-use Rattle.smithy_unambiguity.proofs.Positions.{members_by_position}
+use Rattle.smithy_unambiguity.proofs.Positions.{members_by_position, own_names}
 use Rattle.smithy_unambiguity.proofs.QueryNames.{named_query, no_pairs, pairs_of_member, pairs_of_map}
 use Rattle.smithy_unambiguity.proofs.TargetTold.{query_kinds}
 use Rattle.smithy_unambiguity.proofs.Traits.{trait_of, stands_at, stands_there}
@@ -38,7 +38,7 @@ some_or t (x ∷ ms) = go (t x) refl (some_or t ms)
         all (suc j) m at = none j m at
 
 pub member_or : (schema : Schema) → IsCheckedInput schema → (t : Schema → Bool) → SomeOrNone (member_at schema) t
-member_or schema checked t = subst (λ at. SomeOrNone at t) (λ k i. members_by_position schema checked i k) (some_or t (members_of schema))
+member_or schema checked t = subst (λ at. SomeOrNone at t) (λ k i. members_by_position schema checked.cited i k) (some_or t (members_of schema))
 
 -- The parts of the normal form that a bound member's first write leaves.
 
@@ -127,7 +127,7 @@ pub labels_of_view : (schema : Schema) (ws : List Write) → IsCheckedInput sche
 labels_of_view schema ws checked well_made name = found-front name (labels schema (view schema ws)) ∙ ap front (go (member_or schema checked (is_label_named name))) ∙ sym (found-front name (labels schema ws))
   where
     apart : HasApartNames schema
-    apart = names_apart schema checked well_made
+    apart = names_apart schema (own_names schema checked) well_made
 
     go : SomeOrNone (member_at schema) (is_label_named name) → values_at name (labels schema (view schema ws)) ≡ values_at name (labels schema ws)
     go (inr none) = no_labels schema (view schema ws) name none ∙ sym (no_labels schema ws name none)

@@ -86,8 +86,8 @@ view_payload_shaped schema ws checked well_made viewed =
 
 -- The fields that speak of the whole input.
 
-pub unbound_are_shaped : (schema : Schema) (rs : List Resolved) → AllByRecursion (IsBodied schema) rs → AllByRecursion (λ r. IsTrue (is_shaped_write r)) (filter (λ r. not (is_bound r.member)) rs)
-unbound_are_shaped schema rs all = all_kept (IsBodied schema) (λ r. IsTrue (is_shaped_write r)) (λ r. not (is_bound r.member)) rs (λ r free bodied. bodied.shaped (not-true (is_bound r.member) free)) all
+pub unbound_are_shaped : (schema : Schema) (rs : List Resolved) → AllByRecursion (IsBodied is_bound schema) rs → AllByRecursion (λ r. IsTrue (is_shaped_write r)) (filter (λ r. not (is_bound r.member)) rs)
+unbound_are_shaped schema rs all = all_kept (IsBodied is_bound schema) (λ r. IsTrue (is_shaped_write r)) (λ r. not (is_bound r.member)) rs (λ r free bodied. bodied.shaped (not-true (is_bound r.member) free)) all
 
 -- a default is left out beside the same body and the same headers
 writes_default_same : (b : Body) (omit : OmitFlags) (ps qs : List (List ℕ × List ℕ)) (c : Binding) → ((name : List ℕ) → values_at name ps ≡ values_at name qs) → writes_default b omit ps c ≡ writes_default b omit qs c

@@ -1,9 +1,10 @@
 -- The writes of a normal form: one to each member of which it has something.
-use Rattle.smithy_unambiguity.proofs.Common.{◌≡◌, refl, ◌∙◌, ap, ℕ, zero, suc, ◌+◌, ◌<◌, arith, true, false, ◌==◌, List, [], ◌∷◌, find, filter_map, slice_get, Option, Some, None, option_map, option_and_then, is_some, eq-eqb, ne_eqb, enumerate_from, cons_option, Schema, member_at, members_of, Value, Write, label_of, Resolved, resolved, all_resolved, first, position_in, only_if, is_of, IsCheckedInput, is_well_made, view, member_view, AllByRecursion}
+use Rattle.smithy_unambiguity.proofs.Common.{◌≡◌, refl, ◌∙◌, ap, ℕ, zero, suc, ◌+◌, ◌<◌, arith, true, false, ◌==◌, List, [], ◌∷◌, filter_map, slice_get, Option, Some, None, option_map, option_and_then, is_some, eq-eqb, ne_eqb, enumerate_from, cons_option, Schema, member_at, members_of, Value, Write, label_of, Resolved, resolved, all_resolved, first, position_in, only_if, is_of, IsCheckedInput, is_well_made, view, member_view, AllByRecursion, filter, option_to_list, last_of, last_or}
 use Rattle.smithy_unambiguity.proofs.ByMember.{at_member, first_value}
 use Rattle.smithy_unambiguity.proofs.Members.{member_in_place}
 use Rattle.smithy_unambiguity.proofs.Positions.{members_by_position, members_placed}
 use Rattle.smithy_unambiguity.proofs.ViewTold.{own_write}
+use Rattle.smithy_unambiguity.proofs.Lists.{found_alone}
 
 -- the same write with its member
 abbrev pub own_resolved : Schema → List Write → ℕ × Schema → Option Resolved
@@ -33,39 +34,54 @@ unfolding view
 resolved_view schema ws checked well_made = resolved_own schema ws (enumerate_from 0 (members_of schema)) well_made (members_placed schema checked)
 
 -- no write stands at an earlier position
-none_before : (schema : Schema) (ws : List Write) (i k : ℕ) (ms : List Schema) → i < k → find (is_of i) (filter_map (own_resolved schema ws) (enumerate_from k ms)) ≡ None
+none_before : (schema : Schema) (ws : List Write) (i k : ℕ) (ms : List Schema) → i < k → filter (is_of i) (filter_map (own_resolved schema ws) (enumerate_from k ms)) ≡ []
 none_before schema ws i k [] less = refl
 none_before schema ws i k (m ∷ ms) less = go (member_view schema ws k m) (none_before schema ws i (k + 1) ms (omega (arith, less)))
   where
-    go : (o : Option Value) → find (is_of i) (filter_map (own_resolved schema ws) (enumerate_from (k + 1) ms)) ≡ None
-        → find (is_of i) (cons_option (option_map (at_member k m) o) (filter_map (own_resolved schema ws) (enumerate_from (k + 1) ms))) ≡ None
+    go : (o : Option Value) → filter (is_of i) (filter_map (own_resolved schema ws) (enumerate_from (k + 1) ms)) ≡ []
+        → filter (is_of i) (cons_option (option_map (at_member k m) o) (filter_map (own_resolved schema ws) (enumerate_from (k + 1) ms))) ≡ []
     go None rest = rest
     go (Some u) rest = let other : (k == i) ≡ false = ne_eqb k i (λ e. omega (arith, e, less)) in rw other rest
 
 one_at : (schema : Schema) (ws : List Write) (i k j : ℕ) (ms : List Schema) (m : Schema) → slice_get ms j ≡ Some m → k + j ≡ i
-    → find (is_of i) (filter_map (own_resolved schema ws) (enumerate_from k ms)) ≡ own_resolved schema ws (i, m)
+    → filter (is_of i) (filter_map (own_resolved schema ws) (enumerate_from k ms)) ≡ option_to_list (own_resolved schema ws (i, m))
 one_at schema ws i k j [] m at is = absurd (cc at)
 one_at schema ws i k zero (x ∷ ms) m at is =
     let same : x ≡ m = cc at in
     let here : k ≡ i = omega (arith, is) in
-    go (member_view schema ws k x) here (none_before schema ws i (k + 1) ms (omega (arith, is))) ∙ (λ l. own_resolved schema ws (here l, same l))
+    go (member_view schema ws k x) here (none_before schema ws i (k + 1) ms (omega (arith, is))) ∙ (λ l. option_to_list (own_resolved schema ws (here l, same l)))
   where
-    go : (o : Option Value) → k ≡ i → find (is_of i) (filter_map (own_resolved schema ws) (enumerate_from (k + 1) ms)) ≡ None
-        → find (is_of i) (cons_option (option_map (at_member k x) o) (filter_map (own_resolved schema ws) (enumerate_from (k + 1) ms))) ≡ option_map (at_member k x) o
+    go : (o : Option Value) → k ≡ i → filter (is_of i) (filter_map (own_resolved schema ws) (enumerate_from (k + 1) ms)) ≡ []
+        → filter (is_of i) (cons_option (option_map (at_member k x) o) (filter_map (own_resolved schema ws) (enumerate_from (k + 1) ms))) ≡ option_to_list (option_map (at_member k x) o)
     go None here rest = rest
-    go (Some u) here rest = let found : (k == i) ≡ true = eq-eqb k i here in rw found refl
+    go (Some u) here rest = let found : (k == i) ≡ true = eq-eqb k i here in rw found (ap (λ rs. at_member k x u ∷ rs) rest)
 one_at schema ws i k (suc j) (x ∷ ms) m at is = go (member_view schema ws k x) (one_at schema ws i (k + 1) j ms m at (omega (arith, is)))
   where
-    go : (o : Option Value) → find (is_of i) (filter_map (own_resolved schema ws) (enumerate_from (k + 1) ms)) ≡ own_resolved schema ws (i, m)
-        → find (is_of i) (cons_option (option_map (at_member k x) o) (filter_map (own_resolved schema ws) (enumerate_from (k + 1) ms))) ≡ own_resolved schema ws (i, m)
+    go : (o : Option Value) → filter (is_of i) (filter_map (own_resolved schema ws) (enumerate_from (k + 1) ms)) ≡ option_to_list (own_resolved schema ws (i, m))
+        → filter (is_of i) (cons_option (option_map (at_member k x) o) (filter_map (own_resolved schema ws) (enumerate_from (k + 1) ms))) ≡ option_to_list (own_resolved schema ws (i, m))
     go None rest = rest
     go (Some u) rest = let other : (k == i) ≡ false = ne_eqb k i (λ q. omega (arith, q, is)) in rw other rest
 
--- the first write to each position is the one of its member's part
+-- the one write to each position is that of its member's part
+alone_in_view : (schema : Schema) (ws : List Write) (i : ℕ) (m : Schema) → IsCheckedInput schema → is_well_made schema ≡ true → member_at schema i ≡ Some m
+    → filter (is_of i) (all_resolved schema (view schema ws)) ≡ option_to_list (option_map (at_member i m) (member_view schema ws i m))
+alone_in_view schema ws i m checked well_made at =
+    ap (filter (is_of i)) (resolved_view schema ws checked well_made) ∙ one_at schema ws i 0 i (members_of schema) m (members_by_position schema checked.cited i ∙ at) (omega arith)
+
+-- so it is the first
 pub first_of_view : (schema : Schema) (ws : List Write) (i : ℕ) (m : Schema) → IsCheckedInput schema → is_well_made schema ≡ true → member_at schema i ≡ Some m
     → first schema (view schema ws) i ≡ option_map (at_member i m) (member_view schema ws i m)
 first_of_view schema ws i m checked well_made at =
-    ap (find (is_of i)) (resolved_view schema ws checked well_made) ∙ one_at schema ws i 0 i (members_of schema) m (members_by_position schema checked i ∙ at) (omega arith)
+    found_alone (is_of i) (all_resolved schema (view schema ws)) (option_map (at_member i m) (member_view schema ws i m)) (alone_in_view schema ws i m checked well_made at)
+
+-- and the last
+pub last_of_view : (schema : Schema) (ws : List Write) (i : ℕ) (m : Schema) → IsCheckedInput schema → is_well_made schema ≡ true → member_at schema i ≡ Some m
+    → last_of i (all_resolved schema (view schema ws)) ≡ option_map (at_member i m) (member_view schema ws i m)
+last_of_view schema ws i m checked well_made at = ap (last_or None) (alone_in_view schema ws i m checked well_made at) ∙ go (option_map (at_member i m) (member_view schema ws i m))
+  where
+    go : (o : Option Resolved) → last_or None (option_to_list o) ≡ o
+    go None = refl
+    go (Some r) = refl
 
 pub first_value_of_view : (schema : Schema) (ws : List Write) (i : ℕ) (m : Schema) → IsCheckedInput schema → is_well_made schema ≡ true → member_at schema i ≡ Some m
     → first_value schema (view schema ws) i ≡ member_view schema ws i m

@@ -8,10 +8,10 @@ use Rattle.smithy_document.specs.declared.json_codec.JsonCodec.{JsonCodec}
 use Rattle.smithy_binding.specs.Placing.{OmitFlags}
 use Rattle.smithy_binding.specs.Protocols.{Parts}
 use Rattle.smithy_gateway.specs.Answers.{IsRpc, IsRest, NoInput, NoCall}
-use Rattle.smithy_gateway.specs.declared.error.GatewayError.{GatewayError}
+use Rattle.smithy_recovery.specs.declared.error.RecoverError.{RecoverError}
 use Rattle.uses.specs.Gateway.{IsCallOf, IsRequestOf, LacksCall, LacksInput}
 
-module _ (rest rpc : Parts JsonCodec) (table : Table) (place : SchemaIndex) (endpoint : List ℕ) (omit : OmitFlags) (q : Request) (result : Result Request GatewayError) (kind : rest.content_type ≡ codes "application/json") where
+module _ (rest rpc : Parts JsonCodec) (table : Table) (place : SchemaIndex) (endpoint : List ℕ) (omit : OmitFlags) (q : Request) (result : Result Request RecoverError) (kind : rest.content_type ≡ codes "application/json") where
   pub call_by_json : IsRpc (λ _. json_text) (λ _. json_text) rest rpc table place endpoint omit q result → IsCallOf table place endpoint omit q result
   call_by_json is = rw kind at is
 

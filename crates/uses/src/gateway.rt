@@ -3,6 +3,7 @@ ghost use Rattle.std.specs.Prelude.{◌≡◌, IfErr, IfOk};
 ghost use Rattle.smithy_schema.specs.References.{schema_of};
 ghost use Rattle.smithy_serde.specs.StoredValues.{HasNode};
 ghost use Rattle.smithy_binding.specs.Checked.{checked_input as checked};
+ghost use Rattle.smithy_recovery.specs.declared.error.RecoverError.TheVariants as recover_error;
 ghost use Rattle.uses.specs.Gateway.{IsCallOf, IsRequestOf, LacksCall, LacksInput};
 
 use smithy_binding::{HttpBindingProtocol, HttpRpcProtocol, checked_input};
@@ -16,7 +17,7 @@ use std::alloc::Global;
 // Whether a request can be placed by the schema.
 fn is_checked(alloc: Global, schema: SchemaRef<'_>) -> Result<bool, GatewayError>
     ensures value { IfOk result (λ b. b ≡ checked (schema_of schema.entry)) }
-    ensures memory { IfErr result (λ e. e ≡ GatewayError.OutOfMemory) }
+    ensures memory { IfErr result (λ e. e ≡ recover_error.OutOfMemory) }
 {
     match checked_input(alloc, schema) {
         Ok(is_checked) => Ok(is_checked),

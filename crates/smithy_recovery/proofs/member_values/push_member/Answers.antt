@@ -2,8 +2,9 @@ use Rattle.std.proofs.Common.{rules, sym, ap, ◌∙◌, true}
 use Rattle.std.specs.Option.{option_map_or}
 use Rattle.smithy_schema.specs.References.{schema_of}
 use Rattle.smithy_binding.specs.Checked.{has_map_kind}
-use Rattle.smithy_recovery.proofs.MembersKept.{placed_table, placed_there, part_added, no_member_added, part_stops, memory_adds}
+use Rattle.smithy_recovery.proofs.MembersKept.{placed_there, part_added, no_member_added, part_stops, memory_adds}
 use Rattle.smithy_recovery.proofs.member_values.push_member.Goals as goal
+use Rattle.smithy_serde.proofs.ReadValue.{at_place_table}
 
 pub returns-in_default : goal.returns-in_default
 returns-in_default g c = no_member_added (g.C.Codec.holds c.args.codec.now) c.args.cut.now c.args.place.0 c.args.writes.now _ (sym c.in_default.ensures.node)
@@ -16,7 +17,7 @@ bound_part-requires g c =
     record {
       sound = ap (λ o. option_map_or has_map_kind o true) (sym at) ∙ c.requires;
       placed = placed_there t c.args.place.0 m at;
-      table = placed_table t c.args.place.0 m at;
+      table = at_place_table t c.args.place.0 m at;
     }
 
 pub returns-in_err-part : goal.returns-in_err-part
