@@ -3,6 +3,9 @@ use Rattle.std.proofs.Common.{leb-true, lt-ltb, le-leb}
 use Rattle.std.specs.Prelude.{unsigned_abs, int_le, neg_ℤ, codes, ◌+ℤ◌, ◌/◌, ◌%◌}
 use Rattle.smithy_wire.proofs.Common.{◌≡◌, refl, sym, ap, ◌∙◌, ℕ, ◌-◌, ◌+◌, ◌^◌, ◌≤◌, arith, Bool, true, false, cond, if◌then◌else◌, List, [], ◌∷◌, ◌++◌, length, take, drop, Option, Some, None, option_map, ℤ, pos, negsuc, and_parts, and_from, length-append}
 use Rattle.std.proofs.Math.Seq.{drop-append_seam, drop-append-add, take-append_seam}
+use Rattle.std.specs.Option.{option_or}
+use Rattle.std.specs.Str.{str_to_ascii_uppercase}
+use Rattle.smithy_types.specs.TimestampReading.{timestamp_of}
 use Rattle.smithy_types.specs.Texts.{same_text}
 use Rattle.smithy_types.specs.declared.date_time.Format.{Format}
 use Rattle.smithy_types.specs.declared.date_time.Format.TheVariants.{EpochSeconds, DateTime, HttpDate}
@@ -45,7 +48,7 @@ within_calendar format z t is = go (is_in_calendar z) is
     go false is = absurd (cc is)
 
 pub spelled_date_time : (z : ℤ) (t : List ℕ) → timestamp_text DateTime z ≡ Some t → spelled DateTime t ≡ Some z
-spelled_date_time z t is = time_back DateTime z t (in_range z (within_calendar DateTime z t is)) is
+spelled_date_time z t is = ap (λ o. option_or o (timestamp_of DateTime (str_to_ascii_uppercase t))) (time_back DateTime z t (in_range z (within_calendar DateTime z t is)) is)
 
 pub spelled_http_date : (z : ℤ) (t : List ℕ) → timestamp_text HttpDate z ≡ Some t → spelled HttpDate t ≡ Some z
 spelled_http_date z t is = time_back HttpDate z t (in_range z (within_calendar HttpDate z t is)) is

@@ -1,12 +1,18 @@
 -- The texts of times in bodies (Smithy, timestampFormat trait).
 use Rattle.std.specs.Prelude.{ℕ, ◌-◌, codes, List, length, take, drop, ℤ, Option, Some, None, if◌then◌else◌}
+use Rattle.std.specs.Option.{option_or}
+use Rattle.std.specs.Str.{str_to_ascii_uppercase}
 use Rattle.smithy_types.specs.declared.date_time.Format.{Format}
+use Rattle.smithy_types.specs.declared.date_time.Format.TheVariants.{DateTime, EpochSeconds, HttpDate}
 use Rattle.smithy_types.specs.TimestampReading.{timestamp_of}
 use Rattle.smithy_wire.specs.Words.{same_text}
 
--- the point in time that a text spells in a format: a date-time of RFC 3339 with the zone `Z`, or a date of RFC 7231, section 7.1.1.1
+-- The point in time that a text spells in a format: a date-time of RFC 3339 with the zone `Z`, letters in either case, or a date of
+-- RFC 7231, section 7.1.1.1.
 abbrev pub spelled : Format → List ℕ → Option ℤ
-spelled format text = timestamp_of format text
+spelled DateTime text = option_or (timestamp_of DateTime text) (timestamp_of DateTime (str_to_ascii_uppercase text))
+spelled EpochSeconds text = timestamp_of EpochSeconds text
+spelled HttpDate text = timestamp_of HttpDate text
 
 -- what stands before so many bytes at the end of a text, and these
 abbrev pub before_end : ℕ → List ℕ → List ℕ

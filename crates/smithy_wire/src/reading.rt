@@ -1,11 +1,13 @@
 // Values of JSON as documents, by a node.
-ghost use Rattle.std.specs.Prelude.{◌≡◌, Ok, option_map};
+ghost use Rattle.std.specs.Prelude.{◌≡◌, Ok, IfOk, option_map};
 ghost use Rattle.smithy_types.specs.DocumentView.{view, number_view};
 ghost use Rattle.smithy_types.specs.Documents as doc;
+ghost use Rattle.smithy_types.specs.TimestampReading.{timestamp_of};
+ghost use Rattle.smithy_types.specs.declared.date_time.Format.TheVariants as time_format;
 ghost use Rattle.smithy_wire.specs.ExactNumbers.{plain_number};
 ghost use Rattle.smithy_wire.specs.Forms as form_of;
 ghost use Rattle.smithy_wire.specs.Unwire.{decimal_read};
-ghost use Rattle.smithy_wire.specs.WireTimes.{before_blank};
+ghost use Rattle.smithy_wire.specs.WireTimes.{before_blank, spelled};
 ghost use Rattle.smithy_wire.specs.Words.{option_map_or};
 ghost use Rattle.smithy_wire.specs.views.FormView.{form_view};
 ghost use Rattle.smithy_wire.specs.views.WireReads.{Reads, ReadsGiven, ReadsItems, ReadsMembers, ReadsNumber, ReadsString, ReadsTime, ReadsValue};
@@ -14,7 +16,7 @@ use crate::exact_numbers::{decimal_number, is_integer, number_text, plain_number
 use crate::forms::{Form, name_in};
 use crate::unread::{ReadError, Step, cannot_read, part_step, within};
 use json::Value;
-use smithy_types::{DateTime, Document, Documents, Format, Members, Number, Text};
+use smithy_types::{DateTime, Document, Documents, Format, Members, Number, OutOfMemory, Text};
 use std::alloc::Global;
 
 // The document of a number, or the refusal of its text.
@@ -85,6 +87,40 @@ fn before_blank(text: &str) -> Option<&str>
     text.strip_suffix(' ')
 }
 
+// The seconds that a text tells in a format.
+fn told_seconds(alloc: Global, format: Format, text: &str) -> Option<i64>
+    ensures { result ≡ timestamp_of format text.now }
+{
+    match DateTime::parse(alloc, text, format) {
+        Ok(time) => Some(time.secs()),
+        Err(_) => None,
+    }
+}
+
+// Those of a date-time with letters in either case.
+fn date_time_seconds(alloc: Global, text: &str) -> Result<Option<i64>, OutOfMemory>
+    ensures { IfOk result (λ o. o ≡ spelled time_format.DateTime text.now) }
+{
+    match told_seconds(alloc, Format::DateTime, text) {
+        Some(seconds) => Ok(Some(seconds)),
+        None => {
+            let capitals = text.to_ascii_uppercase(alloc)?;
+            Ok(told_seconds(alloc, Format::DateTime, capitals.as_str()))
+        }
+    }
+}
+
+// The seconds that a text spells.
+fn spelled_seconds(alloc: Global, format: Format, text: &str) -> Result<Option<i64>, OutOfMemory>
+    ensures { IfOk result (λ o. o ≡ spelled format text.now) }
+{
+    match format {
+        Format::DateTime => date_time_seconds(alloc, text),
+        Format::HttpDate => Ok(told_seconds(alloc, Format::HttpDate, text)),
+        Format::EpochSeconds => Ok(told_seconds(alloc, Format::EpochSeconds, text)),
+    }
+}
+
 fn time_document(
     alloc: Global,
     form: Form<'_>,
@@ -96,9 +132,9 @@ fn time_document(
     if let Some(front) = before_blank(text) {
         return string_document(alloc, front);
     }
-    match DateTime::parse(alloc, text, format) {
-        Ok(time) => Ok(Document::Number(Number::from_i64(time.secs()))),
-        Err(_) => Err(cannot_read(alloc, text, form)),
+    match spelled_seconds(alloc, format, text)? {
+        Some(seconds) => Ok(Document::Number(Number::from_i64(seconds))),
+        None => Err(cannot_read(alloc, text, form)),
     }
 }
 
