@@ -5,3 +5,4 @@ pub mod LenientTexts
 pub mod MemberLemmas
 pub mod RoundTripLemmas
 pub mod WayBackLemmas
+pub mod WireBack

@@ -1,4 +1,5 @@
 pub mod Answering
+pub mod AwsBodies
 pub mod Gateway
 pub mod GetObject
 pub mod LenientText

@@ -1,0 +1,64 @@
+-- Worked rows of the definitions.
+use Rattle.smithy_wire.proofs.Common.{◌≡◌, refl, false, Some, None, pos}
+use Rattle.std.specs.Prelude.{codes, neg_ℤ}
+use Rattle.json.specs.Json as json
+use Rattle.smithy_ids.specs.declared.shape_type.ShapeType.TheVariants as kind
+use Rattle.smithy_types.specs.Documents as doc
+use Rattle.smithy_wire.specs.ExactNumbers.{is_integer, is_number, whole_number}
+use Rattle.smithy_wire.specs.Forms.{free, date_time, http_date, big_integer, big_decimal, whole, document}
+use Rattle.smithy_wire.specs.Unwire.{number_read, string_read}
+use Rattle.smithy_wire.specs.Wire.{wire_number, wire_string}
+use Rattle.smithy_wire.specs.WireText.{unread_text}
+use Rattle.smithy_wire.proofs.OnLiterals.{wire_on_literals}
+
+pub time_as_date_time : wire_number date_time (doc.positive 1515523620) ≡ json.string (codes "2018-01-09T18:47:00Z")
+unfolding wire_on_literals
+time_as_date_time = refl
+
+pub time_past_the_calendar : wire_number http_date (doc.positive 253402300800) ≡ json.number (codes "253402300800")
+unfolding wire_on_literals
+time_past_the_calendar = refl
+
+pub text_where_a_time_stands : wire_string date_time (codes "x") ≡ json.string (codes "x ")
+unfolding wire_on_literals
+text_where_a_time_stands = refl
+
+pub decimal_as_it_is_written : wire_string big_decimal (codes "1.50e-7") ≡ json.number (codes "1.50e-7")
+unfolding wire_on_literals
+decimal_as_it_is_written = refl
+
+pub no_number_of_json : is_number (codes "+5") ≡ false
+unfolding wire_on_literals
+no_number_of_json = refl
+
+pub no_integer : is_integer (codes "1e3") ≡ false
+unfolding wire_on_literals
+no_integer = refl
+
+pub whole_with_a_point : whole_number (codes "-2.50e1") ≡ Some (doc.number_of (neg_ℤ (pos 25)))
+unfolding wire_on_literals
+whole_with_a_point = refl
+
+pub fraction_is_not_whole : number_read (whole kind.Integer) (codes "1.5") ≡ None
+unfolding wire_on_literals
+fraction_is_not_whole = refl
+
+pub free_fraction_is_null : number_read free (codes "1.5") ≡ Some doc.null
+unfolding wire_on_literals
+free_fraction_is_null = refl
+
+pub document_has_no_fraction : number_read document (codes "1.5") ≡ None
+unfolding wire_on_literals
+document_has_no_fraction = refl
+
+pub big_integer_with_an_exponent : number_read big_integer (codes "1e3") ≡ Some (doc.string (codes "1000"))
+unfolding wire_on_literals
+big_integer_with_an_exponent = refl
+
+pub time_that_is_read : string_read http_date (codes "Tue, 09 Jan 2018 18:47:00 GMT") ≡ Some (doc.number (doc.positive 1515523620))
+unfolding wire_on_literals
+time_that_is_read = refl
+
+pub refusal_with_its_path : unread_text record { text = codes "1.5"; word = codes "integer"; path = codes ".Table[2]" } ≡ codes "cannot read 1.5 as integer at Table[2]"
+unfolding wire_on_literals
+refusal_with_its_path = refl

@@ -1,0 +1,19 @@
+use Rattle.smithy_wire.proofs.Common.{◌≡◌, sym, ap, ◌∙◌, length, arith, flat_map}
+use Rattle.std.proofs.lemmas.List.{length-map}
+use Rattle.smithy_schema.specs.References.{schema_of}
+use Rattle.smithy_schema.specs.Nodes.{members_of}
+use Rattle.smithy_wire.specs.WireNames.{names_of}
+use Rattle.smithy_wire.specs.views.ShownNames.{texts_shown}
+use Rattle.smithy_wire.proofs.MemberLemmas.{names_pushed, names_end}
+use Rattle.smithy_wire.proofs.standing.all_names.Goals as goal
+
+pub loop-position-preserved : goal.loop-position-preserved
+loop-position-preserved c =
+    let s = schema_of c.args.schema in
+    names_pushed (texts_shown c.loop-position.names.items) (texts_shown c.push_names_at.new.names.items) s c.loop-position.position (flat_map names_of (members_of s)) c.in_ok-push_names_at.ensures c.loop-position.invariant
+
+pub returns : goal.returns
+returns c =
+    let s = schema_of c.args.schema in
+    let same : length c.members-position-end.result.now ≡ length s.node.members = sym (length-map c.members-position-end.result.now _) ∙ ap length c.members-position-end.ensures.places in
+    names_end (texts_shown c.loop-position.names.items) s c.loop-position.position (flat_map names_of (members_of s)) (omega (arith, same, c.loop-position-test.false)) c.loop-position.invariant

@@ -1,0 +1,25 @@
+-- What the text of a document by a node keeps.
+use Rattle.std.specs.Prelude.{◌≡◌, ℕ, Bool, IsTrue, List, Ok}
+use Rattle.smithy_serde.specs.Lawful.{IsLawfulText, TellsApart, is_sound}
+use Rattle.smithy_wire.specs.Words.{Schema, Document, members_of}
+use Rattle.smithy_wire.specs.declared.side.Side.{Side}
+use Rattle.std.specs.Prelude.{Option}
+use Rattle.smithy_wire.specs.WireNames.{names_stand, swapped}
+use Rattle.smithy_wire.specs.Forms.{Form}
+use Rattle.smithy_wire.specs.Standing.{Stand}
+use Rattle.smithy_wire.specs.Wire.{wire}
+use Rattle.smithy_wire.specs.Unwire.{unwire}
+use Rattle.smithy_wire.specs.WireText.{wire_text, wire_held}
+
+-- two swaps of a name give it back
+abbrev pub UndoesItself : Type 0
+UndoesItself = (side : Option Side) (s : Schema) (name : List ℕ) → IsTrue (names_stand (members_of s)) → swapped side s (swapped side s name) ≡ name
+
+abbrev pub IsReadBack : Type 0
+IsReadBack = (names : Bool) (f : Form) (d : Document) → Stand names f → IsTrue (is_sound d) → unwire names f (wire names f d) ≡ Ok d
+
+abbrev pub IsTextLawful : Type 0
+IsTextLawful = (names : Bool) (f : Form) → Stand names f → IsLawfulText (wire_text names f) (wire_held names f)
+
+abbrev pub TextsDiffer : Type 0
+TextsDiffer = (names : Bool) (f : Form) → Stand names f → TellsApart (wire_text names f)

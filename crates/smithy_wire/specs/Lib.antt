@@ -1,0 +1,13 @@
+pub mod Words
+pub mod ExactNumbers
+pub mod Forms
+pub mod Laws
+pub mod Standing
+pub mod Unwire
+pub mod Wire
+pub mod WireNames
+pub mod WireText
+pub mod WireTimes
+pub mod views
+-- what shows the code, under the path of the other modules too
+pub use Rattle.smithy_wire.specs.views.WireOf

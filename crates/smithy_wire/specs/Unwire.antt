@@ -1,0 +1,80 @@
+-- The document that a JSON value of AWS's protocols is, by a node, or the first refusal.
+use Rattle.std.specs.Prelude.{ℕ, suc, Bool, List, [], ◌∷◌, codes, ◌++◌, decimal, Option, Some, option_map, ok_or, Result, Ok, Err, if◌then◌else◌}
+use Rattle.json.specs.Json as json
+use Rattle.smithy_types.specs.Documents as doc
+use Rattle.smithy_types.specs.Documents.{members_of}
+use Rattle.smithy_types.specs.declared.date_time.Format.{Format}
+use Rattle.smithy_types.specs.declared.date_time.Format.TheVariants.{DateTime, HttpDate}
+use Rattle.smithy_wire.specs.Words.{Json, Document, number_of, number_text, option_map_or, then_try, then_give}
+use Rattle.smithy_wire.specs.declared.unread.Unread.{Unread}
+use Rattle.smithy_wire.specs.ExactNumbers.{is_integer, plain_number, whole_number, decimal_number}
+use Rattle.smithy_wire.specs.WireTimes.{spelled, before_blank}
+use Rattle.smithy_wire.specs.Forms.{Form, free, fields, date_time, http_date, big_integer, big_decimal, whole, element_form, part_form, name_in, form_word}
+
+-- what can't be read as what stands there: the number or the text, the word of the kind that it is to be, and where it stands
+abbrev pub unread : List ℕ → Form → Unread
+unread text f = record { text = text; word = form_word f; path = [] }
+
+-- the steps of a path
+abbrev pub item_step : ℕ → List ℕ
+item_step i = codes "[" ++ (decimal i ++ codes "]")
+
+abbrev pub part_step : Form → List ℕ → List ℕ
+part_step (fields side s) name = codes "." ++ name
+part_step _ name = codes "[\"" ++ (name ++ codes "\"]")
+
+-- one step further out
+abbrev pub within : {A : Type 0} → List ℕ → Result A Unread → Result A Unread
+within step (Ok x) = Ok x
+within step (Err u) = Err record { text = u.text; word = u.word; path = step ++ u.path }
+
+-- a whole number as a document
+abbrev pub whole_read : List ℕ → Option Document
+whole_read s = option_map doc.number (whole_number s)
+
+-- The document of a number. A decimal is its text as it came. Where no node asks, a number that no document holds is null.
+abbrev pub number_read : Form → List ℕ → Option Document
+number_read free s = Some (option_map_or doc.number (plain_number s) doc.null)
+number_read date_time s = whole_read s
+number_read http_date s = whole_read s
+number_read (whole k) s = whole_read s
+number_read big_integer s = if is_integer s then Some (doc.string s) else option_map (λ n. doc.string (number_text n)) (whole_number s)
+number_read big_decimal s = Some (doc.string s)
+number_read _ s = option_map doc.number (plain_number s)
+
+-- a text with a blank at its end, without it; else the seconds that it spells
+abbrev pub time_read : Format → List ℕ → Option Document
+time_read format s = option_map_or (λ front. Some (doc.string front)) (before_blank s) (option_map (λ z. doc.number (number_of z)) (spelled format s))
+
+-- a number where the text is its decimal, else the text
+abbrev pub decimal_read : List ℕ → Document
+decimal_read s = option_map_or doc.number (decimal_number s) (doc.string s)
+
+-- the document of a text
+abbrev pub string_read : Form → List ℕ → Option Document
+string_read date_time s = time_read DateTime s
+string_read http_date s = time_read HttpDate s
+string_read big_integer s = Some (decimal_read s)
+string_read big_decimal s = Some (decimal_read s)
+string_read _ s = Some (doc.string s)
+
+-- the document of a JSON value; of one name the last value stays
+abbrev mutual
+  pub unwire : Bool → Form → Json → Result Document Unread
+  unwire names f json.null = Ok doc.null
+  unwire names f (json.boolean b) = Ok (doc.boolean b)
+  unwire names f (json.number s) = ok_or (number_read f s) (unread s f)
+  unwire names f (json.string s) = ok_or (string_read f s) (unread s f)
+  unwire names f (json.array js) = then_give (unwire_items names (element_form f) 0 js) doc.array
+  unwire names f (json.object ms) = then_give (unwire_pairs names f ms) (λ ps. doc.object (members_of ps))
+
+  pub unwire_items : Bool → Form → ℕ → json.Items → Result doc.Items Unread
+  unwire_items names f i json.no_items = Ok doc.no_items
+  unwire_items names f i (json.item j js) =
+      then_try (within (item_step i) (unwire names f j)) λ d. then_give (unwire_items names f (suc i) js) (doc.item d)
+
+  pub unwire_pairs : Bool → Form → json.Members → Result (List (List ℕ × Document)) Unread
+  unwire_pairs names f json.no_members = Ok []
+  unwire_pairs names f (json.member w j ms) =
+      let k = name_in names f w in
+      then_try (within (part_step f k) (unwire names (part_form f k) j)) λ d. then_give (unwire_pairs names f ms) (λ ps. (k, d) ∷ ps)

@@ -1,0 +1,36 @@
+-- What is seen of the JSON of a node, and what its reader answers.
+use Rattle.std.specs.Prelude.{◌≡◌, ◌⊎◌, Bool, Option, Some, Result, Ok, Err}
+use Rattle.smithy_serde.specs.Held as held
+use Rattle.smithy_serde.specs.Held.{Held}
+use Rattle.smithy_serde.specs.declared.error.SerdeError.{SerdeError}
+use Rattle.smithy_serde.specs.declared.error.SerdeError.TheVariants.{OutOfMemory}
+use Rattle.smithy_types.specs.DocumentView.{view}
+use Rattle.smithy_types.specs.declared.document.Document.{Document}
+use Rattle.json.specs.Json.{Json}
+use Rattle.smithy_serde.specs.Lawful.{IsLawfulText}
+use Rattle.smithy_wire.specs.Forms.{Form}
+use Rattle.smithy_wire.specs.Unwire.{unwire}
+use Rattle.smithy_wire.specs.WireText.{held_of, wire_text, wire_held}
+use Rattle.smithy_wire.specs.declared.wire_json.WireJson.{WireJson}
+use Rattle.smithy_wire.specs.views.FormView.{form_view}
+
+-- the form of its body
+abbrev pub form_in : WireJson → Form
+form_in c = form_view c.form
+
+-- whether JSON names are applied
+abbrev pub names_in : WireJson → Bool
+names_in c = c.json_names
+
+-- the document that a reader would have at hand, or the refusal that it would answer; want of memory is free
+abbrev pub GivesHeld : Option Held → Result Document SerdeError → Type 0
+GivesHeld expected (Ok d) = expected ≡ Some (held.document (view d))
+GivesHeld expected (Err e) = (expected ≡ Some (held.refused e)) ⊎ (e ≡ OutOfMemory)
+
+-- what a reader has at hand of a value
+abbrev pub held_by : WireJson → Json → Option Held
+held_by c j = Some (held_of (unwire (names_in c) (form_in c) j))
+
+-- no text is empty, and each is read back up to the limit of nesting
+abbrev pub IsLawfulWire : WireJson → Type 0
+IsLawfulWire c = IsLawfulText (wire_text (names_in c) (form_in c)) (wire_held (names_in c) (form_in c))

@@ -1,0 +1,67 @@
+-- What a reader of a body answers.
+use Rattle.std.specs.Prelude.{◌≡◌, ℕ, Bool, List, codes, ◌++◌, Option, option_map, ok_or, Result, Ok, Err}
+use Rattle.std.specs.declared.alloc.Global.{Global}
+use Rattle.json.specs.Value.{value_view, items_view, members_view}
+use Rattle.json.specs.declared.value.Value.{Value}
+use Rattle.smithy_types.specs.DocumentView.{view, items_view as documents_view, members_view as fields_view}
+use Rattle.smithy_types.specs.Documents as doc
+use Rattle.smithy_types.specs.declared.date_time.Format.{Format}
+use Rattle.smithy_types.specs.declared.document.Document as code
+use Rattle.smithy_types.specs.declared.document.Documents.{Documents}
+use Rattle.smithy_types.specs.declared.document.Members.{Members}
+use Rattle.smithy_wire.specs.Words.{Bor, Document, Number, then_give}
+use Rattle.smithy_wire.specs.Forms.{Form}
+use Rattle.smithy_wire.specs.Unwire.{item_step, unread, within, number_read, time_read, string_read, unwire, unwire_items, unwire_pairs}
+use Rattle.smithy_wire.specs.declared.unread.Unread.{Unread}
+use Rattle.smithy_wire.specs.declared.unread.ReadError.{ReadError}
+use Rattle.smithy_wire.specs.declared.unread.ReadError.TheVariants as error
+use Rattle.smithy_wire.specs.declared.unread.Step.{Step}
+use Rattle.smithy_wire.specs.declared.unread.Step.TheVariants as step
+
+-- what can't be read, or want of memory
+abbrev pub TellsUnread : Unread → ReadError → Type 0
+TellsUnread u (error.Unread v) = u ≡ v
+TellsUnread u error.OutOfMemory = Unit {0}
+
+-- what is defined, by its view, and what can't be read exactly where nothing is; want of memory is free
+abbrev pub Reads : {A V : Type 0} → (A → V) → Result V Unread → Result A ReadError → Type 0
+Reads view defined (Ok a) = defined ≡ Ok (view a)
+Reads view defined (Err (error.Unread u)) = defined ≡ Err u
+Reads view defined (Err error.OutOfMemory) = Unit {0}
+
+-- the text of a step
+abbrev pub step_view : Step → List ℕ
+step_view (step.Item i) = item_step i
+step_view (step.Field name) = codes "." ++ name.now
+step_view (step.Key name) = codes "[\"" ++ (name.now ++ codes "\"]")
+
+-- a document is read as what is defined of a text
+abbrev pub ReadsGiven : Form → List ℕ → Option Number → Result code.Document ReadError → Type 0
+ReadsGiven f s n result = Reads view (ok_or (option_map doc.number n) (unread s f)) result
+
+abbrev pub ReadsNumber : Form → List ℕ → Result code.Document ReadError → Type 0
+ReadsNumber f s result = Reads view (ok_or (number_read f s) (unread s f)) result
+
+abbrev pub ReadsTime : Format → Form → List ℕ → Result code.Document ReadError → Type 0
+ReadsTime format f s result = Reads view (ok_or (time_read format s) (unread s f)) result
+
+abbrev pub ReadsString : Form → List ℕ → Result code.Document ReadError → Type 0
+ReadsString f s result = Reads view (ok_or (string_read f s) (unread s f)) result
+
+-- and of a value, of the items of an array and of the members of an object
+abbrev pub ReadsValue : Bool → Form → Value Global → Result code.Document ReadError → Type 0
+ReadsValue names f v result = Reads view (unwire names f (value_view v)) result
+
+abbrev pub ReadsItems : Bool → Form → List (Value Global) → Result Documents ReadError → Type 0
+ReadsItems names f vs result = Reads documents_view (unwire_items names f 0 (items_view vs)) result
+
+abbrev pub ReadsMembers : Bool → Form → List (Bor (List ℕ) × Value Global) → Result Members ReadError → Type 0
+ReadsMembers names f ms result = Reads fields_view (then_give (unwire_pairs names f (members_view ms)) doc.members_of) result
+
+-- what was tried behind a step, from one step further out
+abbrev pub ReadsWithin : List ℕ → Result code.Document ReadError → Result code.Document ReadError → Type 0
+ReadsWithin step tried result = (expected : Result Document Unread) → Reads view expected tried → Reads view (within step expected) result
+
+-- the same from one step further out
+abbrev pub IsOutward : List ℕ → Unread → Unread → Type 0
+IsOutward step inner u = u ≡ record { text = inner.text; word = inner.word; path = step ++ inner.path }

@@ -1,0 +1,34 @@
+//! Laws of the JSON of AWS's protocols, each the contract of a function that does nothing.
+ghost use Rattle.smithy_wire.specs.views.WireOf.{IsLawfulWire};
+ghost use Rattle.smithy_wire.specs.Laws.{IsReadBack, IsTextLawful, UndoesItself, TextsDiffer};
+
+use crate::wire_json::WireJson;
+
+/// Where names stand, a name that is changed twice is the name again.
+pub fn swaps_undo_themselves()
+    ensures { UndoesItself }
+{}
+
+/// What is written for a document that a program can hold is read as that document, at each node whose names stand, and at
+/// each node where JSON names are not applied.
+#[tactic(auto, using(crate::proofs::LawfulTexts::is_read_back))]
+pub fn documents_are_read_back()
+    ensures { IsReadBack }
+{}
+
+/// No text is empty, and each text of a document nested up to 100 levels is read back as that document.
+#[tactic(auto, using(crate::proofs::LawfulTexts::is_text_lawful))]
+pub fn texts_are_lawful()
+    ensures { IsTextLawful }
+{}
+
+/// No two documents nested up to 100 levels have one text.
+#[tactic(auto, using(crate::proofs::LawfulTexts::texts_differ))]
+pub fn texts_tell_apart()
+    ensures { TextsDiffer }
+{}
+
+/// The JSON of a node keeps this of its text and what it reads.
+pub fn wire_json_is_lawful(_wire: &WireJson<'_>)
+    ensures { IsLawfulWire _wire.now }
+{}

@@ -1,0 +1,105 @@
+// The names of fields in JSON (Smithy, jsonName trait).
+ghost use Rattle.std.specs.Prelude.{◌≡◌, option_map};
+ghost use Rattle.smithy_wire.specs.Words.{name_of, schema_of};
+ghost use Rattle.smithy_wire.specs.WireNames.{json_name, is_elsewhere, is_field, field_named, field_in_json, swapped};
+ghost use Rattle.smithy_wire.specs.views.MemberSteps.{json_field_at};
+
+use crate::side::Side;
+use smithy_schema::{Binding, SchemaRef};
+
+/// The name of a member, empty where it has none.
+pub(crate) fn name_of<'t>(member: SchemaRef<'t>) -> &'t str
+    ensures { result.now ≡ name_of (schema_of member.entry) }
+{
+    match member.member_name() {
+        Some(name) => name,
+        None => "",
+    }
+}
+
+/// The name of a member in JSON (Smithy, jsonName trait): the trait's value, else the member's name. Takes no memory.
+pub fn json_name<'t>(member: SchemaRef<'t>) -> &'t str
+    ensures { result.now ≡ json_name (schema_of member.entry) }
+{
+    match member.json_name() {
+        Some(name) => name.value(),
+        None => name_of(member),
+    }
+}
+
+// Whether the member stands elsewhere in the message, at whose top it is.
+fn is_elsewhere(side: Option<Side>, member: SchemaRef<'_>) -> bool
+    ensures { result ≡ is_elsewhere side (schema_of member.entry) }
+{
+    match side {
+        None => false,
+        Some(Side::Request) => !matches!(member.request_binding(), Binding::Body),
+        Some(Side::Response) => member.has_http_response_binding(),
+    }
+}
+
+// Whether the member stands in its structure's object.
+fn is_field(side: Option<Side>, member: SchemaRef<'_>) -> bool
+    ensures { result ≡ is_field side (schema_of member.entry) }
+{
+    member.member_name().is_some() && !is_elsewhere(side, member)
+}
+
+/// The field of a structure that has this name. Takes no memory.
+pub(crate) fn field_named<'t>(
+    side: Option<Side>,
+    schema: SchemaRef<'t>,
+    name: &str,
+) -> Option<SchemaRef<'t>>
+    ensures { option_map schema_of result ≡ field_named side (schema_of schema.entry) name.now }
+{
+    let member = schema.member_schema(name)?;
+    if is_field(side, member) {
+        Some(member)
+    } else {
+        None
+    }
+}
+
+// The member at a position, where it is a field that has this name in JSON.
+fn field_at<'t>(
+    side: Option<Side>,
+    schema: SchemaRef<'t>,
+    position: usize,
+    name: &str,
+) -> Option<SchemaRef<'t>>
+    ensures { option_map schema_of result ≡ json_field_at side name.now (schema_of schema.entry) position }
+{
+    let member = schema.member_schema_by_index(position)?;
+    if is_field(side, member) && json_name(member) == name {
+        Some(member)
+    } else {
+        None
+    }
+}
+
+// The first field that has this name in JSON. It looks at one member after another.
+fn field_in_json<'t>(side: Option<Side>, schema: SchemaRef<'t>, name: &str) -> Option<SchemaRef<'t>>
+    ensures { option_map schema_of result ≡ field_in_json side (schema_of schema.entry) name.now }
+{
+    for position in 0..schema.members().len() {
+        if let Some(member) = field_at(side, schema, position, name) {
+            return Some(member);
+        }
+    }
+    None
+}
+
+/// A field's name in JSON for its own, and its own for that in JSON; other names stay. A name that no field has is looked for
+/// among the names in JSON, one after another. Takes no memory.
+pub(crate) fn swapped<'a>(side: Option<Side>, schema: SchemaRef<'a>, name: &'a str) -> &'a str
+    ensures { result.now ≡ swapped side (schema_of schema.entry) name.now }
+{
+    match field_named(side, schema, name) {
+        Some(member) => json_name(member),
+        None => match field_in_json(side, schema, name) {
+            Some(member) => name_of(member),
+            None => name,
+        },
+    }
+}

@@ -1,0 +1,230 @@
+// Values of JSON as documents, by a node.
+ghost use Rattle.std.specs.Prelude.{◌≡◌, Ok, IfOk, option_map};
+ghost use Rattle.smithy_types.specs.DocumentView.{view, number_view};
+ghost use Rattle.smithy_types.specs.Documents as doc;
+ghost use Rattle.smithy_types.specs.TimestampReading.{timestamp_of};
+ghost use Rattle.smithy_types.specs.declared.date_time.Format.TheVariants as time_format;
+ghost use Rattle.smithy_wire.specs.ExactNumbers.{plain_number};
+ghost use Rattle.smithy_wire.specs.Forms as form_of;
+ghost use Rattle.smithy_wire.specs.Unwire.{decimal_read};
+ghost use Rattle.smithy_wire.specs.WireTimes.{before_blank, spelled};
+ghost use Rattle.smithy_wire.specs.Words.{option_map_or};
+ghost use Rattle.smithy_wire.specs.views.FormView.{form_view};
+ghost use Rattle.smithy_wire.specs.views.WireReads.{Reads, ReadsGiven, ReadsItems, ReadsMembers, ReadsNumber, ReadsString, ReadsTime, ReadsValue};
+
+use crate::exact_numbers::{decimal_number, is_integer, number_text, plain_number, whole_number};
+use crate::forms::{Form, name_in};
+use crate::unread::{ReadError, Step, cannot_read, part_step, within};
+use json::Value;
+use smithy_types::{DateTime, Document, Documents, Format, Members, Number, OutOfMemory, Text};
+use std::alloc::Global;
+
+// The document of a number, or the refusal of its text.
+fn number_document(
+    alloc: Global,
+    form: Form<'_>,
+    text: &str,
+    number: Option<Number>,
+) -> Result<Document, ReadError>
+    ensures { ReadsGiven (form_view form.entry) text.now (option_map number_view number) result }
+{
+    match number {
+        Some(number) => Ok(Document::Number(number)),
+        None => Err(cannot_read(alloc, text, form)),
+    }
+}
+
+fn string_document(alloc: Global, text: &str) -> Result<Document, ReadError>
+    ensures { Reads view (Ok (doc.string text.now)) result }
+{
+    Ok(Document::String(Text::from_str(alloc, text)?))
+}
+
+// A number where no node asks for one.
+fn free_number(text: &str) -> Document
+    ensures { view result ≡ option_map_or doc.number (plain_number text.now) doc.null }
+{
+    match plain_number(text) {
+        Some(number) => Document::Number(number),
+        None => Document::Null,
+    }
+}
+
+fn big_integer(alloc: Global, text: &str) -> Result<Document, ReadError>
+    ensures { ReadsNumber form_of.big_integer text.now result }
+{
+    if is_integer(text) {
+        return string_document(alloc, text);
+    }
+    match whole_number(text) {
+        Some(number) => Ok(Document::String(number_text(alloc, number)?)),
+        None => Err(cannot_read(alloc, text, Form::BigInteger)),
+    }
+}
+
+fn read_number(alloc: Global, form: Form<'_>, text: &str) -> Result<Document, ReadError>
+    ensures { ReadsNumber (form_view form.entry) text.now result }
+{
+    match form {
+        Form::Free => Ok(free_number(text)),
+        Form::DateTime => number_document(alloc, form, text, whole_number(text)),
+        Form::HttpDate => number_document(alloc, form, text, whole_number(text)),
+        Form::Whole(_) => number_document(alloc, form, text, whole_number(text)),
+        Form::BigInteger => big_integer(alloc, text),
+        Form::BigDecimal => string_document(alloc, text),
+        Form::Fields(_, _) => number_document(alloc, form, text, plain_number(text)),
+        Form::Items(_) => number_document(alloc, form, text, plain_number(text)),
+        Form::Entries(_) => number_document(alloc, form, text, plain_number(text)),
+        Form::Document => number_document(alloc, form, text, plain_number(text)),
+        Form::Other(_) => number_document(alloc, form, text, plain_number(text)),
+    }
+}
+
+// What stands before a blank at the end of a text.
+fn before_blank(text: &str) -> Option<&str>
+    ensures { option_map (λ t. t.now) result ≡ before_blank text.now }
+{
+    text.strip_suffix(' ')
+}
+
+// The seconds that a text tells in a format.
+fn told_seconds(alloc: Global, format: Format, text: &str) -> Option<i64>
+    ensures { result ≡ timestamp_of format text.now }
+{
+    match DateTime::parse(alloc, text, format) {
+        Ok(time) => Some(time.secs()),
+        Err(_) => None,
+    }
+}
+
+// Those of a date-time with letters in either case.
+fn date_time_seconds(alloc: Global, text: &str) -> Result<Option<i64>, OutOfMemory>
+    ensures { IfOk result (λ o. o ≡ spelled time_format.DateTime text.now) }
+{
+    match told_seconds(alloc, Format::DateTime, text) {
+        Some(seconds) => Ok(Some(seconds)),
+        None => {
+            let capitals = text.to_ascii_uppercase(alloc)?;
+            Ok(told_seconds(alloc, Format::DateTime, capitals.as_str()))
+        }
+    }
+}
+
+// The seconds that a text spells.
+fn spelled_seconds(alloc: Global, format: Format, text: &str) -> Result<Option<i64>, OutOfMemory>
+    ensures { IfOk result (λ o. o ≡ spelled format text.now) }
+{
+    match format {
+        Format::DateTime => date_time_seconds(alloc, text),
+        Format::HttpDate => Ok(told_seconds(alloc, Format::HttpDate, text)),
+        Format::EpochSeconds => Ok(told_seconds(alloc, Format::EpochSeconds, text)),
+    }
+}
+
+fn time_document(
+    alloc: Global,
+    form: Form<'_>,
+    format: Format,
+    text: &str,
+) -> Result<Document, ReadError>
+    ensures { ReadsTime format (form_view form.entry) text.now result }
+{
+    if let Some(front) = before_blank(text) {
+        return string_document(alloc, front);
+    }
+    match spelled_seconds(alloc, format, text)? {
+        Some(seconds) => Ok(Document::Number(Number::from_i64(seconds))),
+        None => Err(cannot_read(alloc, text, form)),
+    }
+}
+
+fn decimal_document(alloc: Global, text: &str) -> Result<Document, ReadError>
+    ensures { Reads view (Ok (decimal_read text.now)) result }
+{
+    match decimal_number(text) {
+        Some(number) => Ok(Document::Number(number)),
+        None => string_document(alloc, text),
+    }
+}
+
+fn read_string(alloc: Global, form: Form<'_>, text: &str) -> Result<Document, ReadError>
+    ensures { ReadsString (form_view form.entry) text.now result }
+{
+    match form {
+        Form::DateTime => time_document(alloc, form, Format::DateTime, text),
+        Form::HttpDate => time_document(alloc, form, Format::HttpDate, text),
+        Form::BigInteger => decimal_document(alloc, text),
+        Form::BigDecimal => decimal_document(alloc, text),
+        Form::Free => string_document(alloc, text),
+        Form::Fields(_, _) => string_document(alloc, text),
+        Form::Items(_) => string_document(alloc, text),
+        Form::Entries(_) => string_document(alloc, text),
+        Form::Whole(_) => string_document(alloc, text),
+        Form::Document => string_document(alloc, text),
+        Form::Other(_) => string_document(alloc, text),
+    }
+}
+
+/// The document that a value of JSON is by a form, or what can't be read. Takes memory.
+#[cycle(read)]
+pub(crate) fn document_of(
+    alloc: Global,
+    json_names: bool,
+    form: Form<'_>,
+    value: &Value<'_>,
+) -> Result<Document, ReadError>
+    ensures { ReadsValue json_names (form_view form.entry) value.now result }
+{
+    match value {
+        Value::Null => Ok(Document::Null),
+        Value::Bool(truth) => Ok(Document::Bool(*truth)),
+        Value::Number(text) => read_number(alloc, form, *text),
+        Value::String(text) => read_string(alloc, form, *text),
+        Value::Array(items) => {
+            let found = items_of(alloc, json_names, form.element(), items)?;
+            Ok(Document::Array(found))
+        }
+        Value::Object(members) => {
+            let found = members_of(alloc, json_names, form, members)?;
+            Ok(Document::Object(found))
+        }
+    }
+}
+
+#[cycle(read)]
+fn items_of(
+    alloc: Global,
+    json_names: bool,
+    form: Form<'_>,
+    items: &Vec<Value<'_>>,
+) -> Result<Documents, ReadError>
+    ensures { ReadsItems json_names (form_view form.entry) items.now.items result }
+{
+    let mut found = Documents::new(alloc);
+    'items: for position in 0..items.len() {
+        let value = &items[position];
+        let tried = document_of(alloc, json_names, form, value);
+        let item = within(alloc, Step::Item(position), tried)?;
+        found.push(item)?;
+    }
+    Ok(found)
+}
+
+#[cycle(read)]
+fn members_of(
+    alloc: Global,
+    json_names: bool,
+    form: Form<'_>,
+    members: &Vec<(&str, Value<'_>)>,
+) -> Result<Members, ReadError>
+    ensures { ReadsMembers json_names (form_view form.entry) members.now.items result }
+{
+    let mut found = Members::new(alloc);
+    'members: for member in members {
+        let name = name_in(json_names, form, member.0);
+        let tried = document_of(alloc, json_names, form.part(name), &member.1);
+        let document = within(alloc, part_step(form, name), tried)?;
+        found.insert(Text::from_str(alloc, name)?, document)?;
+    }
+    Ok(found)
+}

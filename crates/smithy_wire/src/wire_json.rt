@@ -1,0 +1,123 @@
+// JSON as AWS's protocols write it by a node of a table.
+ghost use Rattle.smithy_wire.specs.Standing.{Stand, Stand-prop};
+ghost use Rattle.smithy_wire.specs.views.FormView.{form_view};
+
+use crate::forms::{Form, body_form};
+use crate::json_values::json_in;
+use crate::reading::document_of;
+use crate::side::Side;
+use crate::unread::{ReadError, refusal};
+use crate::writing::wire_blob;
+use json::{Scratch, Value};
+use smithy_json::JsonError;
+use smithy_schema::SchemaRef;
+use smithy_serde::SerdeError;
+use smithy_types::{Blob, Document, Members, OutOfMemory};
+use std::alloc::Global;
+
+/// JSON as AWS's protocols write and read it by a node of a table: JSON names, times as texts, big numbers as numbers.
+#[derive(Drop)]
+pub struct WireJson<'t> {
+    pub(crate) form: Form<'t>,
+    pub(crate) json_names: bool,
+    ghost stand: { Stand json_names (form_view form) } by { Stand-prop json_names (form_view form) },
+}
+
+impl<'t> WireJson<'t> {
+    ghost use Rattle.std.specs.Prelude.{◌≡◌, IfOk, IsTrue, Some};
+    ghost use Rattle.json.specs.Value.{value_view};
+    ghost use Rattle.smithy_types.specs.DocumentView.{view};
+    ghost use Rattle.smithy_wire.specs.Forms as forms;
+    ghost use Rattle.smithy_wire.specs.WireNames.{stands};
+    ghost use Rattle.smithy_wire.specs.WireText.{held_in, json_in, wire_text, wire_held};
+    ghost use Rattle.smithy_wire.specs.Words.{schema_of};
+    ghost use Rattle.smithy_wire.specs.views.WireOf.{form_in, names_in, held_by, GivesHeld};
+
+    /// The JSON of a request's body by the schema of an input, with JSON names where they are to be applied. Condition: then
+    /// names stand, which `names_stand` tests. Takes no memory.
+    #[tactic(auto, using(crate::proofs::StandLemmas::body_stands_as))]
+    pub fn of_input(schema: SchemaRef<'t>, json_names: bool) -> WireJson<'t>
+        requires { IsTrue json_names → IsTrue (stands (schema_of schema)) }
+        ensures form { form_in result ≡ forms.body_form Side.Request (schema_of schema.entry) }
+        ensures names { names_in result ≡ json_names }
+    {
+        WireJson {
+            form: body_form(Side::Request, schema),
+            json_names,
+        }
+    }
+
+    /// The same of a response's body, by the schema of an output or an error.
+    #[tactic(auto, using(crate::proofs::StandLemmas::body_stands_as))]
+    pub fn of_output(schema: SchemaRef<'t>, json_names: bool) -> WireJson<'t>
+        requires { IsTrue json_names → IsTrue (stands (schema_of schema)) }
+        ensures form { form_in result ≡ forms.body_form Side.Response (schema_of schema.entry) }
+        ensures names { names_in result ≡ json_names }
+    {
+        WireJson {
+            form: body_form(Side::Response, schema),
+            json_names,
+        }
+    }
+
+    /// The same of a body that holds the whole value of a node, whatever bindings it has.
+    #[tactic(auto, using(crate::proofs::StandLemmas::whole_stands_as))]
+    pub fn of_whole(schema: SchemaRef<'t>, json_names: bool) -> WireJson<'t>
+        requires { IsTrue json_names → IsTrue (stands (schema_of schema)) }
+        ensures form { form_in result ≡ forms.whole_form (schema_of schema.entry) }
+        ensures names { names_in result ≡ json_names }
+    {
+        WireJson {
+            form: Form::of(schema),
+            json_names,
+        }
+    }
+
+    /// The compact JSON text of a document. Takes memory for the text.
+    pub fn text(&self, alloc: Global, document: &Document) -> Result<Blob, OutOfMemory>
+        ensures { IfOk result (λ b. b ≡ wire_text (names_in self.now) (form_in self.now) (view document.now)) }
+    {
+        wire_blob(alloc, self.json_names, self.form, document)
+    }
+
+    /// The document that a body is; no bytes are the empty object. Takes memory.
+    ///
+    /// Refuses with `InvalidInput` where the bytes are no JSON in UTF-8 (RFC 8259) or nest deeper than 127, and where a number
+    /// or a time can't be read as its node asks, with the text, the kind and the path.
+    pub fn document(&self, alloc: Global, body: &[u8]) -> Result<Document, SerdeError>
+        ensures { GivesHeld (wire_held (names_in self.now) (form_in self.now) body.now) result }
+    {
+        if body.is_empty() {
+            return Ok(Document::Object(Members::new(alloc)));
+        }
+        let mut scratch = Scratch::new(alloc);
+        self.document_in(alloc, body, &mut scratch)
+    }
+
+    // The same of a body that isn't empty. It is no part of its caller, so that the scratch is not moved.
+    #[inline(never)]
+    fn document_in(
+        &self,
+        alloc: Global,
+        body: &[u8],
+        scratch: &mut Scratch,
+    ) -> Result<Document, SerdeError>
+        ensures { GivesHeld (Some (held_in (names_in self.now) (form_in self.now) (json_in body.now))) result }
+    {
+        match json_in(alloc, body, scratch) {
+            Ok(value) => self.document_of(alloc, &value),
+            Err(JsonError::OutOfMemory) => Err(SerdeError::OutOfMemory),
+            Err(JsonError::Unreadable) => Err(SerdeError::invalid_input(alloc, "body is not JSON")),
+        }
+    }
+
+    fn document_of(&self, alloc: Global, value: &Value<'_>) -> Result<Document, SerdeError>
+        ensures { GivesHeld (held_by self.now (value_view value.now)) result }
+    {
+        match document_of(alloc, self.json_names, self.form, value) {
+            Ok(document) => Ok(document),
+            Err(ReadError::Unread(unread)) => Err(refusal(alloc, &unread)),
+            Err(ReadError::OutOfMemory) => Err(SerdeError::OutOfMemory),
+        }
+    }
+}
