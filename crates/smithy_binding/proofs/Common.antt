@@ -44,7 +44,7 @@ pub use Rattle.smithy_binding.specs.ResponseCodes.{code_write, is_label, status_
 unfoldable pub use Rattle.smithy_binding.specs.ResponseCodes.{written_code}
 pub use Rattle.smithy_binding.specs.declared.direction.Direction.{Direction}
 pub use Rattle.smithy_binding.specs.declared.rules.Rule.{Rule}
-pub use Rattle.smithy_binding.specs.declared.template.CutHole.{CutHole}
+pub use Rattle.smithy_schema.specs.declared.first_hole.CutHole.{CutHole}
 pub use Rattle.smithy_binding.specs.views.Breaking.{broken_among, broken_of, broken_response_among, broken_shown, have_holes, http_rule_among}
 pub use Rattle.smithy_binding.specs.views.Breaking.{broken_header_of, broken_prefix_of, cut_rule_for, hole_rule_for, lower_headers, member_rule_in, method_rule_among}
 pub use Rattle.smithy_binding.specs.views.Breaking.{path_rule_for, template_rule_among, template_rule_for}

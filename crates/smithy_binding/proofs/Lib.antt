@@ -19,6 +19,7 @@ pub mod FittingKinds
 pub mod Gathers
 pub mod HeaderFaults
 pub mod HeaderLaws
+pub mod HoleLemmas
 pub mod JointTests
 pub mod KeptSlashes
 pub mod KeptSteps
@@ -30,7 +31,6 @@ pub mod MemberSteps
 pub mod MessageEnds
 pub mod OnLiterals
 pub mod PayloadMembers
-pub mod PieceLemmas
 pub mod PlacedKinds
 pub mod PlacingLaws
 pub mod QueryEnds

@@ -11,6 +11,7 @@ pub use Rattle.smithy_schema.specs.References.{schema_of}
 pub use Rattle.smithy_schema.specs.ShownBindings.{binding_shown}
 pub use Rattle.smithy_schema.specs.Templates.{Hole, Piece, Template, has_unclosed_brace, hole_of, holes_of}
 unfoldable pub use Rattle.smithy_schema.specs.Templates.{pieces}
+pub use Rattle.smithy_schema.specs.declared.first_hole.CutHole.{CutHole}
 pub use Rattle.smithy_schema.specs.declared.schema_ref.SchemaRef.{SchemaRef}
 pub use Rattle.smithy_serde.specs.DocumentOf.{doc_of, document_fault, document_fault_text}
 pub use Rattle.smithy_serde.specs.Finishing.{IsReady, IsTextOf}

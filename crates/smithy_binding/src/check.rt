@@ -12,6 +12,7 @@ use crate::members::{
     payload_kind,
 };
 use crate::name_check::have_sound_names;
+use crate::place::uri_template;
 use smithy_ids::{PayloadHint, ShapeType};
 use smithy_schema::SchemaRef;
 use smithy_types::{OutOfMemory, is_token};
@@ -79,7 +80,7 @@ fn is_sound_http<'t>(
     if !is_token(http.method()) {
         return Ok(false);
     }
-    let is_clear = is_clear_among(alloc, http.uri(), members)?;
+    let is_clear = is_clear_among(alloc, uri_template(schema, ""), members)?;
     if !is_clear {
         return Ok(false);
     }

@@ -7,7 +7,9 @@ ghost use Rattle.smithy_binding.specs.views.ClearParts.{is_marked_once, MarksOnc
 ghost use Rattle.smithy_binding.specs.views.CutTemplate.{hole_shown, template_shown};
 ghost use Rattle.smithy_binding.specs.views.TargetParts.{is_close};
 
-use crate::template::{CutHole, CutTemplate, cut};
+use crate::template::{CutTemplate, cut_template};
+use crate::uri_template::UriTemplate;
+use smithy_schema::CutHole;
 use smithy_types::{before_query, behind_scheme, legal_target};
 use std::alloc::{AllocError, Global};
 use std::collections::BTreeMap;
@@ -183,16 +185,17 @@ fn are_clear_holes(template: &CutTemplate<'_>, have_one: bool, count: usize) -> 
 /// path, one for each label and no other, and only the last may be greedy. Takes memory.
 pub fn is_clear<'t>(
     alloc: Global,
-    text: &'t str,
+    uri: UriTemplate<'t>,
     labels: &[&'t str],
     count: usize,
 ) -> Result<bool, AllocError>
-    ensures { IfOk result (λ b. b ≡ is_clear_for text.now (texts_shown labels.now) count) }
+    ensures { IfOk result
+        (λ b. b ≡ is_clear_for uri.entry.text.now (texts_shown labels.now) count) }
 {
-    if has_unclosed_brace(text) {
+    if has_unclosed_brace(uri.text) {
         return Ok(false);
     }
-    let template = cut(alloc, text)?;
+    let template = cut_template(alloc, uri)?;
     let filled = filled_by_a(alloc, &template)?;
     if !is_clear_path(&template, filled.as_str()) {
         return Ok(false);

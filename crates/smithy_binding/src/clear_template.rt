@@ -8,7 +8,8 @@ ghost use Rattle.smithy_binding.specs.Typed.{has_clear_template};
 use crate::clear::is_clear;
 use crate::members::{Counted, count, named_members};
 use crate::name_check::{NameKind, names_of};
-use crate::place::template_of;
+use crate::place::uri_template;
+use crate::uri_template::UriTemplate;
 use smithy_schema::SchemaRef;
 use smithy_types::OutOfMemory;
 use std::alloc::{AllocError, Global};
@@ -16,10 +17,11 @@ use std::alloc::{AllocError, Global};
 /// Whether the template is clear for the labels among these members. Takes memory.
 pub fn is_clear_among<'t>(
     alloc: Global,
-    template: &'t str,
+    template: UriTemplate<'t>,
     members: &[SchemaRef<'t>],
 ) -> Result<bool, AllocError>
-    ensures { IfOk result (λ b. b ≡ is_clear_among template.now (shown members.now)) }
+    ensures { IfOk result
+        (λ b. b ≡ is_clear_among template.entry.text.now (shown members.now)) }
 {
     let labels = names_of(alloc, members, NameKind::Label)?;
     let count = count(members, Counted::Label);
@@ -42,6 +44,6 @@ pub fn has_clear_template(
     let Some(members) = named_members(alloc, schema)? else {
         unreachable!()
     };
-    let template = template_of(schema, endpoint);
+    let template = uri_template(schema, endpoint);
     Ok(is_clear_among(alloc, template, members.as_slice())?)
 }

@@ -1,9 +1,10 @@
 // The request of an input (Smithy, HTTP protocol bindings).
 ghost use Rattle.std.specs.Prelude.{◌≡◌, IsTrue, string_bytes};
-ghost use Rattle.smithy_binding.specs.Words.{is_token, is_header_value, schema_of, writes_in, AreDefined, IsReady};
+ghost use Rattle.smithy_binding.specs.Words.{is_token, pieces, is_header_value, schema_of, writes_in, AreDefined, IsReady};
 ghost use Rattle.smithy_binding.specs.Checked.{checked_input};
 ghost use Rattle.smithy_binding.specs.Answer.{legal_request};
 ghost use Rattle.smithy_binding.specs.Placing.{method_of, template_of, endpoint_or_slash};
+ghost use Rattle.smithy_binding.specs.views.LeftTemplates.{template_left};
 ghost use Rattle.smithy_binding.specs.views.Planned.{AnswersPlan};
 ghost use Rattle.smithy_binding.specs.Refusing.{Answers};
 
@@ -11,6 +12,8 @@ use crate::direction::{DirectedSchema, Direction};
 use crate::message::{MessagePlan, place_message};
 use crate::refusal::{not_legal, too_long};
 use crate::target::whole_target;
+use crate::template_rest::TemplateRest;
+use crate::uri_template::UriTemplate;
 use smithy_http::{Headers, Request};
 use smithy_schema::{SchemaRef, Schemas};
 use smithy_serde::{FinishSerializer, OmitFlags, SerdeError, WriteList};
@@ -34,6 +37,26 @@ pub fn template_of<'t>(schema: SchemaRef<'t>, endpoint: &'t str) -> &'t str
         return http.uri();
     }
     endpoint_or_slash(endpoint)
+}
+
+// The pieces that the schema keeps of its own template, or else the endpoint.
+fn template_rest<'t>(schema: SchemaRef<'t>, endpoint: &'t str) -> TemplateRest<'t>
+    ensures { template_left result ≡ pieces (template_of (schema_of schema.entry) endpoint.now) }
+{
+    match schema.template_pieces() {
+        Some(pieces) => TemplateRest::Pieces(pieces.as_slice()),
+        None => TemplateRest::Text(endpoint_or_slash(endpoint)),
+    }
+}
+
+/// The same template, cut as far as the schema keeps it so. Takes no memory.
+pub fn uri_template<'t>(schema: SchemaRef<'t>, endpoint: &'t str) -> UriTemplate<'t>
+    ensures { result.text.now ≡ template_of (schema_of schema.entry) endpoint.now }
+{
+    UriTemplate {
+        text: template_of(schema, endpoint),
+        rest: template_rest(schema, endpoint),
+    }
 }
 
 /// The endpoint, or `/` where it is empty. Takes no memory.
@@ -100,7 +123,7 @@ pub fn place_writes<S: FinishSerializer + Drop>(
         omit: plan.omit,
     };
     let message = place_message(alloc, serializer, table, writes, message_plan)?;
-    let template = template_of(schema, plan.endpoint);
+    let template = uri_template(schema, plan.endpoint);
     let target = whole_target(
         alloc,
         template,

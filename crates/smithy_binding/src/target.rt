@@ -1,16 +1,18 @@
 // A request target: the template with its holes filled (Smithy, HTTP protocol bindings, httpLabel).
 ghost use Rattle.std.specs.Prelude.{◌≡◌, ◌++◌, IfOk, IfErr, OnOk, Ok, map, option_map, string_bytes};
-ghost use Rattle.smithy_binding.specs.Words.{has_byte, pieces};
+ghost use Rattle.smithy_binding.specs.Words.{has_byte};
 ghost use Rattle.smithy_binding.specs.Filling.{fill, filled_by, keep_slashes};
 ghost use Rattle.smithy_binding.specs.Faults.{filled_fault};
 ghost use Rattle.smithy_binding.specs.Refusing.{IsTold, Says};
 ghost use Rattle.smithy_binding.specs.views.Seen.{label_pair};
 ghost use Rattle.smithy_binding.specs.views.LabelTexts.{text_under, label_text, is_text, missing_in, long_fault, target_in, Extends, LacksLabel};
+ghost use Rattle.smithy_binding.specs.views.LeftTemplates.{template_left};
 ghost use Rattle.smithy_binding.specs.views.TargetParts.{separator, target_behind, text_by, one_query, IsBehindFirst};
 
 use crate::labels::{Label, LabelTexts, text_of_label, texts_by_name};
 use crate::refusal::{missing_hole, too_long};
-use crate::template::cut_hole;
+use crate::template_rest::TemplateRest;
+use crate::uri_template::UriTemplate;
 use percent_encoding::{AsciiSet, NON_ALPHANUMERIC, ascii_set, utf8_percent_encode};
 use smithy_serde::SerdeError;
 use smithy_strings::push_escaped;
@@ -76,11 +78,12 @@ fn has_text<'l>(texts: &LabelTexts<'l>, name: &'l str) -> bool
 
 // The name of the first hole without a text.
 #[tactic(auto, using(crate::proofs::Fills::missing))]
-fn first_missing<'l>(template: &'l str, texts: &LabelTexts<'l>) -> Option<&'l str>
-    ensures { option_map (λ name. name.now) result ≡ missing_in texts.now template.now }
+fn first_missing<'l>(template: TemplateRest<'l>, texts: &LabelTexts<'l>) -> Option<&'l str>
+    ensures { option_map (λ name. name.now) result
+        ≡ missing_in texts.now (template_left template.entry) }
 {
     let mut rest = template;
-    while let Some((hole, behind)) = cut_hole(rest) {
+    while let Some((hole, behind)) = rest.next_hole() {
         if !has_text(texts, hole.name) {
             return Some(hole.name);
         }
@@ -90,9 +93,9 @@ fn first_missing<'l>(template: &'l str, texts: &LabelTexts<'l>) -> Option<&'l st
 }
 
 // The refusal of a target that is too long before this rest of its template, in which a hole without a text comes first.
-fn too_long_before<'l>(alloc: Global, rest: &'l str, texts: &LabelTexts<'l>) -> SerdeError
+fn too_long_before<'l>(alloc: Global, rest: TemplateRest<'l>, texts: &LabelTexts<'l>) -> SerdeError
     ensures { Says result
-        (long_fault (filled_by (text_under texts.now) (pieces rest.now))) }
+        (long_fault (filled_by (text_under texts.now) (template_left rest.entry))) }
 {
     match first_missing(rest, texts) {
         Some(name) => missing_hole(alloc, name),
@@ -104,18 +107,18 @@ fn too_long_before<'l>(alloc: Global, rest: &'l str, texts: &LabelTexts<'l>) -> 
 #[tactic(auto, using(crate::proofs::Fills::filling))]
 fn fill_by<'l>(
     alloc: Global,
-    template: &'l str,
+    template: TemplateRest<'l>,
     texts: &LabelTexts<'l>,
     room: usize,
 ) -> Result<String, SerdeError>
     ensures ok { IfOk result
-        (λ t. filled_by (text_under texts.now) (pieces template.now) ≡ Ok (string_bytes t)) }
+        (λ t. filled_by (text_under texts.now) (template_left template.entry) ≡ Ok (string_bytes t)) }
     ensures err { IfErr result
-        (IsTold (filled_fault (filled_by (text_under texts.now) (pieces template.now)))) }
+        (IsTold (filled_fault (filled_by (text_under texts.now) (template_left template.entry)))) }
 {
     let mut out = String::with_capacity(alloc, room)?;
     let mut rest = template;
-    while let Some((hole, behind)) = cut_hole(rest) {
+    while let Some((hole, behind)) = rest.next_hole() {
         out.push_str(hole.literal)?;
         push_label(alloc, &mut out, hole.name, hole.is_greedy, texts)?;
         if out.len() > MAX_TARGET_LEN {
@@ -123,21 +126,21 @@ fn fill_by<'l>(
         }
         rest = behind;
     }
-    out.push_str(rest)?;
+    out.push_str(rest.last_literal())?;
     Ok(out)
 }
 
 // The template with the text of each hole, which the labels have by its name.
 fn fill<'l>(
     alloc: Global,
-    template: &'l str,
+    template: TemplateRest<'l>,
     labels: &'l [Label<'l, 'l>],
     room: usize,
 ) -> Result<String, SerdeError>
     ensures ok { IfOk result
-        (λ t. fill (pieces template.now) (map label_pair labels.now) ≡ Ok (string_bytes t)) }
+        (λ t. fill (template_left template.entry) (map label_pair labels.now) ≡ Ok (string_bytes t)) }
     ensures err { IfErr result
-        (IsTold (filled_fault (fill (pieces template.now) (map label_pair labels.now)))) }
+        (IsTold (filled_fault (fill (template_left template.entry) (map label_pair labels.now)))) }
 {
     let texts = texts_by_name(alloc, labels)?;
     fill_by(alloc, template, &texts, room)
@@ -190,17 +193,17 @@ fn push_query(path: &mut String, query: &str) -> Result<(), OutOfMemory>
 /// bytes by a hole. Takes memory: of labels no more than that and one text.
 pub fn whole_target<'l>(
     alloc: Global,
-    template: &'l str,
+    template: UriTemplate<'l>,
     labels: &'l [Label<'l, 'l>],
     query: &str,
 ) -> Result<String, SerdeError>
     ensures ok { IfOk result
-        (λ t. target_in template.now labels.now query.now ≡ Ok (string_bytes t)) }
+        (λ t. target_in template.entry.text.now labels.now query.now ≡ Ok (string_bytes t)) }
     ensures err { IfErr result
-        (IsTold (filled_fault (target_in template.now labels.now query.now))) }
+        (IsTold (filled_fault (target_in template.entry.text.now labels.now query.now))) }
 {
-    let room = template.len() + query.len();
-    let mut target = fill(alloc, template, labels, room)?;
+    let room = template.text.len() + query.len();
+    let mut target = fill(alloc, template.rest, labels, room)?;
     push_query(&mut target, query)?;
     Ok(target)
 }

@@ -11,8 +11,10 @@ use crate::clear::{
 };
 use crate::members::{Counted, count};
 use crate::name_check::{NameKind, names_of};
+use crate::place::uri_template;
 use crate::rules::Rule;
-use crate::template::{CutTemplate, cut};
+use crate::template::{CutTemplate, cut_template};
+use crate::uri_template::UriTemplate;
 use smithy_schema::SchemaRef;
 use smithy_types::{is_token, legal_target};
 use std::alloc::{AllocError, Global};
@@ -67,19 +69,20 @@ fn cut_rule<'t>(
     }
 }
 
-// The same of a text.
+// The same of a template before it is cut.
 fn template_rule<'t>(
     alloc: Global,
-    text: &'t str,
+    uri: UriTemplate<'t>,
     labels: &[&'t str],
     count: usize,
 ) -> Result<Option<Rule>, AllocError>
-    ensures { IfOk result (λ r. r ≡ template_rule_for text.now (texts_shown labels.now) count) }
+    ensures { IfOk result
+        (λ r. r ≡ template_rule_for uri.entry.text.now (texts_shown labels.now) count) }
 {
-    if has_unclosed_brace(text) {
+    if has_unclosed_brace(uri.text) {
         return Ok(Some(Rule::ClosedBraces));
     }
-    let template = cut(alloc, text)?;
+    let template = cut_template(alloc, uri)?;
     match cut_rule(alloc, &template, labels, count)? {
         Some(rule) => Ok(Some(rule)),
         None => Ok(None),
@@ -89,10 +92,11 @@ fn template_rule<'t>(
 // Of the template, for the labels among these members.
 fn template_rule_among<'t>(
     alloc: Global,
-    template: &'t str,
+    template: UriTemplate<'t>,
     members: &[SchemaRef<'t>],
 ) -> Result<Option<Rule>, AllocError>
-    ensures { IfOk result (λ r. r ≡ template_rule_among template.now (shown members.now)) }
+    ensures { IfOk result
+        (λ r. r ≡ template_rule_among template.entry.text.now (shown members.now)) }
 {
     let labels = names_of(alloc, members, NameKind::Label)?;
     let count = count(members, Counted::Label);
@@ -114,7 +118,7 @@ pub fn http_rule<'t>(
     if !is_token(http.method()) {
         return Ok(Some(Rule::MethodToken));
     }
-    if let Some(rule) = template_rule_among(alloc, http.uri(), members)? {
+    if let Some(rule) = template_rule_among(alloc, uri_template(schema, ""), members)? {
         return Ok(Some(rule));
     }
     if !http.uri().as_bytes().starts_with(b"/") {

@@ -13,7 +13,7 @@ use Rattle.smithy_schema.specs.Templates.{Hole, Piece, Template}
 use Rattle.smithy_strings.specs.Escapes.{decoded}
 use Rattle.smithy_strings.proofs.UnescapeLaws.{same_self}
 use Rattle.smithy_binding.specs.views.CutTemplate.{hole_shown, behind_hole, behind_holes, literal_alone}
-use Rattle.smithy_binding.specs.declared.template.CutHole.{CutHole}
+use Rattle.smithy_schema.specs.declared.first_hole.CutHole.{CutHole}
 use Rattle.smithy_recovery.specs.PathParts.{behind_front, before_end, segment, part_by, with_part, path_texts}
 use Rattle.smithy_recovery.specs.views.Kept.{part_behind, text_behind}
 

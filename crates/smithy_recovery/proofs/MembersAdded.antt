@@ -20,7 +20,7 @@ use Rattle.smithy_serde.specs.Values.{Value, Write, list_of}
 use Rattle.smithy_serde.specs.ValueRead.{write_by}
 use Rattle.smithy_serde.specs.declared.value.WriteList.{WriteList}
 use Rattle.smithy_binding.specs.Bindings.{query_names}
-use Rattle.smithy_binding.specs.declared.template.CutHole.{CutHole}
+use Rattle.smithy_schema.specs.declared.first_hole.CutHole.{CutHole}
 use Rattle.smithy_binding.specs.views.CutTemplate.{behind_holes, literal_alone}
 use Rattle.smithy_recovery.specs.BodyParts.{body_part, is_asked, reads_body, is_told}
 use Rattle.smithy_recovery.specs.Finding.{Finds}

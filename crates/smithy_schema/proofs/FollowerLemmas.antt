@@ -24,7 +24,7 @@ use Rattle.smithy_schema.specs.views.Places.{places_of}
 use Rattle.smithy_schema.specs.views.Details.{Details}
 use Rattle.smithy_schema.specs.views.Stored.{node_stored, details_full, details_stored}
 use Rattle.smithy_schema.specs.views.MemberNames.{is_named_at, IsOfName, AreOfNames, IsFirstOfName}
-use Rattle.smithy_schema.specs.views.Kept.{KeepsNames, IsFollower}
+use Rattle.smithy_schema.specs.views.Kept.{KeepsMembers, IsFollower}
 
 -- each value of the map is some name's
 pub values_of_names : (m : BTreeMap (String Global) ℕ) → IsOrdered string_cmp m → AreOfNames m (values m)
@@ -62,7 +62,7 @@ one_name a b member has_a has_b = go member.node.member_name has_a has_b
     go (Some t) x y = (bytes_eq-Decides a t).0 x ∙ sym ((bytes_eq-Decides b t).0 y)
 
 -- the member at a follower is the first one of its name
-pub first_kept : (table : Table) (n : StoredNode) (full : FullDetails) (node : Node) (place : SchemaIndex) (member : Schema) → details_stored n.details ≡ details_full full → KeepsNames table full → node_stored n ≡ node → IsFollower full place → at_place table place.0 ≡ Some member
+pub first_kept : (table : Table) (n : StoredNode) (full : FullDetails) (node : Node) (place : SchemaIndex) (member : Schema) → details_stored n.details ≡ details_full full → KeepsMembers table full → node_stored n ≡ node → IsFollower full place → at_place table place.0 ≡ Some member
     → IsFirstOfName (record { table = table; node = node }) member
 first_kept table n full node place member is has same follower at name named =
     let p = follower.1 in
@@ -76,7 +76,7 @@ first_kept table n full node place member is has same follower at name named =
     rw (members, ← one, first, here) at
 
 -- so is the one that a look-up of its place gives
-pub first_given : (table : Table) (n : StoredNode) (full : FullDetails) (node : Node) (place : SchemaIndex) (given : Option SchemaRef) → details_stored n.details ≡ details_full full → KeepsNames table full → node_stored n ≡ node → IsFollower full place → option_map schema_of given ≡ at_place table place.0
+pub first_given : (table : Table) (n : StoredNode) (full : FullDetails) (node : Node) (place : SchemaIndex) (given : Option SchemaRef) → details_stored n.details ≡ details_full full → KeepsMembers table full → node_stored n ≡ node → IsFollower full place → option_map schema_of given ≡ at_place table place.0
     → IfSome given (λ m. IsFirstOfName (record { table = table; node = node }) (schema_of m))
 first_given table n full node place None is has same follower at = tt
 first_given table n full node place (Some m) is has same follower at = first_kept table n full node place (schema_of m) is has same follower (sym at)

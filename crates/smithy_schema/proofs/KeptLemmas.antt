@@ -19,9 +19,11 @@ use Rattle.smithy_schema.specs.views.Details.{Details}
 use Rattle.smithy_schema.specs.views.MemberNames.{is_named_at, HasPositions}
 use Rattle.smithy_schema.specs.views.Stored.{node_stored, details_full, details_stored, table_stored}
 use Rattle.smithy_schema.specs.Defining.{citing_fault, define_fault, declared_more}
+use Rattle.smithy_schema.specs.Routing.{bound_among, routing, word_of}
 use Rattle.smithy_schema.specs.WellMade.{is_whole}
-use Rattle.smithy_schema.specs.views.Kept.{IsKept, HasNames, kept_at}
+use Rattle.smithy_schema.specs.views.Kept.{IsKept, HasMembers, kept_at}
 use Rattle.smithy_schema.proofs.NamedLemmas.{HasPositions-same}
+use Rattle.smithy_schema.proofs.RoutingLemmas.{bound_among-same}
 use Rattle.smithy_schema.proofs.TableLemmas.{length-table_stored, node_at-table_stored, table_stored-push}
 use Rattle.smithy_schema.proofs.SoundLemmas.{no_fault, no_fault-in_place, kept_members, node_at-declared_more, node_at-set_same, node_at-set_other, define_fault-past, define_fault-defined, define_fault-hole, define_fault-fresh, IsSound-declared_more, IsSound-set, outline-no_fault}
 
@@ -54,16 +56,17 @@ table_stored-set nodes index n = map-set (option_map node_stored) nodes index (S
 pub node_at-kept : (nodes : List (Option StoredNode)) (place : ℕ) (n : StoredNode) → kept_at nodes place ≡ Some n → node_at (table_stored nodes) place ≡ Some (node_stored n)
 node_at-kept nodes place n at = node_at-table_stored nodes place ∙ ap (λ (o : Option StoredNode). option_map node_stored o) at
 
--- the positions of the names of a node that is kept
-pub names_at : (nodes seen : List (Option StoredNode)) (place : ℕ) (n : StoredNode) → IsKept nodes → seen ≡ nodes → Some n ≡ kept_at seen place → HasNames (table_stored nodes) n.details
-names_at nodes seen place n kept same at = kept.names place n (rw (← same) (sym at))
+-- what is kept of the members of a node
+pub members_at : (nodes seen : List (Option StoredNode)) (place : ℕ) (n : StoredNode) → IsKept nodes → seen ≡ nodes → Some n ≡ kept_at seen place → HasMembers (table_stored nodes) n.details
+members_at nodes seen place n kept same at = kept.members place n (rw (← same) (sym at))
 
--- they stay where the table keeps what stands at the members' places
-HasNames-same : (old new : Table) (d : StoredDetails) → ((position member : ℕ) → slice_get (details_stored d).members position ≡ Some member → node_at new member ≡ node_at old member) → HasNames old d → HasNames new d
-HasNames-same old new (Outline format) same has = has
-HasNames-same old new (Full d) same has = record {
+-- it stays where the table keeps what stands at the members' places
+HasMembers-same : (old new : Table) (d : StoredDetails) → ((position member : ℕ) → slice_get (details_stored d).members position ≡ Some member → node_at new member ≡ node_at old member) → HasMembers old d → HasMembers new d
+HasMembers-same old new (Outline format) same has = has
+HasMembers-same old new (Full d) same has = record {
   positions = HasPositions-same old new (places_of d.value.members.items) d.value.positions same has.positions;
   followers = has.followers;
+  routing = has.routing ∙ ap word_of (bound_among-same old new (places_of d.value.members.items) same);
 }
 
 pub IsKept-declared : (nodes : List (Option StoredNode)) → IsKept nodes → IsKept (nodes ++ None ∷ [])
@@ -71,16 +74,16 @@ IsKept-declared nodes kept =
     let more : table_stored (nodes ++ None ∷ []) ≡ declared_more (table_stored nodes) = table_stored-push nodes None in
     record {
       sound = rw more (IsSound-declared_more (table_stored nodes) kept.sound);
-      names = λ place n at. rw more
-          (HasNames-same (table_stored nodes) (declared_more (table_stored nodes)) n.details (λ position member _. node_at-declared_more (table_stored nodes) member)
-          (kept.names place n (sym (node_at-declared_more nodes place) ∙ at)));
+      members = λ place n at. rw more
+          (HasMembers-same (table_stored nodes) (declared_more (table_stored nodes)) n.details (λ position member _. node_at-declared_more (table_stored nodes) member)
+          (kept.members place n (sym (node_at-declared_more nodes place) ∙ at)));
     }
 
 -- a hole that is filled by a node without fault
-filled : (nodes : List (Option StoredNode)) (index : ℕ) (n : StoredNode) → IsKept nodes → define_fault (table_stored nodes) index (node_stored n) ≡ None → is_whole (node_stored n) ≡ true → HasNames (table_stored nodes) n.details → IsKept (set nodes index (Some n))
+filled : (nodes : List (Option StoredNode)) (index : ℕ) (n : StoredNode) → IsKept nodes → define_fault (table_stored nodes) index (node_stored n) ≡ None → is_whole (node_stored n) ≡ true → HasMembers (table_stored nodes) n.details → IsKept (set nodes index (Some n))
 filled nodes index n kept none whole has = record {
   sound = rw table_is (IsSound-set table index (node_stored n) kept.sound none whole);
-  names = λ place other at. rw table_is (names place other at (place == index) refl);
+  members = λ place other at. rw table_is (members place other at (place == index) refl);
 }
   where
     table : Table
@@ -95,29 +98,29 @@ filled nodes index n kept none whole has = record {
     hole : node_at table index ≡ None
     hole = (no_fault table index (node_stored n) none).hole
 
-    names : (place : ℕ) (other : StoredNode) → kept_at (set nodes index (Some n)) place ≡ Some other → (b : Bool) → (place == index) ≡ b → HasNames new other.details
-    names place other at true e =
+    members : (place : ℕ) (other : StoredNode) → kept_at (set nodes index (Some n)) place ≡ Some other → (b : Bool) → (place == index) ≡ b → HasMembers new other.details
+    members place other at true e =
         let here : place ≡ index = eqb-true place index e in
         let is : n ≡ other = (let found : Some n ≡ Some other = sym (node_at-set_same nodes index (Some n) (within nodes index (node_stored n) none)) ∙ (rw here at at) in cc found) in
-        subst (λ (o : StoredNode). HasNames new o.details) is
-        (HasNames-same table new n.details
+        subst (λ (o : StoredNode). HasMembers new o.details) is
+        (HasMembers-same table new n.details
         (kept_members table index (node_stored n) (record { table = table; node = node_stored n }) refl hole (no_fault-in_place table index (node_stored n) kept.sound none)) has)
-    names place other at false e =
+    members place other at false e =
         let old : kept_at nodes place ≡ Some other = sym (node_at-set_other nodes index place (Some n) (eqb-false place index e)) ∙ at in
-        HasNames-same table new other.details
+        HasMembers-same table new other.details
         (kept_members table index (node_stored n) (record { table = table; node = node_stored other }) refl hole (λ position member found. kept.sound.members place (node_stored other) (node_at-kept nodes place other old) position member found))
-        (kept.names place other old)
+        (kept.members place other old)
 
 -- the same by the description that was copied
-pub IsKept-filled : (nodes : List (Option StoredNode)) (index : ℕ) (n : StoredNode) (node : Node) → IsKept nodes → define_fault (table_stored nodes) index node ≡ None → node_stored n ≡ node → is_whole (node_stored n) ≡ true → HasNames (table_stored nodes) n.details → IsKept (set nodes index (Some n))
+pub IsKept-filled : (nodes : List (Option StoredNode)) (index : ℕ) (n : StoredNode) (node : Node) → IsKept nodes → define_fault (table_stored nodes) index node ≡ None → node_stored n ≡ node → is_whole (node_stored n) ≡ true → HasMembers (table_stored nodes) n.details → IsKept (set nodes index (Some n))
 IsKept-filled nodes index n node kept none same whole has = filled nodes index n kept (rw same none) whole has
 
 -- the copy of a node without fault at a fresh place
-pub IsKept-pushed : (nodes : List (Option StoredNode)) (n : StoredNode) (node : Node) → IsKept nodes → define_fault (declared_more (table_stored nodes)) (length (table_stored nodes)) node ≡ None → node_stored n ≡ node → is_whole (node_stored n) ≡ true → HasNames (table_stored nodes) n.details → IsKept (nodes ++ Some n ∷ [])
+pub IsKept-pushed : (nodes : List (Option StoredNode)) (n : StoredNode) (node : Node) → IsKept nodes → define_fault (declared_more (table_stored nodes)) (length (table_stored nodes)) node ≡ None → node_stored n ≡ node → is_whole (node_stored n) ≡ true → HasMembers (table_stored nodes) n.details → IsKept (nodes ++ Some n ∷ [])
 IsKept-pushed nodes n node kept none same whole has =
     let more : table_stored (nodes ++ None ∷ []) ≡ declared_more (table_stored nodes) = table_stored-push nodes None in
-    let still : HasNames (table_stored (nodes ++ None ∷ [])) n.details =
-    rw more (HasNames-same (table_stored nodes) (declared_more (table_stored nodes)) n.details (λ position member _. node_at-declared_more (table_stored nodes) member) has) in
+    let still : HasMembers (table_stored (nodes ++ None ∷ [])) n.details =
+    rw more (HasMembers-same (table_stored nodes) (declared_more (table_stored nodes)) n.details (λ position member _. node_at-declared_more (table_stored nodes) member) has) in
     let no : define_fault (table_stored (nodes ++ None ∷ [])) (length nodes) node ≡ None = rw (more, ← length-table_stored nodes) none in
     rw (← set-append_seam nodes None [] (Some n)) (IsKept-filled (nodes ++ None ∷ []) (length nodes) n node (IsKept-declared nodes kept) no same whole still)
 
@@ -130,3 +133,15 @@ IsKept-outlined nodes n node format kept same whole is =
 pub position_kept : (table : Table) (n : StoredNode) (full : FullDetails) (node : Node) (name : List ℕ) → details_stored n.details ≡ details_full full → HasPositions table (places_of full.members.items) full.positions → node_stored n ≡ node → get_by_text full.positions name ≡ position_of_name (record { table = table; node = node }) name
 position_kept table n full node name is has same =
     has.at name ∙ ap (λ (d : Details). position (is_named_at table name) d.members) (sym is) ∙ ap (λ (m : Node). position (is_named_at table name) m.members) same
+
+-- so is the routing word
+pub routing_kept : (table : Table) (n : StoredNode) (full : FullDetails) (node : Node) → details_stored n.details ≡ details_full full → full.routing ≡ word_of (bound_among table (places_of full.members.items)) → node_stored n ≡ node → full.routing ≡ routing (record { table = table; node = node })
+unfolding routing
+routing_kept table n full node is has same =
+    has ∙ ap (λ (d : Details). word_of (bound_among table d.members)) (sym is) ∙ ap (λ (m : Node). word_of (bound_among table m.members)) same
+
+-- an outline has no members
+pub routing_outlined : (table : Table) (n : StoredNode) (format : Option TimestampFormat) (node : Node) → details_stored n.details ≡ details_stored (Outline format) → node_stored n ≡ node → 0 ≡ routing (record { table = table; node = node })
+unfolding routing
+routing_outlined table n format node is same =
+    ap (λ (d : Details). word_of (bound_among table d.members)) (sym is) ∙ ap (λ (m : Node). word_of (bound_among table m.members)) same

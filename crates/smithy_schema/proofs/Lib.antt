@@ -1,10 +1,15 @@
+pub mod CutLemmas
 pub mod FollowerLemmas
 pub mod KeptLemmas
 pub mod NamedLemmas
+pub mod PieceLemmas
 pub mod PlaceLemmas
 pub mod PreludeLemmas
+pub mod RoutingLemmas
 pub mod Rows
 pub mod SoundLemmas
 pub mod TableLemmas
 pub mod TraitMapLemmas
+pub mod TurnLemmas
 pub mod WellMadeLemmas
+pub mod WordLemmas

@@ -3,10 +3,13 @@ pub mod Defining
 pub mod Formats
 pub mod Outlines
 pub mod PreludeNodes
+pub mod Routing
 pub mod Templates
 pub mod WellMade
 pub mod views
+pub use Rattle.smithy_schema.specs.views.CutHoles
 pub use Rattle.smithy_schema.specs.views.DescribedTraits
+pub use Rattle.smithy_schema.specs.views.Pieces
 pub use Rattle.smithy_schema.specs.views.Places
 pub use Rattle.smithy_schema.specs.views.References
 pub use Rattle.smithy_schema.specs.views.ShownBindings

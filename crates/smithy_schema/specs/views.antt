@@ -1,3 +1,4 @@
+pub mod CutHoles
 pub mod Described
 pub mod DescribedTraits
 pub mod Details
@@ -5,9 +6,11 @@ pub mod Kept
 pub mod MarksOf
 pub mod MemberNames
 pub mod OwnedTraits
+pub mod Pieces
 pub mod Places
 pub mod PreludePlaces
 pub mod References
+pub mod Routed
 pub mod ShownBindings
 pub mod Stored
 pub mod TraitMaps

@@ -7,10 +7,11 @@ ghost use Rattle.smithy_schema.specs.Outlines.{outline_of, named_part};
 ghost use Rattle.smithy_schema.specs.views.References.{schema_of};
 ghost use Rattle.smithy_schema.specs.views.Stored.{head_stored, node_stored};
 
+use crate::copies::copied_text;
 use crate::parts::SchemaIndex;
 use crate::schema_ref::SchemaRef;
 use crate::schemas::Schemas;
-use crate::stored::{Head, StoredDetails, StoredMember, StoredNode, copied_text};
+use crate::stored::{Head, StoredDetails, StoredMember, StoredNode};
 use smithy_ids::TimestampFormat;
 use smithy_types::OutOfMemory;
 use std::alloc::Global;

@@ -42,16 +42,17 @@ impl<'t> TableRef<'t> {
     ghost use Rattle.smithy_schema.specs.views.MemberNames.{IsFirstOfName};
     ghost use Rattle.smithy_schema.specs.Defining.{HasMembersInPlace, IsSound};
     ghost use Rattle.smithy_schema.specs.WellMade.{is_whole};
-    ghost use Rattle.smithy_schema.specs.views.Kept.{HasNames};
+    ghost use Rattle.smithy_schema.specs.views.Kept.{HasMembers};
     ghost use Rattle.smithy_schema.specs.views.Places.{places_of};
     ghost use Rattle.smithy_schema.specs.Nodes.{position_of_name};
+    ghost use Rattle.smithy_schema.specs.Routing.{routing};
 
     pub(crate) fn stored(self) -> &'t StoredNode
         ensures node { node_stored result.now ≡ node_in self.entry.table.now self.entry.index.0 }
         ensures whole { is_whole (node_stored result.now) ≡ true }
         ensures place { node_at self.entry.table.now self.entry.index.0 ≡ Some (node_stored result.now) }
         ensures sound { IsSound self.entry.table.now }
-        ensures names { HasNames self.entry.table.now result.now.details }
+        ensures members { HasMembers self.entry.table.now result.now.details }
     {
         let table = self.table;
         let Some(node) = stored_at(table.nodes.as_slice(), self.index.0) else {
@@ -83,6 +84,17 @@ impl<'t> TableRef<'t> {
         }
     }
 
+    // The routing word of the members.
+    fn routing(self) -> u64
+        ensures word { result ≡ routing (schema_at self.entry) }
+        ensures in_place { HasMembersInPlace (schema_at self.entry) }
+    {
+        match &self.stored().details {
+            StoredDetails::Outline(_) => 0,
+            StoredDetails::Full(details) => details.routing,
+        }
+    }
+
     fn members(self) -> &'t [SchemaIndex]
         ensures places { places_of result.now ≡ (node_in self.entry.table.now self.entry.index.0).members }
         ensures in_place { HasMembersInPlace (schema_at self.entry) }
@@ -110,6 +122,7 @@ impl<'t> SchemaRef<'t> {
     ghost use Rattle.smithy_ids.specs.ShapeIds.{has_hash, parts_in};
     ghost use Rattle.smithy_ids.specs.ShapeIdParts.{parts_of};
     ghost use Rattle.smithy_schema.specs.Nodes.{at_place, position_of_name};
+    ghost use Rattle.smithy_schema.specs.Routing.{routing};
     ghost use Rattle.smithy_schema.specs.views.MemberNames.{IsFirstOfName};
     ghost use Rattle.smithy_schema.specs.views.Places.{place_of, places_of};
     ghost use Rattle.smithy_schema.specs.PreludeNodes.{prelude_node};
@@ -263,6 +276,19 @@ impl<'t> SchemaRef<'t> {
         match self.spot {
             Spot::Table(place) => place.members(),
             Spot::Prelude(_) => &[],
+        }
+    }
+
+    /// The routing word: bit i, at most 61, is set where a response has the member at position i outside its body, bit 62
+    /// where it has some member in its body, and bit 63 where it has one at position 62 or later outside. 0 without members.
+    /// Takes no memory.
+    pub fn response_routing(&self) -> u64
+        ensures word { result ≡ routing (schema_of self.now) }
+        ensures in_place { HasMembersInPlace (schema_of self.now) }
+    {
+        match self.spot {
+            Spot::Table(place) => place.routing(),
+            Spot::Prelude(_) => 0,
         }
     }
 

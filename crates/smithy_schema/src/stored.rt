@@ -1,17 +1,20 @@
 // A node as a table keeps it: with texts of its own.
 ghost use Rattle.std.specs.Prelude.{◌≡◌, true, IfOk, IfSome, IsTrue, option_map};
-ghost use Rattle.std.specs.Str.{is_utf8};
 ghost use Rattle.smithy_schema.specs.views.Details.{details_of};
 ghost use Rattle.smithy_schema.specs.views.Stored.{http_stored, namespace_stored, name_stored, index_stored, node_stored, table_stored, traits_stored, details_full};
-ghost use Rattle.smithy_schema.specs.views.Kept.{HasNames, IsFollower, KeepsNames};
+ghost use Rattle.smithy_schema.specs.views.Kept.{HasMembers, IsFollower, KeepsMembers};
 ghost use Rattle.smithy_schema.specs.views.Described.{name_in, index_in};
 ghost use Rattle.smithy_schema.specs.views.DescribedTraits.{traits_described, traits_with};
 ghost use Rattle.smithy_schema.specs.views.MarksOf.{marks_of};
 ghost use Rattle.smithy_schema.specs.WellMade.{has_utf8, has_utf8_traits, is_whole};
 
+use crate::copies::copied_text;
 use crate::member_names::{Positions, first_positions, followers};
 use crate::parts::{Marks, Places, SchemaIndex};
+use crate::pieces::Pieces;
+use crate::routing::routing_word;
 use crate::schema::{Membership, Schema};
+use crate::stored_http::StoredHttp;
 use crate::trait_map::TraitMap;
 use crate::traits::Traits;
 use smithy_ids::{HttpTrait, PayloadHint, ShapeType, TimestampFormat, XmlNamespaceTrait};
@@ -25,13 +28,6 @@ pub(crate) enum StoredMember {
     Shape,
     Named(Text),
     Indexed(Text, usize),
-}
-
-#[derive(Debug, Drop)]
-pub(crate) struct StoredHttp {
-    pub(crate) method: Text,
-    pub(crate) uri: Text,
-    pub(crate) code: u16,
 }
 
 #[derive(Debug, Drop)]
@@ -63,6 +59,7 @@ pub(crate) struct FullDetails {
     pub(crate) members: Vec<SchemaIndex>,
     pub(crate) positions: Positions,
     pub(crate) followers: Vec<usize>,
+    pub(crate) routing: u64,
     pub(crate) traits: StoredTraits,
     pub(crate) no_body_members: bool,
     pub(crate) hint: PayloadHint,
@@ -109,14 +106,6 @@ impl FullDetails {
     }
 }
 
-/// A copy of the text.
-pub(crate) fn copied_text(alloc: Global, text: &str) -> Result<Text, OutOfMemory>
-    ensures text { IfOk result (λ t. t ≡ text.now) }
-    ensures utf8 { IfOk result (λ t. IsTrue (is_utf8 t)) }
-{
-    Ok(Text::from_str(alloc, text)?)
-}
-
 // A copy of the text, where there is one.
 fn copied(alloc: Global, text: Option<&str>) -> Result<Option<Text>, OutOfMemory>
     ensures text { IfOk result (λ t. t ≡ option_map (λ s. s.now) text.entry) }
@@ -140,6 +129,7 @@ fn copied_http(
             method: copied_text(alloc, http.method())?,
             uri: copied_text(alloc, http.uri())?,
             code: http.code(),
+            parts: Pieces::of(alloc, http.uri())?,
         })),
         None => Ok(None),
     }
@@ -223,7 +213,7 @@ fn copied_details(
     schema: Schema<'_>,
 ) -> Result<FullDetails, OutOfMemory>
     ensures details { IfOk result (λ d. details_full d ≡ details_of schema.entry) }
-    ensures names { IfOk result (λ d. KeepsNames (table_stored nodes.now) d) }
+    ensures members { IfOk result (λ d. KeepsMembers (table_stored nodes.now) d) }
     ensures utf8 { IfOk result (λ d. IsTrue (has_utf8_traits (traits_stored d.traits))) }
 {
     let others = schema.others;
@@ -234,6 +224,7 @@ fn copied_details(
         places: schema.places,
         members: Vec::from_slice(alloc, schema.members)?,
         followers: followers(alloc, &positions, schema.members)?,
+        routing: routing_word(nodes, schema.members),
         positions,
         traits,
         no_body_members: schema.no_body_members,
@@ -250,7 +241,7 @@ pub(crate) fn copied_node(
 ) -> Result<StoredNode, OutOfMemory>
     ensures node { IfOk result (λ n. node_stored n ≡ schema.entry) }
     ensures whole { IfOk result (λ n. is_whole (node_stored n) ≡ true) }
-    ensures names { IfOk result (λ n. HasNames (table_stored nodes.now) n.details) }
+    ensures members { IfOk result (λ n. HasMembers (table_stored nodes.now) n.details) }
 {
     let head = Head {
         full_name: copied_text(alloc, schema.id.as_str())?,

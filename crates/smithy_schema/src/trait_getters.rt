@@ -2,11 +2,15 @@
 ghost use Rattle.std.specs.Prelude.{◌≡◌, option_map};
 ghost use Rattle.std.specs.Option.{is_some};
 ghost use Rattle.smithy_schema.specs.Nodes.{is_response_bound};
+ghost use Rattle.smithy_schema.specs.Templates.{pieces};
+ghost use Rattle.smithy_schema.specs.views.Pieces.{in_turn};
 ghost use Rattle.smithy_schema.specs.views.References.{schema_of};
 ghost use Rattle.smithy_schema.specs.views.Stored.{ShowsTraits};
 ghost use Rattle.smithy_schema.specs.views.MarksOf.{marks_of};
 
 use crate::parts::{Marks, NO_MARKS};
+use crate::pieces::Pieces;
+use crate::routing::is_bound_by;
 use crate::schema_ref::{SchemaRef, as_str};
 use crate::stored::{StoredDetails, StoredTraits};
 use crate::trait_map::TraitMap;
@@ -123,6 +127,17 @@ impl<'t> SchemaRef<'t> {
                 kept.uri.as_str(),
                 Some(kept.code),
             )),
+            None => None,
+        }
+    }
+
+    /// The URI template of `http`, cut into its pieces: None exactly without that trait. Takes no memory.
+    pub fn template_pieces(&self) -> Option<&'t Pieces>
+        ensures { option_map (λ p. p.now) result
+            ≡ option_map (λ h. in_turn (pieces h.uri)) (schema_of self.now).node.traits.http }
+    {
+        match &self.traits_kept()?.http {
+            Some(kept) => Some(&kept.parts),
             None => None,
         }
     }
@@ -247,10 +262,9 @@ impl<'t> SchemaRef<'t> {
     pub fn has_http_response_binding(&self) -> bool
         ensures { result ≡ is_response_bound (schema_of self.now) }
     {
-        let marks = self.marks();
-        self.http_header().is_some()
-            || self.http_prefix_headers().is_some()
-            || marks.http_response_code
-            || marks.http_payload
+        match self.traits_kept() {
+            Some(traits) => is_bound_by(traits),
+            None => false,
+        }
     }
 }

@@ -2,7 +2,9 @@
 mod description;
 mod marks;
 mod node;
+mod routing;
 mod table;
+mod templates;
 mod trait_map;
 
 use crate::ids::kind_named;
@@ -19,6 +21,7 @@ pub fn answer(alloc: Global, call: &str, given: &Value) -> Result<Option<Text>, 
         "Schemas" => table::schemas(alloc, given).map(Some),
         "TraitMap" => trait_map::trait_map(alloc, given).map(Some),
         "SchemaRef::prelude" => prelude(alloc, given).map(Some),
+        "cut_hole" => templates::first_hole(alloc, given).map(Some),
         "ShapeIdBuf" => owned_name(alloc, given).map(Some),
         _ => Ok(None),
     }

@@ -1,6 +1,6 @@
 -- The texts of labels, found by name.
 use Rattle.std.specs.Prelude.{◌≡◌, ℕ, Bool, false, not, ◌==◌, List, ◌++◌, length, map, String, string_bytes, Option, Some, None, option_map, Result, Ok, Err}
-use Rattle.smithy_binding.specs.Words.{Bor, BTreeMap, get_by, slice_cmp, nat_cmp, option_map_or, pieces, found, then_give, SerdeError}
+use Rattle.smithy_binding.specs.Words.{Bor, BTreeMap, get_by, slice_cmp, nat_cmp, option_map_or, Template, found, then_give, SerdeError}
 use Rattle.std.specs.Result.{result_err}
 use Rattle.smithy_binding.specs.Faults.{Fault, missing_hole, too_long}
 use Rattle.smithy_binding.specs.Filling.{filled_by}
@@ -40,8 +40,8 @@ abbrev pub is_text : Option (List ℕ) → Bool
 is_text text = option_map_or (λ t. not (length t == 0)) text false
 
 -- the name of the first hole of a template without a text
-abbrev pub missing_in : LabelTexts → List ℕ → Option (List ℕ)
-missing_in texts template = result_err (filled_by (text_under texts) (pieces template))
+abbrev pub missing_in : LabelTexts → Template → Option (List ℕ)
+missing_in texts template = result_err (filled_by (text_under texts) template)
 
 -- the fault of a target that is too long before the rest of its template: the first hole of that without a text comes first
 abbrev pub long_fault : Result (List ℕ) (List ℕ) → Fault

@@ -3,14 +3,7 @@ use Rattle.std.specs.Prelude.{◌≡◌, ℕ, Bool, codes, List, [], ◌∷◌, 
 use Rattle.smithy_binding.specs.Words.{Bor, has_byte, then_give, Hole, pieces}
 use Rattle.smithy_binding.specs.Filling.{hole_text, filled_hole, fill}
 use Rattle.smithy_binding.specs.Placing.{pair_text}
-
--- a `}`
-abbrev pub is_close : ℕ → Bool
-is_close b = b == 125
-
--- a `{`
-abbrev pub is_open : ℕ → Bool
-is_open b = b == 123
+pub use Rattle.smithy_schema.specs.CutHoles.{is_close, is_open}
 
 -- what stands before the first pair of a query
 abbrev pub separator : Bool → List ℕ

@@ -7,7 +7,7 @@ use Rattle.std.specs.Global.{Global}
 use Rattle.std.specs.Ordering.{nat_cmp}
 use Rattle.smithy_types.specs.Texts.{found}
 use Rattle.smithy_strings.specs.Escapes.{decoded}
-use Rattle.smithy_binding.specs.declared.template.CutHole.{CutHole}
+use Rattle.smithy_schema.specs.declared.first_hole.CutHole.{CutHole}
 use Rattle.smithy_binding.specs.views.CutTemplate.{behind_holes, literal_alone}
 use Rattle.smithy_recovery.specs.declared.path_texts.LabelText.{LabelText}
 use Rattle.smithy_recovery.specs.PathParts.{behind_front, part_by, path_texts}

@@ -10,28 +10,30 @@ use Rattle.smithy_schema.specs.Nodes.{Table}
 use Rattle.smithy_schema.specs.views.Places.{places_of}
 use Rattle.smithy_schema.specs.views.Stored.{table_stored}
 use Rattle.smithy_schema.specs.Defining.{IsSound}
+use Rattle.smithy_schema.specs.Routing.{bound_among, word_of}
 use Rattle.smithy_schema.specs.views.MemberNames.{AreOfNames, HasPositions}
 
 -- the node that is kept at a place; a hole counts as none
 abbrev pub kept_at : List (Option StoredNode) → ℕ → Option StoredNode
 kept_at nodes place = option_flatten (slice_get nodes place)
 
--- the first position of each name among the members is kept, and as followers none but these
-pub record KeepsNames (table : Table) (d : FullDetails) : Type 0 where
+-- of the members are kept the first position of each name, as followers none but these, and the routing word
+pub record KeepsMembers (table : Table) (d : FullDetails) : Type 0 where
   pub positions : HasPositions table (places_of d.members.items) d.positions
   pub followers : AreOfNames d.positions d.followers.items
+  pub routing : d.routing ≡ word_of (bound_among table (places_of d.members.items))
 
 -- the place is that of a member at one of the followers
 abbrev pub IsFollower : FullDetails → SchemaIndex → Type 0
 IsFollower d place =
     (before : ℕ) × (position : ℕ) × (slice_get d.followers.items before ≡ Some position) × (slice_get d.members.items position ≡ Some place)
 
--- the names of the members are kept; an outline has none
-abbrev pub HasNames : Table → StoredDetails → Type 0
-HasNames table (Outline format) = Unit {0}
-HasNames table (Full d) = KeepsNames table d.value
+-- so is what they have; an outline has no members
+abbrev pub HasMembers : Table → StoredDetails → Type 0
+HasMembers table (Outline format) = Unit {0}
+HasMembers table (Full d) = KeepsMembers table d.value
 
--- The table is sound, and each node has the first position of each name among its members.
+-- The table is sound, and each node has what is kept of its members.
 pub record IsKept (nodes : List (Option StoredNode)) : Type 0 where
   pub sound : IsSound (table_stored nodes)
-  pub names : (place : ℕ) (n : StoredNode) → kept_at nodes place ≡ Some n → HasNames (table_stored nodes) n.details
+  pub members : (place : ℕ) (n : StoredNode) → kept_at nodes place ≡ Some n → HasMembers (table_stored nodes) n.details

@@ -1,4 +1,5 @@
--- Where a request member stands, as the getter answers it.
+-- Where a member stands, as the getters answer it.
+use Rattle.std.specs.Prelude.{Bool, ◌||◌, is_some}
 use Rattle.smithy_schema.specs.Nodes as nodes
 use Rattle.smithy_schema.specs.declared.request_binding.Binding.{Binding}
 use Rattle.smithy_schema.specs.declared.request_binding.Binding.TheVariants as answered
@@ -16,3 +17,7 @@ binding_shown answered.Body = nodes.to_body
 -- where a member with these traits stands
 abbrev pub binding_by : nodes.Traits → nodes.Binding
 binding_by t = nodes.binding_at t.http_header t.http_prefix_headers t.http_query t.http_query_params t.http_label t.http_payload
+
+-- whether a response has a member with these traits outside its body
+abbrev pub is_bound_by : nodes.Traits → Bool
+is_bound_by t = is_some t.http_header || is_some t.http_prefix_headers || t.http_response_code || t.http_payload

@@ -3,7 +3,7 @@ use Rattle.std.specs.Prelude.{◌≡◌, ℕ, List, map, Option, Some, None, opt
 use Rattle.std.specs.Borrow.{Bor}
 use Rattle.smithy_schema.specs.declared.stored.StoredMember.{StoredMember}
 use Rattle.smithy_schema.specs.declared.stored.StoredMember.TheVariants.{Shape, Named, Indexed}
-use Rattle.smithy_schema.specs.declared.stored.StoredHttp.{StoredHttp}
+use Rattle.smithy_schema.specs.declared.stored_http.StoredHttp.{StoredHttp}
 use Rattle.smithy_schema.specs.declared.stored.StoredNamespace.{StoredNamespace}
 use Rattle.smithy_schema.specs.declared.stored.StoredTraits.{StoredTraits}
 use Rattle.smithy_schema.specs.declared.stored.FullDetails.{FullDetails}

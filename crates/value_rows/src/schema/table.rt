@@ -1,6 +1,8 @@
 // Tables of nodes: what they take and refuse, and what is found in them.
 use crate::schema::description::{described, members_of};
 use crate::schema::node::{tell_cited, tell_cited_nodes, tell_node};
+use crate::schema::routing::{insert_bound, tell_routing};
+use crate::schema::templates::tell_pieces;
 use crate::steps::{step_count, step_text, step_value};
 use crate::telling::Told;
 use serde_json::Value;
@@ -30,6 +32,7 @@ fn take_step(told: &mut Told, table: &mut Schemas, step: &Value) -> Result<(), F
         "insert" => insert(told, table, step_value(step, 1)?),
         "insert_times" => insert_times(told, table, step_count(step, 1)?, step_value(step, 2)?),
         "insert_members" => insert_members(told, table, step_text(step, 1)?),
+        "insert_bound" => insert_bound(told, table, step_text(step, 1)?),
         "define" => define(told, table, step_count(step, 1)?, step_value(step, 2)?),
         "insert_all" => insert_all(told, table),
         "len" => told.tell_count("len", table.len()),
@@ -125,6 +128,8 @@ fn look(told: &mut Told, table: &Schemas, call: &str, step: &Value) -> Result<()
         "tell" => tell_node(told, node),
         "cited" => tell_cited_nodes(told, node),
         "outline" => outline(told, node),
+        "routing" => tell_routing(told, node),
+        "pieces" => tell_pieces(told, node),
         "position_of" => tell_position(told, node.position_of(step_text(step, 2)?)),
         "member_at" => tell_cited(
             told,

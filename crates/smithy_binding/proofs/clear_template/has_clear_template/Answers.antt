@@ -15,6 +15,6 @@ returns c =
     let listed = ap shown c.as_slice.ensures.value ∙ known.1 in
     let template = template_of schema c.args.endpoint.now in
     let clear : c.in_ok-is_clear_among.field-0 ≡ is_clear template schema =
-    c.in_ok-is_clear_among.ensures ∙ (λ i. is_clear_among (c.template_of-template.ensures i) (listed i)) ∙ sym (is_clear-among schema template) in
+    c.in_ok-is_clear_among.ensures ∙ (λ i. is_clear_among (c.uri_template-template.ensures i) (listed i)) ∙ sym (is_clear-among schema template) in
     let plain : is_some schema.node.traits.http ≡ false = search rules in
     clear ∙ ap (λ b. b || is_clear template schema) (sym plain)

@@ -19,10 +19,10 @@ returns-in_err-message g c =
 pub returns-in_err-target : goal.returns-in_err-target
 returns-in_err-target g c =
     let message = c.in_ok-message.ensures.ok in
-    let told : IfErr c.from_residual-in_err-target.result (λ e. TellsFault e (λ f. filled_fault (target_with c.template_of-template.result.now (map label_pair c.as_slice.result.now) c.as_str.result.now) ≡ Some f)) = search rules in
+    let told : IfErr c.from_residual-in_err-target.result (λ e. TellsFault e (λ f. filled_fault (target_with c.uri_template-template.result.text.now (map label_pair c.as_slice.result.now) c.as_str.result.now) ≡ Some f)) = search rules in
     Answers-err c.from_residual-in_err-target.result _ _ (search rules)
     (λ f e. answer-filled _ (schema_of c.args.plan.schema) _ c.args.plan.endpoint.now _ _ _ message.faultless message.labels message.query f
-    (rw (c.template_of-template.ensures, c.as_slice.ensures.value, c.as_str.ensures.value) at e)) told
+    (rw (c.uri_template-template.ensures, c.as_slice.ensures.value, c.as_str.ensures.value) at e)) told
 
 pub request_with-requires : goal.request_with-requires
 request_with-requires g c = rw c.method_of.ensures (is_token-method_of (schema_of c.args.plan.schema) c.requires.checked)
@@ -30,7 +30,7 @@ request_with-requires g c = rw c.method_of.ensures (is_token-method_of (schema_o
 pub returns : goal.returns
 returns g c =
     let message = c.in_ok-message.ensures.ok in
-    let target = rw (c.template_of-template.ensures, c.as_slice.ensures.value, c.as_str.ensures.value) at c.in_ok-target.ensures.ok in
+    let target = rw (c.uri_template-template.ensures, c.as_slice.ensures.value, c.as_str.ensures.value) at c.in_ok-target.ensures.ok in
     let protocol : Protocol = record { content_type = c.args.plan.content_type.now; text_of = (g.S.ShapeSerializer.seen c.args.serializer).text } in
     subst (λ (answer : Result Request Fault). Answers c.request_with.result answer)
     (same_request _ _ (string_bytes c.in_ok-target.target) _ _ _ _ c.method_of.ensures message.headers message.body

@@ -1,7 +1,7 @@
 use Rattle.std.proofs.Common.{rules, ◌+◌, sym, ap, ◌∙◌, [], ℕ, List, drop, map, get_or, false}
 use Rattle.std.proofs.lemmas.List.{map-append, drop_more, take_rest}
 use Rattle.smithy_binding.specs.views.CutTemplate.{behind_holes, literal_alone}
-use Rattle.smithy_binding.specs.declared.template.CutHole.{CutHole}
+use Rattle.smithy_schema.specs.declared.first_hole.CutHole.{CutHole}
 use Rattle.smithy_recovery.specs.views.Kept.{label_seen, text_behind}
 use Rattle.smithy_recovery.specs.PathParts.{path_texts}
 use Rattle.smithy_recovery.proofs.Cutting.{behind_done, path_more, path_stop}

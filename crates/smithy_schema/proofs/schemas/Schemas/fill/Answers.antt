@@ -11,7 +11,7 @@ index_mut-requires c =
 
 pub invariant_of-self : goal.invariant_of-self
 invariant_of-self c =
-    rw c.put.ensures (kept.IsKept-filled c.self.inside.nodes.items c.args.index.0 c.in_ok-node.node c.args.schema c.self.invariant (rw (← c.self.view_is) at c.requires) c.in_ok-node.ensures.node c.in_ok-node.ensures.whole (rw c.as_slice.ensures.value at c.in_ok-node.ensures.names))
+    rw c.put.ensures (kept.IsKept-filled c.self.inside.nodes.items c.args.index.0 c.in_ok-node.node c.args.schema c.self.invariant (rw (← c.self.view_is) at c.requires) c.in_ok-node.ensures.node c.in_ok-node.ensures.whole (rw c.as_slice.ensures.value at c.in_ok-node.ensures.members))
 
 pub returns-clause-ok : goal.returns-clause-ok
 returns-clause-ok c =

@@ -1,5 +1,12 @@
 -- A template cut at its first hole.
-use Rattle.smithy_binding.proofs.Common.{◌≡◌, refl, ap, ◌∙◌, ℕ, ◌+◌, Bool, true, false, not, cond, ◌||◌, ◌==◌, List, [], ◌∷◌, ◌++◌, length, codes, if◌then◌else◌, arith, count_by, suc, take, drop, eqb-true, append-nil, slice_split, before_first, after_first, onto_first, position_or_len, has_byte, Template, hole_of, pieces, pieces_of_parts, CutHole, hole_shown, behind_hole, behind_holes, literal_alone, is_close, is_open}
+use Rattle.std.proofs.Common.{◌≡◌, refl, ap, ◌∙◌, ℕ, ◌+◌, Bool, true, false, not, cond, ◌||◌, ◌==◌, List, [], ◌∷◌, ◌++◌, length, codes, if◌then◌else◌, arith, count_by, suc, take, drop}
+use Rattle.std.proofs.lemmas.Bool.{eqb-true}
+use Rattle.std.proofs.lemmas.List.{append-nil}
+use Rattle.std.specs.List.{slice_split, before_first, after_first, onto_first, position_or_len}
+use Rattle.smithy_types.specs.Texts.{has_byte}
+use Rattle.smithy_schema.specs.Templates.{Template, hole_of, pieces_of_parts}
+use Rattle.smithy_schema.specs.Templates.{pieces}
+use Rattle.smithy_schema.specs.views.CutHoles.{behind_hole, literal_alone, is_close, is_open}
 use Rattle.std.proofs.lemmas.List.Splits.{length-slice_split}
 
 -- a byte before the first literal
@@ -110,11 +117,4 @@ cut-unclosed text given e =
         go false h given rest =
             rw (take_next (position_or_len is_open text) b text, drop_next (position_or_len is_open text) b text) (ap (λ (t : List ℕ). b ∷ t) (rest given))
 
--- a further hole
-pub behind_holes-more : (hs : List CutHole) (h : CutHole) (t : Template) → behind_holes (hs ++ h ∷ []) t ≡ behind_holes hs (behind_hole h.literal.now (hole_shown h) t)
-behind_holes-more [] h t = refl
-behind_holes-more (g ∷ hs) h t = ap (behind_hole g.literal.now (hole_shown g)) (behind_holes-more hs h t)
-
 pub ruleset cutting = (cut-hole, cut-none, cut-unclosed)
-
-pub ruleset holing = (behind_holes-more)
