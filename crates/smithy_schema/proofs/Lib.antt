@@ -1,3 +1,4 @@
+pub mod ColumnLemmas
 pub mod FollowerLemmas
 pub mod KeptLemmas
 pub mod NamedLemmas

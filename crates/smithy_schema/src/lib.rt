@@ -4,6 +4,7 @@
 mod cited_nodes;
 mod defining;
 mod error;
+mod extension;
 pub mod laws;
 mod member_names;
 mod outline;
@@ -21,6 +22,7 @@ mod trait_map;
 mod traits;
 
 pub use error::SchemaError;
+pub use extension::{Provider, SchemaExtension};
 pub use owned_trait::{AnnotationTrait, DocumentTrait, StringTrait, Trait};
 pub use parts::SchemaIndex;
 pub use prelude::Prelude;
