@@ -1,5 +1,5 @@
 // Header fields.
-ghost use Rattle.std.specs.Prelude.{◌≡◌, ◌∷◌, ◌++◌, [], map, false, ◌↔◌, IfOk, IfErr, OnOk, OnErr, IsErrOf};
+ghost use Rattle.std.specs.Prelude.{◌≡◌, ◌∷◌, ◌++◌, [], map, string_bytes, false, ◌↔◌, IfOk, IfErr, OnOk, OnErr, IsErrOf};
 ghost use Rattle.std.specs.Cow.{cow_str_bytes};
 ghost use Rattle.std.specs.Option.{option_copied};
 ghost use Rattle.std.specs.Str.{str_to_ascii_lowercase};
@@ -12,8 +12,8 @@ ghost use Rattle.smithy_http.specs.Refusals.{HasUnfitValue, IsPairRefusal};
 
 use crate::error::HttpError;
 use crate::pairs::{
-    Pair, Places, add_pair, copy_pair, named_part, next_value, put_pair, remove_named, tested_pair,
-    tested_text_pair,
+    Pair, Places, add_pair, copy_pair, named_part, next_value, put_pair, remove_named,
+    tested_lower_pair, tested_pair, tested_text_pair,
 };
 use crate::values::{GetAll, GetAllBytes, text_in};
 use smithy_types::OutOfMemory;
@@ -80,6 +80,25 @@ impl Headers {
         ensures err { OnErr result (self.new ≡ self.old) }
     {
         let pair = tested_text_pair(self.allocator(), name, value)?;
+        put_pair(&mut self.pairs, &mut self.places, pair)?;
+        Ok(())
+    }
+
+    /// `insert_text` with a name that is in lower case, of which no copy is made either. Condition: no letter of it is a
+    /// capital one.
+    ///
+    /// Refused as `try_insert` is, with `Name`, then with `Value`. After a refusal the fields are unchanged. Takes memory.
+    pub fn insert_lower(&mut self, name: String, value: CowStr<'_, Global>) -> Result<(), HttpError>
+        requires { str_to_ascii_lowercase (string_bytes name) ≡ string_bytes name }
+        ensures ok { OnOk result
+            (self.new ≡ put self.old (field (string_bytes name) (cow_str_bytes value.entry))) }
+        ensures name { IsErrOf result HttpError.Name ↔ (grammar.is_token (string_bytes name) ≡ false) }
+        ensures value { IsErrOf result HttpError.Value
+            ↔ HasUnfitValue (string_bytes name) (cow_str_bytes value.entry) }
+        ensures refusals { IfErr result IsPairRefusal }
+        ensures err { OnErr result (self.new ≡ self.old) }
+    {
+        let pair = tested_lower_pair(self.allocator(), name, value)?;
         put_pair(&mut self.pairs, &mut self.places, pair)?;
         Ok(())
     }
