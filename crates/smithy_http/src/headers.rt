@@ -1,5 +1,5 @@
 // Header fields.
-ghost use Rattle.std.specs.Prelude.{◌≡◌, ◌∷◌, ◌++◌, [], map, string_bytes, false, ◌↔◌, IfOk, IfErr, OnOk, OnErr, IsErrOf};
+ghost use Rattle.std.specs.Prelude.{◌≡◌, ◌∷◌, ◌++◌, [], map, false, ◌↔◌, IfOk, IfErr, OnOk, OnErr, IsErrOf};
 ghost use Rattle.std.specs.Cow.{cow_str_bytes};
 ghost use Rattle.std.specs.Option.{option_copied};
 ghost use Rattle.std.specs.Str.{str_to_ascii_lowercase};
@@ -16,7 +16,7 @@ use crate::pairs::{
     tested_lower_pair, tested_pair, tested_text_pair,
 };
 use crate::values::{GetAll, GetAllBytes, text_in};
-use smithy_types::OutOfMemory;
+use smithy_types::{OutOfMemory, Text};
 use std::alloc::Global;
 use std::borrow::CowStr;
 use std::marker::Model;
@@ -88,13 +88,11 @@ impl Headers {
     /// capital one.
     ///
     /// Refused as `try_insert` is, with `Name`, then with `Value`. After a refusal the fields are unchanged. Takes memory.
-    pub fn insert_lower(&mut self, name: String, value: CowStr<'_, Global>) -> Result<(), HttpError>
-        requires { str_to_ascii_lowercase (string_bytes name) ≡ string_bytes name }
-        ensures ok { OnOk result
-            (self.new ≡ put self.old (field (string_bytes name) (cow_str_bytes value.entry))) }
-        ensures name { IsErrOf result HttpError.Name ↔ (grammar.is_token (string_bytes name) ≡ false) }
-        ensures value { IsErrOf result HttpError.Value
-            ↔ HasUnfitValue (string_bytes name) (cow_str_bytes value.entry) }
+    pub fn insert_lower(&mut self, name: Text, value: CowStr<'_, Global>) -> Result<(), HttpError>
+        requires { str_to_ascii_lowercase name ≡ name }
+        ensures ok { OnOk result (self.new ≡ put self.old (field name (cow_str_bytes value.entry))) }
+        ensures name { IsErrOf result HttpError.Name ↔ (grammar.is_token name ≡ false) }
+        ensures value { IsErrOf result HttpError.Value ↔ HasUnfitValue name (cow_str_bytes value.entry) }
         ensures refusals { IfErr result IsPairRefusal }
         ensures err { OnErr result (self.new ≡ self.old) }
     {

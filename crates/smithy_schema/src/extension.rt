@@ -8,7 +8,8 @@ use smithy_types::OutOfMemory;
 use std::alloc::Global;
 use std::marker::Model;
 
-/// What fills the cells of a column. Each `Fn(SchemaRef<'_>) -> Result<T, OutOfMemory>` is one.
+/// What fills the cells of a column: of a node what its cell holds. It says by `gives` what that may be, and by `takes` of which
+/// nodes it may be asked.
 pub trait Provider<T> {
     ghost use Rattle.std.specs.Prelude.{IfOk};
     ghost use Rattle.smithy_schema.specs.Nodes.{Schema};
@@ -24,21 +25,6 @@ pub trait Provider<T> {
     fn provide(&self, node: SchemaRef<'_>) -> Result<T, OutOfMemory>
         requires { takes self.now (schema_of node) }
         ensures { IfOk result (λ cell. gives self.now (schema_of node.entry) cell) };
-}
-
-impl<T, F: Fn(SchemaRef<'_>) -> Result<T, OutOfMemory>> Provider<T> for F {
-    ghost use Rattle.std.specs.Prelude.{◌≡◌, Ok};
-    ghost use Rattle.smithy_schema.specs.declared.schema_ref.SchemaRef.{SchemaRef};
-    ghost use Rattle.smithy_schema.specs.views.References.{schema_of};
-
-    ghost takes = { λ f schema. (node : SchemaRef) → schema_of node ≡ schema → F.pre f node };
-
-    ghost gives = { λ f schema cell.
-        (node : SchemaRef) × (schema_of node ≡ schema) × F.post f node (Ok cell) };
-
-    fn provide(&self, node: SchemaRef<'_>) -> Result<T, OutOfMemory> {
-        self(node)
-    }
 }
 
 /// Data beside a table: a cell for each place, which the provider fills where it is asked for first. Seen as the table,
