@@ -1,5 +1,5 @@
 -- The walk, and then the body: what a message has, or its first fault.
-use Rattle.smithy_binding.proofs.Common.{◌≡◌, refl, sym, ◌∙◌, ap, ℕ, List, [], subst, Result, Ok, Err, Option, Some, None, Schema, Write, all_resolved, headers, body, BodyParts, body_parts, body_fault, document_value, document_by, bytes_by, form_in, Protocol, OmitFlags, all_headers, message_fault, message_headers, Direction, Fault, fault_of_document, writes_fault_by, bound_fault_in, Gathered, gather, ok_unless, nothing_yet}
+use Rattle.smithy_binding.proofs.Common.{◌≡◌, refl, sym, ◌∙◌, ap, ℕ, List, [], subst, Result, Ok, Err, Option, Some, None, Schema, Write, all_resolved, body, BodyParts, body_parts, body_fault, document_value, document_by, bytes_by, form_in, Protocol, OmitFlags, all_headers, message_fault, message_headers, Direction, Fault, fault_of_document, writes_fault_by, bound_fault_in, Gathered, gather, ok_unless, nothing_yet}
 use Rattle.smithy_types.specs.Documents.{Document}
 use Rattle.smithy_binding.specs.declared.body_form.BodyForm.{BodyForm}
 use Rattle.smithy_binding.proofs.Gathers.{gathered, gather-all, IsGathered, IsGathered-all}

@@ -8,6 +8,7 @@ pub mod Entries
 pub mod Gather
 pub mod KeptWrites
 pub mod LabelTexts
+pub mod NamesAtHand
 pub mod PayloadKinds
 pub mod Placed
 pub mod PlacedMessages
