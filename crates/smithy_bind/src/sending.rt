@@ -8,12 +8,12 @@ ghost use Rattle.smithy_bind.specs.Outcome.{json_bodies, sent_by, sent_job};
 ghost use Rattle.smithy_bind.specs.views.AnswerView.{Gives, Sends, IsPlaced, IsPosted};
 
 use crate::told::{Answer, told};
-use smithy_binding::{HttpBindingProtocol, HttpRpcProtocol, checked_input};
+use smithy_binding::{HttpBindingProtocol, HttpRpcProtocol, LowerHeaderNames, checked_input};
 use smithy_http::Request;
 use smithy_job::{Job, Sending, read_job};
 use smithy_json::JsonValue;
 use smithy_model::JobError;
-use smithy_schema::SchemaRef;
+use smithy_schema::{SchemaExtension, SchemaRef};
 use smithy_serde::{Codec, OmitFlags, SerdeError, StructValue};
 use std::alloc::Global;
 
@@ -85,7 +85,11 @@ pub fn placed<C: Codec + Drop>(
     ensures { IsPlaced (C.text codec) schema.entry (members_of input.now) endpoint.now omit result }
 {
     let protocol = HttpBindingProtocol::rest_json(codec);
-    placed_by(alloc, &protocol, schema, input, endpoint, omit)
+    let Some(table) = schema.table() else {
+        return protocol.serialize_request(alloc, input, schema, endpoint, omit);
+    };
+    let mut names = SchemaExtension::new(alloc, table, LowerHeaderNames::new(alloc))?;
+    protocol.serialize_request_cached(alloc, input, schema, endpoint, omit, &mut names)
 }
 
 /// The same by a protocol of bodies of JSON, whose codec is lawful.

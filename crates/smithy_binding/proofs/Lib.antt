@@ -26,6 +26,7 @@ pub mod KeptSteps
 pub mod LabelLemmas
 pub mod ListWrites
 pub mod LowerNames
+pub mod NameSteps
 pub mod MapEntries
 pub mod MemberSteps
 pub mod MessageEnds

@@ -9,6 +9,7 @@ pub mod Clear
 pub mod Directions
 pub mod Faults
 pub mod Filling
+pub mod HeaderNames
 pub mod Laws
 pub mod Messages
 pub mod NormalForm

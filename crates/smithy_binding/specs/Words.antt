@@ -7,7 +7,7 @@ pub use Rattle.smithy_ids.specs.declared.traits.TimestampFormat.{TimestampFormat
 pub use Rattle.smithy_schema.specs.Nodes.{Binding, Http, Node, Schema, Table, Traits, at_place, binding_of, cites_nodes, element_of, is_bound}
 pub use Rattle.smithy_schema.specs.Nodes.{is_response_bound, key_of, member_at, members_of, name_of, to_body, to_header, to_label}
 pub use Rattle.smithy_schema.specs.Nodes.{position_of_name, to_payload, to_prefix, to_query, to_query_map, value_of}
-pub use Rattle.smithy_schema.specs.References.{schema_of}
+pub use Rattle.smithy_schema.specs.References.{index_of, schema_of}
 pub use Rattle.smithy_schema.specs.ShownBindings.{binding_shown}
 pub use Rattle.smithy_schema.specs.Templates.{Hole, Piece, Template, has_unclosed_brace, hole_of, holes_of}
 unfoldable pub use Rattle.smithy_schema.specs.Templates.{pieces}

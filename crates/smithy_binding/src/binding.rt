@@ -1,11 +1,12 @@
 // Where a member stands in a message (Smithy, HTTP protocol bindings).
-ghost use Rattle.std.specs.Prelude.{◌≡◌, length, option_map};
+ghost use Rattle.std.specs.Prelude.{◌≡◌, length, option_map, IfSome};
 ghost use Rattle.smithy_binding.specs.Words.{name_of, is_bound, schema_of, binding_of, binding_shown, element_of, member_at};
 ghost use Rattle.smithy_binding.specs.declared.direction.Direction.TheVariants as direction;
 ghost use Rattle.smithy_binding.specs.Bindings.{kind_or_none};
 ghost use Rattle.smithy_binding.specs.Directions.{directed_schema};
 ghost use Rattle.smithy_binding.specs.Faults.{is_placed_at};
-ghost use Rattle.smithy_binding.specs.views.Directed.{directed_member, directed_of};
+ghost use Rattle.smithy_binding.specs.views.Directed.{directed_of, with_direction};
+ghost use Rattle.smithy_binding.specs.views.NamesAtHand.{IsMemberAt};
 
 use crate::direction::{DirectedSchema, Direction};
 use smithy_ids::ShapeType;
@@ -67,7 +68,7 @@ pub fn member_count(schema: SchemaRef<'_>) -> usize
 // The member with the direction.
 #[inline(always)]
 fn directed<'t>(member: Option<SchemaRef<'t>>, way: Direction) -> Option<DirectedSchema<'t>>
-    ensures { option_map directed_of result ≡ directed_member way member.entry }
+    ensures { result ≡ option_map (with_direction way) member.entry }
 {
     match member {
         Some(schema) => Some(DirectedSchema { schema, way }),
@@ -78,7 +79,8 @@ fn directed<'t>(member: Option<SchemaRef<'t>>, way: Direction) -> Option<Directe
 /// The member at a position.
 #[inline(always)]
 pub fn member_at<'t>(schema: DirectedSchema<'t>, position: usize) -> Option<DirectedSchema<'t>>
-    ensures { option_map directed_of result ≡ member_at (directed_of schema.entry) position }
+    ensures node { option_map directed_of result ≡ member_at (directed_of schema.entry) position }
+    ensures member { IfSome result (IsMemberAt schema.entry position) }
 {
     directed(schema.schema.member_schema_by_index(position), schema.way)
 }

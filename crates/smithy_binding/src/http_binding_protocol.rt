@@ -1,11 +1,14 @@
 // The protocol that places requests by the HTTP binding traits (Smithy, HTTP protocol bindings).
 
+use crate::header_names::Lowered;
 use crate::output::{PlacedOutput, place_stored_output};
-use crate::place::{Plan, place_writes};
+use crate::place::{Plan, place_input};
 use smithy_http::Request;
 use smithy_ids::ShapeId;
-use smithy_schema::SchemaRef;
+use smithy_schema::laws::cells_are_given;
+use smithy_schema::{Provider, SchemaExtension, SchemaRef};
 use smithy_serde::{Codec, OmitFlags, SerdeError, SerializableStruct, record_members};
+use smithy_types::Text;
 use std::alloc::Global;
 use std::marker::Model;
 
@@ -99,11 +102,13 @@ impl<C: Drop> HttpBindingProtocol<C> {
 }
 
 impl<C: Codec> HttpBindingProtocol<C> {
-    ghost use Rattle.std.specs.Prelude.{◌≡◌, IsTrue};
+    ghost use Rattle.std.specs.Prelude.{◌≡◌, IsTrue, OnOk};
+    ghost use Rattle.smithy_schema.specs.Columns.{AreGiven, KeepsCells};
     ghost use Rattle.smithy_schema.specs.References.{schema_of};
     ghost use Rattle.smithy_serde.specs.Finishing.{IsReady};
     ghost use Rattle.smithy_binding.specs.Checked.{checked_input};
     ghost use Rattle.smithy_binding.specs.CheckedOutput.{checked_output};
+    ghost use Rattle.smithy_binding.specs.HeaderNames.{AreFilled, GivesHeaderNames};
     ghost use Rattle.smithy_binding.specs.Protocols.{AnswersBy, AnswersOutput};
 
     /// The request of an input, by its schema (Smithy, HTTP protocol bindings). Without `@http` the method is `GET`, and
@@ -159,11 +164,43 @@ impl<C: Codec> HttpBindingProtocol<C> {
             content_type: self.content_type,
             omit,
         };
-        if let Some((table, writes)) = input.stored_writes() {
-            return place_writes(alloc, body, table, writes, plan);
-        }
-        let recorded = record_members(alloc, input)?;
-        place_writes(alloc, body, recorded.table(), recorded.writes(), plan)
+        place_input(alloc, &mut Lowered, body, input, plan)
+    }
+
+    /// `serialize_request` with a column of the header names in lower case, mostly by `LowerHeaderNames`: each is made for
+    /// the first request that has it, and taken from its cell for the later ones. Further conditions: the column is beside
+    /// the schema's table, and each answer of its provider is the node's header name in lower case, None without one. After
+    /// any answer the filled cells are filled as before; after `Ok` so are those of the header members that have a write.
+    pub fn serialize_request_cached<F: Provider<Option<Text>> + Drop>(
+        &self,
+        alloc: Global,
+        input: &dyn SerializableStruct,
+        schema: SchemaRef<'_>,
+        endpoint: &str,
+        omit: OmitFlags,
+        names: &mut SchemaExtension<'_, Option<Text>, F>,
+    ) -> Result<Request, SerdeError>
+        requires checked { IsTrue (checked_input (schema_of schema)) }
+        requires lawful { C.lawful self.now.codec }
+        requires beside { names.old.table ≡ (schema_of schema).table }
+        requires names { GivesHeaderNames F.gives names.old.provider }
+        ensures answer { AnswersBy
+            C.text self.now schema.entry (writes input.now) endpoint.now omit result }
+        ensures given { AreGiven F.gives names.new }
+        ensures kept { KeepsCells names.old names.new }
+        ensures filled { OnOk result (AreFilled names.new schema.entry (writes input.now)) }
+    {
+        cells_are_given(names);
+        let body = self.codec.create_serializer(alloc)?;
+        let plan = Plan {
+            schema,
+            endpoint,
+            content_type: self.content_type,
+            omit,
+        };
+        let placed = place_input(alloc, names, body, input, plan);
+        cells_are_given(names);
+        placed
     }
 
     /// What an output has in a response, by its schema (Smithy, HTTP protocol bindings): as `serialize_request` places an

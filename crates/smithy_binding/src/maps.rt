@@ -18,7 +18,7 @@ use crate::target::push_pair;
 use smithy_http::Headers;
 use smithy_schema::{SchemaRef, Schemas};
 use smithy_serde::{SerdeError, ShapeValue, WriteList};
-use smithy_types::OutOfMemory;
+use smithy_types::{OutOfMemory, Text};
 use std::alloc::{AllocError, Global};
 use std::borrow::CowStr;
 use std::collections::BTreeMap;
@@ -163,13 +163,9 @@ fn put_entry(
     let mut name = String::with_capacity(alloc, prefix.len() + key.len())?;
     name.push_str(prefix)?;
     name.push_str(key)?;
-    put_header(
-        alloc,
-        member,
-        headers,
-        name.as_str(),
-        CowStr::Borrowed(value),
-    )
+    name.make_ascii_lowercase();
+    let name = Text::from_string(name);
+    put_header(alloc, member, headers, name, CowStr::Borrowed(value))
 }
 
 /// Puts a header of each entry, named by the prefix and the key, in place of an earlier one with its name (Smithy, HTTP

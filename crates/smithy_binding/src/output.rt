@@ -10,6 +10,7 @@ ghost use Rattle.smithy_binding.specs.views.Resolving.{is_code_label};
 use crate::binding::binding_of;
 use crate::code::status_value;
 use crate::direction::{DirectedSchema, Direction};
+use crate::header_names::Lowered;
 use crate::message::{MessagePlan, place_message};
 use crate::resolve::resolve;
 use smithy_http::Headers;
@@ -111,7 +112,7 @@ pub fn place_stored_output<S: FinishSerializer + Drop>(
         content_type,
         omit: OmitFlags::KEEP_ALL,
     };
-    let message = place_message(alloc, serializer, table, writes, plan)?;
+    let message = place_message(alloc, &mut Lowered, serializer, table, writes, plan)?;
     Ok(PlacedOutput {
         code: written_code(out, table, writes),
         headers: message.headers,

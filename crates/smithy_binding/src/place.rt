@@ -1,14 +1,16 @@
 // The request of an input (Smithy, HTTP protocol bindings).
-ghost use Rattle.std.specs.Prelude.{◌≡◌, IsTrue, string_bytes};
+ghost use Rattle.std.specs.Prelude.{◌≡◌, IsTrue, OnOk, string_bytes};
 ghost use Rattle.smithy_binding.specs.Words.{is_token, pieces, is_header_value, schema_of, writes_in, AreDefined, IsReady};
 ghost use Rattle.smithy_binding.specs.Checked.{checked_input};
 ghost use Rattle.smithy_binding.specs.Answer.{legal_request};
+ghost use Rattle.smithy_binding.specs.HeaderNames.{AreNamed};
 ghost use Rattle.smithy_binding.specs.Placing.{method_of, template_of, endpoint_or_slash};
 ghost use Rattle.smithy_binding.specs.views.LeftTemplates.{template_left};
 ghost use Rattle.smithy_binding.specs.views.Planned.{AnswersPlan};
 ghost use Rattle.smithy_binding.specs.Refusing.{Answers};
 
 use crate::direction::{DirectedSchema, Direction};
+use crate::header_names::HeaderNames;
 use crate::message::{MessagePlan, place_message};
 use crate::refusal::{not_legal, too_long};
 use crate::target::whole_target;
@@ -16,7 +18,9 @@ use crate::template_rest::TemplateRest;
 use crate::uri_template::UriTemplate;
 use smithy_http::{Headers, Request};
 use smithy_schema::{SchemaRef, Schemas};
-use smithy_serde::{FinishSerializer, OmitFlags, SerdeError, WriteList};
+use smithy_serde::{
+    FinishSerializer, OmitFlags, SerdeError, SerializableStruct, WriteList, record_members,
+};
 use smithy_types::{Blob, MAX_TARGET_LEN, Text};
 use std::alloc::Global;
 
@@ -99,8 +103,9 @@ pub struct Plan<'s, 'e, 'c> {
 
 /// The request of the writes, whose nodes are those of the table, placed by a checked input schema; `serializer` writes
 /// the body. Its refusals are those of `HttpBindingProtocol::serialize_request`. Takes memory.
-pub fn place_writes<S: FinishSerializer + Drop>(
+pub fn place_writes<S: FinishSerializer + Drop, N: HeaderNames>(
     alloc: Global,
+    names: &mut N,
     serializer: S,
     table: &Schemas,
     writes: &WriteList,
@@ -110,7 +115,12 @@ pub fn place_writes<S: FinishSerializer + Drop>(
     requires defined { AreDefined table.now writes.now }
     requires content_type { IsTrue (is_header_value plan.content_type.now) }
     requires ready { IsReady (S.seen serializer) }
-    ensures { AnswersPlan (S.seen serializer).text plan.entry (writes_in table.now writes.now) result }
+    requires serves { N.serves names.old (schema_of plan.schema).table }
+    ensures answer { AnswersPlan
+        (S.seen serializer).text plan.entry (writes_in table.now writes.now) result }
+    ensures kept { N.keeps names.old names.new }
+    ensures named { OnOk result
+        (AreNamed (N.has names.new) plan.entry.schema (writes_in table.now writes.now)) }
 {
     let schema = plan.schema;
     let directed = DirectedSchema {
@@ -122,7 +132,7 @@ pub fn place_writes<S: FinishSerializer + Drop>(
         content_type: plan.content_type,
         omit: plan.omit,
     };
-    let message = place_message(alloc, serializer, table, writes, message_plan)?;
+    let message = place_message(alloc, names, serializer, table, writes, message_plan)?;
     let template = uri_template(schema, plan.endpoint);
     let target = whole_target(
         alloc,
@@ -136,5 +146,35 @@ pub fn place_writes<S: FinishSerializer + Drop>(
         target,
         message.headers,
         message.body,
+    )
+}
+
+/// The request of an input, which is told to a recorder where it keeps no writes; all else is as of `place_writes`.
+pub fn place_input<S: FinishSerializer + Drop, N: HeaderNames>(
+    alloc: Global,
+    names: &mut N,
+    serializer: S,
+    input: &dyn SerializableStruct,
+    plan: Plan<'_, '_, '_>,
+) -> Result<Request, SerdeError>
+    requires checked { IsTrue (checked_input (schema_of plan.schema)) }
+    requires content_type { IsTrue (is_header_value plan.content_type.now) }
+    requires ready { IsReady (S.seen serializer) }
+    requires serves { N.serves names.old (schema_of plan.schema).table }
+    ensures answer { AnswersPlan (S.seen serializer).text plan.entry (writes input.now) result }
+    ensures kept { N.keeps names.old names.new }
+    ensures named { OnOk result (AreNamed (N.has names.new) plan.entry.schema (writes input.now)) }
+{
+    if let Some((table, writes)) = input.stored_writes() {
+        return place_writes(alloc, names, serializer, table, writes, plan);
+    }
+    let recorded = record_members(alloc, input)?;
+    place_writes(
+        alloc,
+        names,
+        serializer,
+        recorded.table(),
+        recorded.writes(),
+        plan,
     )
 }

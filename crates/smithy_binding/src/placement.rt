@@ -4,12 +4,14 @@ ghost use Rattle.smithy_binding.specs.Words.{list_all, Table, members_of, to_hea
 ghost use Rattle.smithy_binding.specs.Faults.{item_fault, is_placed_at};
 ghost use Rattle.smithy_binding.specs.views.Directed.{directed_of};
 ghost use Rattle.smithy_binding.specs.views.Gather.{nothing_yet};
+ghost use Rattle.smithy_binding.specs.HeaderNames.{HasNameAt};
+ghost use Rattle.smithy_binding.specs.views.NamesAtHand.{HasOwnName, IsMemberAt, SeenHaveNames, WriteHasName, WritesHaveNames};
 ghost use Rattle.smithy_binding.specs.views.KeptWrites.{IsEmpty, IsKeptDefined, KeepsDefined};
 ghost use Rattle.smithy_binding.specs.views.Placed.{has_placed_kind, is_text_member, is_list_binding, takes_map, first_fault, IsSingle};
 ghost use Rattle.smithy_binding.specs.Refusing.{Reports};
 ghost use Rattle.smithy_binding.specs.ResponseCodes.{status_fault};
 ghost use Rattle.smithy_binding.specs.views.PutHeaders.{PutsList};
-ghost use Rattle.smithy_binding.specs.views.Seen.{gathered_of, Places, TellsFirst, TestsStatus, AddsMember, AddsWrite, GathersAll};
+ghost use Rattle.smithy_binding.specs.views.Seen.{gathered_of, Places, PlacesValue, TellsFirst, TestsStatus, AddsMember, AddsWrite, GathersAll};
 ghost use Rattle.smithy_binding.specs.views.StoredTexts.{list_in, map_in};
 
 use crate::binding::{binding_of, element_kind, is_placed, name_of};
@@ -18,10 +20,10 @@ use crate::bound_text::{place_of, text_of};
 use crate::code::status_value;
 use crate::direction::{DirectedSchema, Direction};
 use crate::elements::{listed_text, push_elements, test_list};
+use crate::header_names::{HeaderNames, put_named};
 use crate::kinds::fits_member;
 use crate::labels::Label;
 use crate::maps::{push_entries, put_entries, test_map};
-use crate::member_header::put_header;
 use crate::refusal::{no_status, unknown_member, wrong_kind};
 use crate::resolve::resolve;
 use crate::target::push_pair;
@@ -76,8 +78,9 @@ fn mark(seen: &mut Vec<bool>, position: usize)
 }
 
 // Puts the first write of one value.
-fn add_single<'t, 'w>(
+fn add_single<'t, 'w, N: HeaderNames>(
     alloc: Global,
+    names: &mut N,
     schema: DirectedSchema<'_>,
     member: DirectedSchema<'t>,
     binding: Binding<'_>,
@@ -87,12 +90,21 @@ fn add_single<'t, 'w>(
     requires bound { binding_shown binding ≡ binding_of (directed_of member) }
     requires placed { IsTrue (is_text_member (directed_of member)) }
     requires single { (t : Table) → IsSingle (value_in t value.now) }
-    ensures { (t : Table) →
-        Places schema.entry member.entry (value_in t value.now) parts.old parts.new result }
+    requires serves { N.serves names.old (schema_of member.schema).table }
+    ensures put { PlacesValue schema.entry member.entry value.now parts.old parts.new result }
+    ensures kept { N.keeps names.old names.new }
+    ensures named { OnOk result (HasOwnName (N.has names.new) member.entry.schema) }
 {
     let text = text_of(alloc, member.schema, place_of(binding), value)?;
     match binding {
-        Binding::Header(name) => put_header(alloc, member.schema, &mut parts.headers, name, text),
+        Binding::Header(name) => put_named(
+            alloc,
+            names,
+            member.schema,
+            &mut parts.headers,
+            name,
+            text,
+        ),
         Binding::Query(name) => {
             push_pair(&mut parts.query, name, text.as_str())?;
             Ok(())
@@ -107,8 +119,9 @@ fn add_single<'t, 'w>(
 }
 
 // Puts a header of the texts of a list, whose elements are of this kind.
-fn put_list(
+fn put_list<N: HeaderNames>(
     alloc: Global,
+    names: &mut N,
     table: &Schemas,
     member: DirectedSchema<'_>,
     headers: &mut Headers,
@@ -117,15 +130,19 @@ fn put_list(
 ) -> Result<(), SerdeError>
     requires header { to_header name.now ≡ binding_of (directed_of member) }
     requires kinds { item_fault (directed_of member) (list_in table.now elements.now) ≡ None }
+    requires serves { N.serves names.old (schema_of member.schema).table }
     ensures ok { OnOk result
         (first_fault (directed_of member.entry) (list_in table.now elements.now) ≡ None) }
     ensures put { OnOk result
         (PutsList name.now member.entry table.now elements.now headers.old headers.new) }
     ensures err { IfErr result (TellsFirst member.entry (list_in table.now elements.now)) }
+    ensures kept { N.keeps names.old names.new }
+    ensures named { OnOk result (HasOwnName (N.has names.new) member.entry.schema) }
 {
     let text = listed_text(alloc, table, element_kind(member), elements)?;
-    put_header(
+    put_named(
         alloc,
+        names,
         member.schema,
         headers,
         name,
@@ -134,8 +151,9 @@ fn put_list(
 }
 
 // Puts the first write of a list.
-fn add_list<'t>(
+fn add_list<'t, N: HeaderNames>(
     alloc: Global,
+    names: &mut N,
     schema: DirectedSchema<'_>,
     table: &Schemas,
     member: DirectedSchema<'t>,
@@ -145,13 +163,24 @@ fn add_list<'t>(
 ) -> Result<(), SerdeError>
     requires bound { binding_shown binding ≡ binding_of (directed_of member) }
     requires placed { IsTrue (is_list_binding (binding_of (directed_of member))) }
-    ensures { Places
+    requires serves { N.serves names.old (schema_of member.schema).table }
+    ensures put { Places
         schema.entry member.entry (list_in table.now elements.now) parts.old parts.new result }
+    ensures kept { N.keeps names.old names.new }
+    ensures named { OnOk result (HasOwnName (N.has names.new) member.entry.schema) }
 {
     test_list(alloc, table, member, elements)?;
     match binding {
         Binding::Header(name) => {
-            put_list(alloc, table, member, &mut parts.headers, name, elements)
+            put_list(
+                alloc,
+                names,
+                table,
+                member,
+                &mut parts.headers,
+                name,
+                elements,
+            )
         }
         Binding::Query(name) => push_elements(alloc, table, &mut parts.query, name, elements),
         _ => unreachable!(),
@@ -188,8 +217,9 @@ fn add_map<'t>(
 
 // Puts the first write of a member in the headers, the query or a label, which fits.
 #[tactic(auto, unfolding(smithy_serde::specs::StoredValues::value_in))]
-fn add_first<'t, 'w>(
+fn add_first<'t, 'w, N: HeaderNames>(
     alloc: Global,
+    names: &mut N,
     schema: DirectedSchema<'_>,
     table: &Schemas,
     member: DirectedSchema<'t>,
@@ -201,15 +231,18 @@ fn add_first<'t, 'w>(
     requires placed { IsTrue (is_placed_at (binding_of (directed_of member))) }
     requires kinds { IsTrue (has_placed_kind (directed_of member)) }
     requires fits { IsTrue (fits_member (directed_of member) (value_in table.now value.now)) }
-    ensures { Places
+    requires serves { N.serves names.old (schema_of member.schema).table }
+    ensures put { Places
         schema.entry member.entry (value_in table.now value.now) parts.old parts.new result }
+    ensures kept { N.keeps names.old names.new }
+    ensures named { OnOk result (HasOwnName (N.has names.new) member.entry.schema) }
 {
     match value {
         ShapeValue::List(elements) => add_list(
-            alloc, schema, table, member, binding, parts, elements,
+            alloc, names, schema, table, member, binding, parts, elements,
         ),
         ShapeValue::Map(entries) => add_map(alloc, schema, table, member, binding, parts, entries),
-        _ => add_single(alloc, schema, member, binding, parts, value),
+        _ => add_single(alloc, names, schema, member, binding, parts, value),
     }
 }
 
@@ -247,8 +280,9 @@ fn test_code(
 }
 
 // Puts a write of the member at this position.
-fn add_resolved<'t, 'w>(
+fn add_resolved<'t, 'w, N: HeaderNames>(
     alloc: Global,
+    names: &mut N,
     schema: DirectedSchema<'_>,
     table: &Schemas,
     position: usize,
@@ -256,10 +290,17 @@ fn add_resolved<'t, 'w>(
     parts: &mut MessageParts<'t, 'w>,
     value: &'w ShapeValue,
 ) -> Result<(), SerdeError>
-    requires { IsTrue (has_placed_kind (directed_of member)) }
+    requires kind { IsTrue (has_placed_kind (directed_of member)) }
+    requires member { IsMemberAt schema position member }
+    requires serves { N.serves names.old (schema_of schema.schema).table }
+    requires seen { SeenHaveNames (N.has names.old) (directed_of schema) parts.old.seen.items }
     ensures added { AddsMember
         schema.entry table.now member.entry position value.now parts.old parts.new result }
     ensures defined { OnOk result (KeepsDefined table.now value.now parts.old.body parts.new.body) }
+    ensures kept { N.keeps names.old names.new }
+    ensures seen { OnOk result
+        (SeenHaveNames (N.has names.new) (directed_of schema.entry) parts.new.seen.items) }
+    ensures named { OnOk result (HasNameAt (N.has names.new) (directed_of schema.entry) position) }
 {
     if !fits_member(member, value) {
         return Err(wrong_kind(alloc, member.schema, value));
@@ -273,14 +314,15 @@ fn add_resolved<'t, 'w>(
     if !is_placed(binding) {
         return Ok(());
     }
-    add_first(alloc, schema, table, member, binding, parts, value)?;
+    add_first(alloc, names, schema, table, member, binding, parts, value)?;
     test_code(alloc, schema.way, binding, value)
 }
 
 // Puts a write of this node.
 #[tactic(auto, unfolding(crate::specs::views::Gather::gather_one))]
-fn add_write<'t, 'w>(
+fn add_write<'t, 'w, N: HeaderNames>(
     alloc: Global,
+    names: &mut N,
     schema: DirectedSchema<'t>,
     table: &Schemas,
     parts: &mut MessageParts<'t, 'w>,
@@ -289,9 +331,15 @@ fn add_write<'t, 'w>(
 ) -> Result<(), SerdeError>
     requires kinds { IsTrue (list_all has_placed_kind (members_of (directed_of schema))) }
     requires defined { HasNode table.now node.0 }
+    requires serves { N.serves names.old (schema_of schema.schema).table }
+    requires seen { SeenHaveNames (N.has names.old) (directed_of schema) parts.old.seen.items }
     ensures added { AddsWrite
         schema.entry table.now node.0 value.now parts.old parts.new result }
     ensures defined { OnOk result (KeepsDefined table.now value.now parts.old.body parts.new.body) }
+    ensures kept { N.keeps names.old names.new }
+    ensures seen { OnOk result
+        (SeenHaveNames (N.has names.new) (directed_of schema.entry) parts.new.seen.items) }
+    ensures named { OnOk result (WriteHasName (N.has names.new) schema.entry table.now node.0 value.now) }
 {
     let Some(written) = table.get(node) else {
         unreachable!()
@@ -299,12 +347,13 @@ fn add_write<'t, 'w>(
     let Some((position, member)) = resolve(schema, written) else {
         return Err(unknown_member(alloc, written));
     };
-    add_resolved(alloc, schema, table, position, member, parts, value)
+    add_resolved(alloc, names, schema, table, position, member, parts, value)
 }
 
 /// Puts the writes, whose nodes are those of the table, into the message, in which nothing is yet.
-pub fn gather_writes<'t, 'w>(
+pub fn gather_writes<'t, 'w, N: HeaderNames>(
     alloc: Global,
+    names: &mut N,
     schema: DirectedSchema<'t>,
     table: &Schemas,
     writes: &'w WriteList,
@@ -314,11 +363,14 @@ pub fn gather_writes<'t, 'w>(
     requires defined { AreDefined table.now writes.now }
     requires empty { gathered_of parts.old ≡ nothing_yet (directed_of schema) }
     requires empty_body { IsEmpty parts.old.body }
+    requires serves { N.serves names.old (schema_of schema.schema).table }
     ensures gathered { GathersAll schema.entry table.now writes.now parts.new result }
     ensures defined { OnOk result (IsKeptDefined table.now parts.new.body) }
+    ensures kept { N.keeps names.old names.new }
+    ensures named { OnOk result (WritesHaveNames (N.has names.new) schema.entry table.now writes.now) }
 {
     for (node, value) in writes.iter() {
-        add_write(alloc, schema, table, parts, node, value)?;
+        add_write(alloc, names, schema, table, parts, node, value)?;
     }
     Ok(())
 }

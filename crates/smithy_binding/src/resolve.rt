@@ -1,8 +1,9 @@
 // Which member a write is for.
-ghost use Rattle.std.specs.Prelude.{◌≡◌, option_map};
-ghost use Rattle.smithy_binding.specs.Words.{schema_of, label_of, position_of_name};
+ghost use Rattle.std.specs.Prelude.{◌≡◌, option_map, IfSome};
+ghost use Rattle.smithy_binding.specs.Words.{position_of_name};
 ghost use Rattle.smithy_binding.specs.views.Directed.{directed_of};
-ghost use Rattle.smithy_binding.specs.views.Resolving.{found_at, finds, found_of};
+ghost use Rattle.smithy_binding.specs.views.NamesAtHand.{IsMemberAt};
+ghost use Rattle.smithy_binding.specs.views.Resolving.{found_at, found_of, Finds};
 
 use crate::binding::member_at;
 use crate::direction::DirectedSchema;
@@ -11,7 +12,8 @@ use smithy_schema::SchemaRef;
 // The member at the position, with it.
 #[inline(always)]
 fn found_at<'t>(schema: DirectedSchema<'t>, position: usize) -> Option<(usize, DirectedSchema<'t>)>
-    ensures { option_map found_of result ≡ found_at (directed_of schema.entry) position }
+    ensures found { option_map found_of result ≡ found_at (directed_of schema.entry) position }
+    ensures member { IfSome result (λ r. IsMemberAt schema.entry r.0 r.1) }
 {
     Some((position, member_at(schema, position)?))
 }
@@ -29,8 +31,8 @@ pub fn resolve<'t>(
     schema: DirectedSchema<'t>,
     written: SchemaRef<'_>,
 ) -> Option<(usize, DirectedSchema<'t>)>
-    ensures { option_map found_of result
-        ≡ finds (directed_of schema.entry) (label_of (schema_of written.entry)) }
+    ensures found { Finds schema.entry written.entry result }
+    ensures member { IfSome result (λ r. IsMemberAt schema.entry r.0 r.1) }
 {
     match written.member_index() {
         Some(index) => found_at(schema, index),

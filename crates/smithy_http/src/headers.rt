@@ -12,11 +12,11 @@ ghost use Rattle.smithy_http.specs.Refusals.{HasUnfitValue, IsPairRefusal};
 
 use crate::error::HttpError;
 use crate::pairs::{
-    Pair, Places, add_pair, copy_pair, named_part, next_value, put_pair, remove_named, tested_pair,
-    tested_text_pair,
+    Pair, Places, add_pair, copy_pair, named_part, next_value, put_pair, remove_named,
+    tested_lower_pair, tested_pair, tested_text_pair,
 };
 use crate::values::{GetAll, GetAllBytes, text_in};
-use smithy_types::OutOfMemory;
+use smithy_types::{OutOfMemory, Text};
 use std::alloc::Global;
 use std::borrow::CowStr;
 use std::marker::Model;
@@ -80,6 +80,23 @@ impl Headers {
         ensures err { OnErr result (self.new ≡ self.old) }
     {
         let pair = tested_text_pair(self.allocator(), name, value)?;
+        put_pair(&mut self.pairs, &mut self.places, pair)?;
+        Ok(())
+    }
+
+    /// `insert_text` with a name that is in lower case, of which no copy is made either. Condition: no letter of it is a
+    /// capital one.
+    ///
+    /// Refused as `try_insert` is, with `Name`, then with `Value`. After a refusal the fields are unchanged. Takes memory.
+    pub fn insert_lower(&mut self, name: Text, value: CowStr<'_, Global>) -> Result<(), HttpError>
+        requires { str_to_ascii_lowercase name ≡ name }
+        ensures ok { OnOk result (self.new ≡ put self.old (field name (cow_str_bytes value.entry))) }
+        ensures name { IsErrOf result HttpError.Name ↔ (grammar.is_token name ≡ false) }
+        ensures value { IsErrOf result HttpError.Value ↔ HasUnfitValue name (cow_str_bytes value.entry) }
+        ensures refusals { IfErr result IsPairRefusal }
+        ensures err { OnErr result (self.new ≡ self.old) }
+    {
+        let pair = tested_lower_pair(self.allocator(), name, value)?;
         put_pair(&mut self.pairs, &mut self.places, pair)?;
         Ok(())
     }

@@ -11,7 +11,7 @@ ghost use Rattle.smithy_http.specs.views.Pairs.{pair_of, name_of, shown, values_
 ghost use Rattle.smithy_http.specs.Refusals.{HasUnfitValue, IsPairRefusal};
 
 use crate::error::HttpError;
-use smithy_types::{Blob, OutOfMemory, is_header_value, is_token};
+use smithy_types::{Blob, OutOfMemory, Text, is_header_value, is_token};
 use std::alloc::Global;
 use std::borrow::CowStr;
 use std::collections::BTreeMap;
@@ -69,6 +69,17 @@ pub(crate) fn tested_pair(alloc: Global, name: &str, value: &[u8]) -> Result<Pai
     })
 }
 
+// The pair of a name and a text, of which no copy is made where it is owned.
+#[inline(always)]
+fn text_pair(alloc: Global, name: String, value: CowStr<'_, Global>) -> Result<Pair, OutOfMemory>
+    ensures { IfOk result (λ p. pair_of p ≡ (string_bytes name, cow_str_bytes value.entry)) }
+{
+    Ok(Pair {
+        name,
+        value: Blob::from_vec(value.into_owned(alloc)?.into_bytes()),
+    })
+}
+
 // The same with a text as the value, of which no copy is made where it is owned.
 pub(crate) fn tested_text_pair(
     alloc: Global,
@@ -81,10 +92,23 @@ pub(crate) fn tested_text_pair(
     ensures refusals { IfErr result IsPairRefusal }
 {
     test_pair(name, value.as_str().as_bytes())?;
-    Ok(Pair {
-        name: lower_name(alloc, name)?,
-        value: Blob::from_vec(value.into_owned(alloc)?.into_bytes()),
-    })
+    Ok(text_pair(alloc, lower_name(alloc, name)?, value)?)
+}
+
+// The same with a name that is in lower case, of which no copy is made either.
+pub(crate) fn tested_lower_pair(
+    alloc: Global,
+    name: Text,
+    value: CowStr<'_, Global>,
+) -> Result<Pair, HttpError>
+    requires { str_to_ascii_lowercase name ≡ name }
+    ensures ok { IfOk result (λ p. pair_of p ≡ field name (cow_str_bytes value.entry)) }
+    ensures name { IsErrOf result HttpError.Name ↔ (grammar.is_token name ≡ false) }
+    ensures value { IsErrOf result HttpError.Value ↔ HasUnfitValue name (cow_str_bytes value.entry) }
+    ensures refusals { IfErr result IsPairRefusal }
+{
+    test_pair(name.as_str(), value.as_str().as_bytes())?;
+    Ok(text_pair(alloc, name.into_string(), value)?)
 }
 
 // The first place of a name, by a search.

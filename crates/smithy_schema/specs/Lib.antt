@@ -1,3 +1,5 @@
+pub mod ColumnLoans
+pub mod Columns
 pub mod Nodes
 pub mod Defining
 pub mod Formats

@@ -1,8 +1,8 @@
 // The nodes that a node cites, and what kind it is. A getter takes no memory.
-ghost use Rattle.std.specs.Prelude.{◌≡◌, ◌↔◌, IsTrue, option_map};
+ghost use Rattle.std.specs.Prelude.{◌≡◌, ◌↔◌, IsTrue, IfSome, option_map, slice_get};
 ghost use Rattle.smithy_schema.specs.Nodes.{cited, element_of, key_of, value_of, element_or_value_of, holds_node, cites_nodes, has_name, member_at, member_named};
 ghost use Rattle.smithy_schema.specs.views.Places.{place_of};
-ghost use Rattle.smithy_schema.specs.views.References.{schema_of};
+ghost use Rattle.smithy_schema.specs.views.References.{index_of, schema_of};
 
 use crate::parts::{NO_PLACES, Places, SchemaIndex};
 use crate::schema_ref::{SchemaRef, Spot};
@@ -11,7 +11,8 @@ use smithy_ids::ShapeType;
 impl<'t> SchemaRef<'t> {
     // The node that stands at a place of this node's table.
     fn cited_at(&self, place: Option<SchemaIndex>) -> Option<SchemaRef<'t>>
-        ensures { option_map schema_of result ≡ cited (schema_of self.now) (place_of place) }
+        ensures node { option_map schema_of result ≡ cited (schema_of self.now) (place_of place) }
+        ensures place { IfSome result (λ s. index_of s ≡ place_of place) }
     {
         let index = place?;
         match self.spot {
@@ -108,7 +109,9 @@ impl<'t> SchemaRef<'t> {
 
     /// The member at a position.
     pub fn member_schema_by_index(&self, index: usize) -> Option<SchemaRef<'t>>
-        ensures { option_map schema_of result ≡ member_at (schema_of self.now) index }
+        ensures node { option_map schema_of result ≡ member_at (schema_of self.now) index }
+        ensures place { IfSome result
+            (λ m. index_of m ≡ slice_get (schema_of self.now).node.members index) }
     {
         let place = self.members().get(index)?;
         self.cited_at(Some(*place))

@@ -5,6 +5,7 @@ mod cited_nodes;
 mod copies;
 mod defining;
 mod error;
+mod extension;
 mod first_hole;
 pub mod laws;
 mod member_names;
@@ -27,6 +28,7 @@ mod trait_map;
 mod traits;
 
 pub use error::SchemaError;
+pub use extension::{Provider, SchemaExtension};
 pub use first_hole::{CutHole, cut_hole};
 pub use owned_trait::{AnnotationTrait, DocumentTrait, StringTrait, Trait};
 pub use parts::SchemaIndex;

@@ -1,5 +1,5 @@
 -- What the messages of a direction have, in the words of the definitions.
-use Rattle.std.specs.Prelude.{Option, None, option_map}
+use Rattle.std.specs.Prelude.{Option, None}
 use Rattle.smithy_binding.specs.Words.{Schema, schema_of, SchemaRef, Binding, Value, Resolved}
 use Rattle.smithy_binding.specs.Directions.{directed_schema}
 use Rattle.smithy_binding.specs.Faults.{Fault, bound_fault}
@@ -11,9 +11,9 @@ use Rattle.smithy_binding.specs.declared.direction.DirectedSchema.{DirectedSchem
 abbrev pub directed_of : DirectedSchema → Schema
 directed_of s = directed_schema s.way (schema_of s.schema)
 
--- a member that may be none, as a message of the direction has it
-abbrev pub directed_member : Direction → Option SchemaRef → Option Schema
-directed_member way m = option_map (directed_schema way) (option_map schema_of m)
+-- a reference with the direction
+abbrev pub with_direction : Direction → SchemaRef → DirectedSchema
+with_direction way s = record { schema = s; way = way }
 
 -- the fault of the first write of a bound member other than a payload, in a message of the direction
 abbrev pub bound_fault_in : Direction → Resolved → Option Fault

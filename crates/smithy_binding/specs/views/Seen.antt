@@ -29,6 +29,10 @@ pub record Places (schema m : DirectedSchema) (v : Value) (old new : MessagePart
   pub body : OnOk result (new.body ≡ old.body)
   pub err : IfErr result (IsTold (first_fault (directed_of m) v))
 
+-- the same of a stored value, whatever its table
+abbrev pub PlacesValue : DirectedSchema → DirectedSchema → ShapeValue → MessageParts → MessageParts → Answer → Type 0
+PlacesValue schema m v old new result = (t : Table) → Places schema m (value_in t v) old new result
+
 -- the fault of the first write of a member is told
 abbrev pub TellsFirst : DirectedSchema → Value → SerdeError → Type 0
 TellsFirst m v = IsTold (first_fault (directed_of m) v)

@@ -7,22 +7,22 @@ use Rattle.smithy_binding.proofs.member_header.put_header.Goals as goal
 
 pub returns-in-Ok : goal.returns-in-Ok
 returns-in-Ok c =
-    let name : is_token c.args.name.now ≡ true = true_unless (is_token c.args.name.now) (λ e. let q = c.in-Ok.ensures.name.1 e in cc q) in
+    let name : is_token c.args.name ≡ true = true_unless (is_token c.args.name) (λ e. let q = c.in-Ok.ensures.name.1 e in cc q) in
     let value : is_header_value (cow_str_bytes c.args.text) ≡ true = true_unless (is_header_value (cow_str_bytes c.args.text)) (λ e. let q = c.in-Ok.ensures.value.1 (name, e) in cc q) in
     record {
-      ok = header-legal (schema_of c.args.member) (str_to_ascii_lowercase c.args.name.now) (cow_str_bytes c.args.text) (is_token-lower c.args.name.now ∙ name) value;
+      ok = header-legal (schema_of c.args.member) (str_to_ascii_lowercase c.args.name) (cow_str_bytes c.args.text) (is_token-lower c.args.name ∙ name) value;
       put = search rules;
       err = search rules;
     }
 
 pub returns-in-Err-Name : goal.returns-in-Err-Name
 returns-in-Err-Name c =
-    let name : is_token c.args.name.now ≡ false = c.in-Err-Name.ensures.name.0 (ap Err c.in-Err-Name.field-0-is) in
+    let name : is_token c.args.name ≡ false = c.in-Err-Name.ensures.name.0 (ap Err c.in-Err-Name.field-0-is) in
     record {
       ok = search rules;
       put = search rules;
       err = TellsFault-then c.wrong_header.result _ _
-          (λ f e. header-name (schema_of c.args.member) (str_to_ascii_lowercase c.args.name.now) (cow_str_bytes c.args.text) (is_token-lower c.args.name.now ∙ name) ∙ ap Some (sym e)) c.wrong_header.ensures;
+          (λ f e. header-name (schema_of c.args.member) (str_to_ascii_lowercase c.args.name) (cow_str_bytes c.args.text) (is_token-lower c.args.name ∙ name) ∙ ap Some (sym e)) c.wrong_header.ensures;
     }
 
 pub returns-in-Err-Value : goal.returns-in-Err-Value
@@ -32,5 +32,5 @@ returns-in-Err-Value c =
       ok = search rules;
       put = search rules;
       err = TellsFault-then c.wrong_header-in-Err-Value.result _ _
-          (λ f e. header-value (schema_of c.args.member) (str_to_ascii_lowercase c.args.name.now) (cow_str_bytes c.args.text) (is_token-lower c.args.name.now ∙ both.0) both.1 ∙ ap Some (sym e)) c.wrong_header-in-Err-Value.ensures;
+          (λ f e. header-value (schema_of c.args.member) (str_to_ascii_lowercase c.args.name) (cow_str_bytes c.args.text) (is_token-lower c.args.name ∙ both.0) both.1 ∙ ap Some (sym e)) c.wrong_header-in-Err-Value.ensures;
     }

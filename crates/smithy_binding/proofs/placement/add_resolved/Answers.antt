@@ -1,11 +1,13 @@
 use Rattle.smithy_binding.proofs.Common.{rules, ◌≡◌, ap, sym, ◌∙◌, subst, Bool, List, true, false, slice_set, Some, Ok, Err, IfErr, on_ok_weaker, Binding, directed_of, value_in, is_placed_at, status_fault_in, first_fault, TellsFault, Gathered, is_seen, placed_first, write_of, gathered_of, kept_at, kept_in, IsKeptDefined}
 use Rattle.smithy_binding.proofs.Refusals.{TellsFault-then, IfErr-then}
 use Rattle.smithy_binding.proofs.KeptSteps.{add-unplaced}
+use Rattle.smithy_binding.specs.views.NamesAtHand.{SeenHaveNames}
+use Rattle.smithy_binding.proofs.NameSteps.{named-at, own-unplaced, seen-marked}
 use Rattle.smithy_binding.proofs.WriteSteps.{add-wrong, add-again, add-first, add-fault, add-code}
 use Rattle.smithy_binding.proofs.placement.add_resolved.Goals as goal
 
 pub returns-then-not-fits_member-clause-added : goal.returns-then-not-fits_member-clause-added
-returns-then-not-fits_member-clause-added c =
+returns-then-not-fits_member-clause-added g c =
     let t = c.args.table.now in
     let m = directed_of c.args.member in
     let v = value_in t c.args.value.now in
@@ -18,7 +20,7 @@ returns-then-not-fits_member-clause-added c =
     }
 
 pub returns-clause-added : goal.returns-clause-added
-returns-clause-added c =
+returns-clause-added g c =
     let m = directed_of c.args.member in
     let schema = directed_of c.args.schema in
     let way = c.args.schema.way in
@@ -30,7 +32,7 @@ returns-clause-added c =
     let fits = sym (c.fits_member.ensures t) ∙ c.if-not-fits_member.false in
     let bound = ap is_placed_at (sym c.binding_of-binding.ensures) ∙ sym c.is_placed.ensures ∙ c.if-not-is_placed.false in
     let marked : c.mark.new.seen.items ≡ slice_set s.seen c.args.position true = c.mark.ensures in
-    let first = c.in_ok-add_first.ensures in
+    let first = c.in_ok-add_first.ensures.put in
     let code = c.test_code.ensures t in
     let same = ap (λ (b : Binding). status_fault_in way b v) (sym c.binding_of-binding.ensures) in
     record {
@@ -43,7 +45,7 @@ returns-clause-added c =
     }
 
 pub returns-in_err-add_first-clause-added : goal.returns-in_err-add_first-clause-added
-returns-in_err-add_first-clause-added c =
+returns-in_err-add_first-clause-added g c =
     let m = directed_of c.args.member in
     let s = gathered_of c.args.parts.now in
     let seen : is_seen s c.args.position ≡ false = (rw c.as_slice.ensures.value at (sym c.is_seen.ensures)) ∙ c.if-is_seen.false in
@@ -59,7 +61,7 @@ returns-in_err-add_first-clause-added c =
     }
 
 pub returns-then-is_seen-clause-added : goal.returns-then-is_seen-clause-added
-returns-then-is_seen-clause-added c =
+returns-then-is_seen-clause-added g c =
     let s = gathered_of c.args.parts.now in
     let seen : is_seen s c.args.position ≡ true = (rw c.as_slice.ensures.value at (sym c.is_seen.ensures)) ∙ c.if-is_seen.true in
     let t = c.args.table.now in
@@ -70,7 +72,7 @@ returns-then-is_seen-clause-added c =
     }
 
 pub returns-then-not-is_placed-clause-added : goal.returns-then-not-is_placed-clause-added
-returns-then-not-is_placed-clause-added c =
+returns-then-not-is_placed-clause-added g c =
     let m = directed_of c.args.member in
     let s = gathered_of c.args.parts.now in
     let seen : is_seen s c.args.position ≡ false = (rw c.as_slice.ensures.value at (sym c.is_seen.ensures)) ∙ c.if-is_seen.false in
@@ -85,6 +87,54 @@ returns-then-not-is_placed-clause-added c =
     }
 
 pub returns-clause-defined : goal.returns-clause-defined
-returns-clause-defined c =
+returns-clause-defined g c =
     let t = c.args.table.now in
-    on_ok_weaker c.test_code.result (λ _ all one. subst (IsKeptDefined t) (sym c.in_ok-add_first.ensures.body) (c.in_ok-keep.ensures.defined t all one)) (c.test_code.ensures t).ok
+    on_ok_weaker c.test_code.result (λ _ all one. subst (IsKeptDefined t) (sym c.in_ok-add_first.ensures.put.body) (c.in_ok-keep.ensures.defined t all one)) (c.test_code.ensures t).ok
+
+pub returns-then-not-fits_member-clause-kept : goal.returns-then-not-fits_member-clause-kept
+returns-then-not-fits_member-clause-kept g c = g.met.N.HeaderNames.keeps_same c.args.names.now
+
+pub returns-in_err-keep-clause-kept : goal.returns-in_err-keep-clause-kept
+returns-in_err-keep-clause-kept g c = g.met.N.HeaderNames.keeps_same c.args.names.now
+
+pub returns-then-is_seen-clause-kept : goal.returns-then-is_seen-clause-kept
+returns-then-is_seen-clause-kept g c = g.met.N.HeaderNames.keeps_same c.args.names.now
+
+pub returns-then-is_seen-clause-named : goal.returns-then-is_seen-clause-named
+returns-then-is_seen-clause-named g c =
+    let seen : is_seen (gathered_of c.args.parts.now) c.args.position ≡ true = (rw c.as_slice.ensures.value at (sym c.is_seen.ensures)) ∙ c.if-is_seen.true in
+    c.requires.seen c.args.position seen
+
+pub returns-then-not-is_placed-clause-kept : goal.returns-then-not-is_placed-clause-kept
+returns-then-not-is_placed-clause-kept g c = g.met.N.HeaderNames.keeps_same c.args.names.now
+
+pub returns-then-not-is_placed-clause-named : goal.returns-then-not-is_placed-clause-named
+returns-then-not-is_placed-clause-named g c =
+    let bound = ap is_placed_at (sym c.binding_of-binding.ensures) ∙ sym c.is_placed.ensures ∙ c.if-not-is_placed.true in
+    named-at _ c.args.schema c.args.member c.args.position c.requires.member (own-unplaced _ c.args.member bound)
+
+pub returns-then-not-is_placed-clause-seen : goal.returns-then-not-is_placed-clause-seen
+returns-then-not-is_placed-clause-seen g c =
+    let holds = g.N.HeaderNames.has c.args.names.now in
+    let schema = directed_of c.args.schema in
+    let bound = ap is_placed_at (sym c.binding_of-binding.ensures) ∙ sym c.is_placed.ensures ∙ c.if-not-is_placed.true in
+    subst (SeenHaveNames holds schema) (sym c.mark.ensures)
+    (seen-marked holds holds schema (gathered_of c.args.parts.now).seen c.args.position (λ place has. has) c.requires.seen
+    (named-at holds c.args.schema c.args.member c.args.position c.requires.member (own-unplaced holds c.args.member bound)))
+
+pub returns-clause-named : goal.returns-clause-named
+returns-clause-named g c =
+    on_ok_weaker c.test_code.result
+    (λ _. named-at _ c.args.schema c.args.member c.args.position c.requires.member c.in_ok-add_first.ensures.named) (c.test_code.ensures c.args.table.now).ok
+
+pub returns-clause-seen : goal.returns-clause-seen
+returns-clause-seen g c =
+    let old = g.N.HeaderNames.has c.args.names.now in
+    let new = g.N.HeaderNames.has c.add_first.new.names in
+    let schema = directed_of c.args.schema in
+    let first = c.in_ok-add_first.ensures in
+    let same : c.add_first.new.parts.seen.items ≡ slice_set (gathered_of c.args.parts.now).seen c.args.position true = ap (λ (s : Gathered). s.seen) first.put.put ∙ c.mark.ensures in
+    on_ok_weaker c.test_code.result
+    (λ _. subst (SeenHaveNames new schema) (sym same)
+    (seen-marked old new schema (gathered_of c.args.parts.now).seen c.args.position (λ place has. g.met.N.HeaderNames.has_on _ _ place first.kept has) c.requires.seen
+    (named-at new c.args.schema c.args.member c.args.position c.requires.member first.named))) (c.test_code.ensures c.args.table.now).ok
