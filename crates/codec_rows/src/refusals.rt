@@ -16,6 +16,7 @@ pub fn answer(alloc: Global, call: &str, given: &Value) -> Result<Option<Text>, 
         "SerdeError::copy" => copy_told(alloc, &made(alloc, given)?)?,
         "SerdeError::from" => refusal(alloc, &SerdeError::from(document_error(alloc, given)?))?,
         "FirstRefusal::keep" => kept_told(alloc, made(alloc, given)?)?,
+        "FirstRefusal::refused" => refused_told(alloc, made(alloc, given)?)?,
         "capped_container_size" => capped(alloc, given)?,
         "kind_word" => words(alloc)?,
         "OmitFlags::of" => flags_told(alloc, &flags_in(given))?,
@@ -128,6 +129,21 @@ fn kept_told(alloc: Global, error: SerdeError) -> Result<Text, Failed> {
     push_outcomes(alloc, &mut text, refused, again(&first))?;
     push_kept(alloc, &mut text, first.into_kept())?;
     Ok(text)
+}
+
+// Whether one is kept before a refusal, what is answered at it and behind it, and whether one is kept then.
+fn refused_told(alloc: Global, error: SerdeError) -> Result<Text, Failed> {
+    let mut text = Text::from_str(alloc, "")?;
+    let mut first = FirstRefusal::new(alloc);
+    push_flag(&mut text, first.is_kept())?;
+    let refused = first.refused(error);
+    push_outcomes(alloc, &mut text, refused, again(&first))?;
+    push_flag(&mut text, first.is_kept())?;
+    Ok(text)
+}
+
+fn push_flag(text: &mut Text, flag: bool) -> Result<(), Failed> {
+    push_part(text, if flag { "true" } else { "false" })
 }
 
 fn capped(alloc: Global, given: &Value) -> Result<Text, Failed> {

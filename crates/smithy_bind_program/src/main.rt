@@ -20,7 +20,7 @@ fn main(rt: HostRuntime) -> ExitCode {
         Ok(words) => words,
         Err(error) => return ExitCode::from(failed(&error)),
     };
-    let mut source = StdSource::new(rt.reader());
+    let mut source = StdSource::new(rt.stdin());
     let mut sink = StdSink::new(io::writer(&rt));
     ExitCode::from(run(rt.alloc(), &words, &mut source, &mut sink).code())
 }

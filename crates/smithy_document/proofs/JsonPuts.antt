@@ -5,16 +5,18 @@ use Rattle.smithy_types.specs.Documents.{Document}
 use Rattle.smithy_types.specs.Documents as doc
 use Rattle.smithy_types.specs.Results.{then_give}
 use Rattle.smithy_serde.specs.declared.error.SerdeError.{SerdeError}
-use Rattle.smithy_serde.specs.DocumentOf.{DocumentFault, key_text}
+use Rattle.smithy_serde.specs.DocumentOf.{DocumentFault, document_fault_text, key_text, no_member_name}
 use Rattle.smithy_document.specs.Refused.{IsRefusedFor}
 use Rattle.smithy_serde.specs.Values.{Label}
 use Rattle.smithy_document.specs.declared.json_writing.JsonWriting.{JsonWriting}
 use Rattle.smithy_document.specs.declared.json_writing.Kind.TheVariants as kind
-use Rattle.smithy_document.specs.Building.{Building, top, items, fields, entries, texted, put_named}
+use Rattle.smithy_document.specs.declared.json_writing.Lead.{Lead}
+use Rattle.smithy_document.specs.declared.json_writing.Lead.TheVariants as lead
+use Rattle.smithy_document.specs.Building.{Building, top, items, fields, entries, second_value_text, texted, put_named}
 use Rattle.smithy_document.specs.views.Frames.{Held}
 use Rattle.smithy_document.specs.views.JsonFields.{names_of, starts_of}
 use Rattle.smithy_document.specs.JsonText.{json_text}
-use Rattle.smithy_document.specs.views.JsonStanding.{Part, last_first, AreAround, IsPartOf, LeadsTo, Shows, settled, IsNamed, IsKeyed, KeyOutcome, IsPut, IsWritten, wants_key, HasNoPlace}
+use Rattle.smithy_document.specs.views.JsonStanding.{Part, last_first, AreAround, IsPartOf, LeadsTo, Shows, settled, IsNamed, IsKeyed, KeyOutcome, PutsOrNot, IsAnswered, IsWritten, wants_key, HasNoPlace}
 use Rattle.smithy_document.proofs.JsonNamedLemmas.{name_leads}
 use Rattle.smithy_document.proofs.JsonStandingLemmas.{led_puts, value_settled}
 
@@ -75,9 +77,8 @@ key_put old mid new key n text same level rest around (entries ms None) hs due s
     )
 key_put old mid new key n text same level rest around (fields ms) hs due s = absurd (cc due)
 
-pub put_written : {U : Type 0} (l : Label) (d : Document) (old new : JsonWriting) (result : Result U SerdeError) → ((b : Building) (inner : Part) → IsPartOf old.level b inner → false ≡ wants_key b) → IsPut l d old new result → IsWritten l d old new result
-put_written l d old new (Ok x) due h = λ b hs s. h b hs (sym (due b s.inner s.current)) s
-put_written l d old new (Err e) due h = λ b hs s. h b hs (sym (due b s.inner s.current)) s
+pub put_written : {U : Type 0} (l : Label) (d : Document) (old new : JsonWriting) (x : U) → ((b : Building) (inner : Part) → IsPartOf old.level b inner → false ≡ wants_key b) → PutsOrNot l d old new lead.Value → IsWritten l d old new (Ok x)
+put_written l d old new x due h = λ b hs s. h b hs (sym (due b s.inner s.current)) s
 
 key_has_place : (l : Label) (d : Document) (old new : JsonWriting) (key : List ℕ) → d ≡ doc.string key → IsKeyed key old new → (b : Building) (hs : List Held) → wants_key b ≡ true → Shows old b hs
     → (c : Building) × (put_named l.member_name l.full_name false d b ≡ Ok c) × Shows new c hs
@@ -101,6 +102,16 @@ pub key_written : {U : Type 0} (l : Label) (d : Document) (old new : JsonWriting
 key_written l d old new (Ok x) due h = λ b hs s. key_has_place l d old new h.0 h.1 h.2 b hs (sym (due b s.inner s.current)) s
 key_written l d old new (Err e) due h = λ b hs s. key_refused l false d e h b (sym (due b s.inner s.current))
 
--- where no document has a place, none is written
-pub none_put : (U : Type 0) (l : Label) (d : Document) (old new : JsonWriting) (text : List ℕ) (e : SerdeError) → HasNoPlace l old text → IsRefusedFor (Some text) e → IsPut {U = U} l d old new (Err e)
-none_put U l d old new text e h told = λ b hs no_key s. subst (λ o. IsRefusedFor o e) (sym (h s.inner b s.current no_key false d)) told
+none_written : (U : Type 0) (l : Label) (d : Document) (old new : JsonWriting) (text : List ℕ) (e : SerdeError) → ((b : Building) (inner : Part) → IsPartOf old.level b inner → false ≡ wants_key b) → HasNoPlace l old text → IsRefusedFor (Some text) e
+    → IsWritten {U = U} l d old new (Err e)
+none_written U l d old new text e due h told = λ b hs s. subst (λ o. IsRefusedFor o e) (sym (h s.inner b s.current (sym (due b s.inner s.current)) false d)) told
+
+-- where no key is due, a document is written where it has a place, and else refused
+pub put_answered : {U : Type 0} (l : Label) (d : Document) (old new : JsonWriting) (place : Lead) (result : Result U SerdeError) → ((b : Building) (inner : Part) → IsPartOf old.level b inner → false ≡ wants_key b) → PutsOrNot l d old new place
+    → IsAnswered l place result → IsWritten l d old new result
+put_answered l d old new lead.Value (Ok x) due h answer = put_written l d old new x due h
+put_answered l d old new lead.Value (Err e) due h answer = absurd answer
+put_answered l d old new lead.Second (Ok x) due h answer = absurd answer
+put_answered {U} l d old new lead.Second (Err e) due h answer = none_written U l d old new second_value_text e due h.1 answer
+put_answered l d old new lead.Unnamed (Ok x) due h answer = absurd answer
+put_answered {U} l d old new lead.Unnamed (Err e) due h answer = none_written U l d old new (document_fault_text (no_member_name l.full_name)) e due h.1 answer

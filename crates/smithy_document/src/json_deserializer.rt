@@ -26,6 +26,7 @@ pub struct JsonDeserializer {
 }
 
 // The refusal of what is no JSON.
+#[inline(never)]
 fn not_json(alloc: Global) -> SerdeError
     ensures { IsRefusal not_json result }
 {
@@ -33,6 +34,7 @@ fn not_json(alloc: Global) -> SerdeError
 }
 
 // One of the tree's values as a scalar of the kind.
+#[inline(always)]
 fn read_node(
     alloc: Global,
     tree: &JsonTree,
@@ -48,8 +50,26 @@ fn read_node(
             let text = Text::from_str(alloc, tree.texts.get(*position))?;
             Ok(ReadScalar::String(text))
         }
-        (ScalarKind::Document, _) => Ok(ReadScalar::Document(document_of(alloc, tree, node)?)),
-        _ => read_as::<NoSettings>(alloc, &document_of(alloc, tree, node)?, kind, None),
+        _ => read_by_document(alloc, tree, node, kind),
+    }
+}
+
+// The same by the value's document.
+#[inline(never)]
+fn read_by_document(
+    alloc: Global,
+    tree: &JsonTree,
+    node: &Node,
+    kind: ScalarKind,
+) -> Result<ReadScalar, SerdeError>
+    requires { IsTrue (is_read (node_view tree.now.texts node.now)) }
+    ensures of_kind { IfOk result (λ a. IsTrue (is_of_kind kind (scalar_of_read a))) }
+    ensures gives { ReadsPlain kind (node_view tree.now.texts node.now) result }
+{
+    let document = document_of(alloc, tree, node)?;
+    match kind {
+        ScalarKind::Document => Ok(ReadScalar::Document(document)),
+        _ => read_as::<NoSettings>(alloc, &document, kind, None),
     }
 }
 
@@ -70,6 +90,7 @@ impl ShapeDeserializer for JsonDeserializer {
 
     ghost passes_over = { PassesOver };
 
+    #[inline(always)]
     fn read(
         &mut self,
         alloc: Global,
@@ -102,6 +123,7 @@ impl ShapeDeserializer for JsonDeserializer {
         }
     }
 
+    #[inline(always)]
     fn next_member<'s>(
         &mut self,
         _alloc: Global,

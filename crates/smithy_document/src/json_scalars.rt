@@ -1,10 +1,10 @@
 // Texts of JSON, each at the end of a buffer.
-ghost use Rattle.std.specs.Prelude.{◌≡◌, [], ◌∷◌, ◌++◌, OnOk};
+ghost use Rattle.std.specs.Prelude.{◌≡◌, [], ◌∷◌, ◌++◌, string_bytes, IfOk, OnOk};
 ghost use Rattle.std.specs.Fmt.{signed_decimal};
 ghost use Rattle.std.specs.List.{list_all};
 ghost use Rattle.json.specs.Print.{quoted};
 ghost use Rattle.smithy_types.specs.Documents as doc;
-ghost use Rattle.smithy_document.specs.Words.{view, number_of, scalar_of, scalar_document as document_of};
+ghost use Rattle.smithy_document.specs.Words.{view, base64, number_of, scalar_of, scalar_document as document_of};
 ghost use Rattle.serde_json.specs.Written.{comma_if};
 ghost use Rattle.smithy_document.specs.JsonText.{json_text};
 ghost use Rattle.smithy_document.specs.views.JsonShown.{is_plain_byte, name_shown};
@@ -66,6 +66,14 @@ fn push_quoted(alloc: Global, text: &mut Vec<u8>, value: &str) -> Result<(), Out
     } else {
         push_escaped(alloc, text, value)
     }
+}
+
+/// The base64 text of bytes. It is no part of its callers, so that these don't copy the engine's tables.
+#[inline(never)]
+pub(crate) fn base64_text(alloc: Global, bytes: &[u8]) -> Result<String, OutOfMemory>
+    ensures { IfOk result (λ text. string_bytes text ≡ base64 bytes.now) }
+{
+    Ok(STANDARD.encode(alloc, bytes)?)
 }
 
 /// Appends a text between quotes.
@@ -131,6 +139,7 @@ pub(crate) fn push_name(alloc: Global, text: &mut Vec<u8>, name: &str) -> Result
 }
 
 // Appends the text of a document, by a writer of its own.
+#[inline(never)]
 fn push_document(alloc: Global, text: &mut Vec<u8>, document: &Document) -> Result<(), OutOfMemory>
     ensures { OnOk result (text.new.items ≡ text.old.items ++ json_text (view document.now)) }
 {
@@ -140,6 +149,7 @@ fn push_document(alloc: Global, text: &mut Vec<u8>, document: &Document) -> Resu
 }
 
 /// Appends the text of a scalar's document.
+#[inline(always)]
 pub(crate) fn push_scalar(
     alloc: Global,
     text: &mut Vec<u8>,
@@ -157,7 +167,7 @@ pub(crate) fn push_scalar(
         Scalar::BigDecimal(value) => push_text(alloc, text, value.as_str()),
         Scalar::String(value) => push_text(alloc, text, value),
         Scalar::Blob(value) => {
-            let encoded = STANDARD.encode(alloc, value.as_slice())?;
+            let encoded = base64_text(alloc, value.as_slice())?;
             push_text(alloc, text, encoded.as_str())
         }
         Scalar::Timestamp(value) => push_whole(text, value.secs()),

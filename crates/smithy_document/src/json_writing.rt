@@ -2,13 +2,12 @@
 ghost use Rattle.std.specs.Prelude.{◌≡◌, ◌<◌, ◌+◌, ◌∷◌, [], length, false, Err, IfOk, IfErr, OnOk, OnErr};
 ghost use Rattle.smithy_document.specs.Words.{view, label, scalar_of, scalar_document as document_of, key_text, key_is_no_text};
 ghost use Rattle.smithy_document.specs.Building.{Building};
-ghost use Rattle.smithy_document.specs.views.JsonStanding.{Part, IsPartOf, wants_key, settled, group_kind, opening, empty_of, level_of, IsNamed, LeadsOrNot, LeadsGroup, IsPut, IsKeyed, KeyOutcome, WritesScalar, Begins, IsOrdered, EndsObject, EndsText, Leaving, Ends, IsNewWriting};
+ghost use Rattle.smithy_document.specs.views.JsonStanding.{Part, IsPartOf, wants_key, settled, group_kind, opening, empty_of, level_of, IsNamed, LeadsOrNot, LeadsGroup, PutsOrNot, IsAnswered, IsKeyed, KeyOutcome, WritesScalar, Begins, IsOrdered, EndsObject, EndsText, Leaving, Ends, IsNewWriting};
 
 use crate::building::{no_member_name, not_a_text, second_value, unmatched_key};
 use crate::frame::full_name_of;
 use crate::json_fields::JsonFields;
-use crate::json_scalars::{push_comma, push_name, push_scalar};
-use base64::engine::general_purpose::STANDARD;
+use crate::json_scalars::{base64_text, push_comma, push_name, push_scalar};
 use smithy_schema::SchemaRef;
 use smithy_serde::{Group, Scalar, SerdeError};
 use smithy_types::{Document, OutOfMemory};
@@ -129,6 +128,7 @@ impl JsonWriting {
     }
 
     // The name of a field, behind a comma where one stands before it.
+    #[inline(never)]
     fn name(&mut self, name: &str) -> Result<(), OutOfMemory>
         ensures named { OnOk result (IsNamed name.now self.old self.new) }
         ensures around { self.new.around ≡ self.old.around }
@@ -165,6 +165,7 @@ impl JsonWriting {
     }
 
     // A scalar where a key is due.
+    #[inline(never)]
     fn scalar_key(&mut self, scalar: Scalar<'_>) -> Result<(), SerdeError>
         ensures keyed { KeyOutcome (document_of (scalar_of scalar.entry)) self.old self.new result }
         ensures around { self.new.around ≡ self.old.around }
@@ -179,7 +180,7 @@ impl JsonWriting {
             Scalar::BigDecimal(value) => Ok(self.key(value.as_str())?),
             Scalar::String(value) => Ok(self.key(value)?),
             Scalar::Blob(value) => {
-                let text = STANDARD.encode(self.alloc, value.as_slice())?;
+                let text = base64_text(self.alloc, value.as_slice())?;
                 Ok(self.key(text.as_str())?)
             }
             Scalar::Timestamp(_) => Err(not_a_text(self.alloc, "number")),
@@ -189,6 +190,7 @@ impl JsonWriting {
     }
 
     // What stands before a value where no key is due: a comma, a name.
+    #[inline(always)]
     fn lead(&mut self, schema: SchemaRef<'_>) -> Result<Lead, OutOfMemory>
         ensures leads { IfOk result (LeadsOrNot (label schema.entry) self.old self.new) }
         ensures kind { OnOk result (self.new.level.kind ≡ self.old.level.kind) }
@@ -235,23 +237,38 @@ impl JsonWriting {
         self.level.keyed = false;
     }
 
-    // A scalar is written where no key is due.
-    fn put(&mut self, schema: SchemaRef<'_>, scalar: Scalar<'_>) -> Result<(), SerdeError>
-        ensures put { IsPut (label schema.entry) (document_of (scalar_of scalar.entry)) self.old self.new result }
+    // A scalar is written where no key is due; where it has no place nothing is written.
+    #[inline(always)]
+    fn put(&mut self, schema: SchemaRef<'_>, scalar: Scalar<'_>) -> Result<Lead, OutOfMemory>
+        ensures put { IfOk result (PutsOrNot (label schema.entry) (document_of (scalar_of scalar.entry))
+            self.old self.new) }
         ensures around { self.new.around ≡ self.old.around }
     {
         match self.lead(schema)? {
             Lead::Value => {
                 push_scalar(self.alloc, &mut self.text, scalar)?;
                 self.settle();
-                Ok(())
+                Ok(Lead::Value)
             }
+            Lead::Second => Ok(Lead::Second),
+            Lead::Unnamed => Ok(Lead::Unnamed),
+        }
+    }
+
+    // What is answered where a value has a place, or none.
+    #[inline(never)]
+    fn answer(&self, schema: SchemaRef<'_>, lead: Lead) -> Result<(), SerdeError>
+        ensures { IsAnswered (label schema.entry) lead result }
+    {
+        match lead {
+            Lead::Value => Ok(()),
             Lead::Second => Err(second_value(self.alloc)),
             Lead::Unnamed => Err(no_member_name(self.alloc, full_name_of(schema))),
         }
     }
 
     /// A scalar is written.
+    #[inline(always)]
     pub(crate) fn write(
         &mut self,
         schema: SchemaRef<'_>,
@@ -261,9 +278,12 @@ impl JsonWriting {
         ensures around { self.new.around ≡ self.old.around }
     {
         if self.wants_key() {
-            self.scalar_key(scalar)
-        } else {
-            self.put(schema, scalar)
+            return self.scalar_key(scalar);
+        }
+        match self.put(schema, scalar) {
+            Ok(Lead::Value) => Ok(()),
+            Ok(lead) => self.answer(schema, lead),
+            Err(_) => Err(SerdeError::OutOfMemory),
         }
     }
 

@@ -38,6 +38,7 @@ impl TextList {
     }
 
     /// Adds a copy of the text at the end, and gives its position, counted from 0.
+    #[inline(always)]
     pub(crate) fn push(&mut self, text: &str) -> Result<usize, OutOfMemory>
         ensures position { IfOk result (λ position. position ≡ length self.old) }
         ensures ok { OnOk result (self.new ≡ self.old ++ text.now ∷ []) }

@@ -46,6 +46,7 @@ impl<D: ShapeDeserializer> Counted<D> {
         self.depth
     }
 
+    #[inline(always)]
     pub(crate) fn read(
         &mut self,
         alloc: Global,
@@ -75,6 +76,7 @@ impl<D: ShapeDeserializer> Counted<D> {
         Ok(())
     }
 
+    #[inline(always)]
     pub(crate) fn next_member<'s>(
         &mut self,
         alloc: Global,
@@ -141,6 +143,7 @@ impl<D: ShapeDeserializer> Counted<D> {
     }
 
     // Brings the next field that is no copy of a bound member to hand, or closes the structure.
+    #[inline(always)]
     pub(crate) fn next_unbound<'s>(
         &mut self,
         alloc: Global,

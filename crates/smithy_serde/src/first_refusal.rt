@@ -21,8 +21,8 @@ impl Model for FirstRefusal {
 }
 
 impl FirstRefusal {
-    ghost use Rattle.std.specs.Prelude.{◌≡◌, None, Some};
-    ghost use Rattle.smithy_serde.specs.Refusals.{IsAgain, IsRefusal, IsFirstAnswer};
+    ghost use Rattle.std.specs.Prelude.{◌≡◌, None, Some, Err, is_some};
+    ghost use Rattle.smithy_serde.specs.Refusals.{IsAgain, IsFirstAnswer};
 
     /// No refusal. Takes no memory.
     pub fn new(alloc: Global) -> FirstRefusal
@@ -33,15 +33,24 @@ impl FirstRefusal {
 
     /// The answer of a later call: Ok where no refusal is kept, and else a copy of the kept one, or `OutOfMemory` where there is
     /// no memory for the copy.
+    #[inline(always)]
     pub fn again(&self) -> Result<(), SerdeError>
         ensures { IsAgain self.now result }
     {
         match &self.kept {
             None => Ok(()),
-            Some(first) => match first.copy(self.alloc) {
-                Ok(error) => Err(error),
-                Err(_) => Err(SerdeError::OutOfMemory),
-            },
+            Some(first) => self.answered(first),
+        }
+    }
+
+    // A copy of a refusal, or `OutOfMemory` where there is no memory for it.
+    #[inline(never)]
+    fn answered(&self, first: &SerdeError) -> Result<(), SerdeError>
+        ensures { IsAgain (Some first.now) result }
+    {
+        match first.copy(self.alloc) {
+            Ok(error) => Err(error),
+            Err(_) => Err(SerdeError::OutOfMemory),
         }
     }
 
@@ -54,29 +63,39 @@ impl FirstRefusal {
 
     /// Hands on what was tried, and keeps a copy of its refusal; where there is no memory for the copy, `OutOfMemory` is kept
     /// and answered. Condition: no refusal is kept.
+    #[inline(always)]
     pub fn keep<T>(&mut self, tried: Result<T, SerdeError>) -> Result<T, SerdeError>
         requires { self.old ≡ None }
         ensures { IsFirstAnswer tried result self.new }
     {
         match tried {
             Ok(value) => Ok(value),
-            Err(error) => Err(self.refuse(error)),
+            Err(error) => self.refused(error),
         }
     }
 
-    // Keeps a refusal, and answers what is kept.
-    fn refuse(&mut self, error: SerdeError) -> SerdeError
-        ensures kept { self.new ≡ Some result }
-        ensures same { IsRefusal error result }
+    /// Whether a refusal is kept.
+    pub fn is_kept(&self) -> bool
+        ensures { result ≡ is_some self.now }
+    {
+        self.kept.is_some()
+    }
+
+    /// Answers a refusal, and keeps a copy of it; where there is no memory for the copy, `OutOfMemory` is kept and answered.
+    /// Condition: no refusal is kept.
+    #[inline(never)]
+    pub fn refused<T>(&mut self, error: SerdeError) -> Result<T, SerdeError>
+        requires { self.old ≡ None }
+        ensures { IsFirstAnswer (Err error) result self.new }
     {
         match error.copy(self.alloc) {
             Ok(copy) => {
                 self.kept = Some(copy);
-                error
+                Err(error)
             }
             Err(_) => {
                 self.kept = Some(SerdeError::OutOfMemory);
-                SerdeError::OutOfMemory
+                Err(SerdeError::OutOfMemory)
             }
         }
     }

@@ -198,10 +198,20 @@ pub record IsNamed (name : List ℕ) (old new : JsonWriting) : Type 0 where
 abbrev pub settled : Level → Level
 settled l = record l { later = true; keyed = false }
 
--- A document is written where no key is due, and is of no structure: it has a place and stands there, or it has none, and this is its refusal, or memory was wanted.
-abbrev pub IsPut : {U : Type 0} → Label → Document → JsonWriting → JsonWriting → Result U SerdeError → Type 0
-IsPut l d old new (Ok x) = (b : Building) (hs : List Held) → wants_key b ≡ false → Shows old b hs → (c : Building) × (put_named l.member_name l.full_name false d b ≡ Ok c) × Shows new c hs
-IsPut l d old new (Err e) = (b : Building) (hs : List Held) → wants_key b ≡ false → Shows old b hs → IsRefusedFor (result_err (put_named l.member_name l.full_name false d b)) e
+-- where no key is due, a document that is of no structure is written, or none has a place there, and nothing was written
+abbrev pub PutsOrNot : Label → Document → JsonWriting → JsonWriting → Lead → Type 0
+PutsOrNot l d old new lead.Value = (b : Building) (hs : List Held) → wants_key b ≡ false → Shows old b hs → (c : Building) × (put_named l.member_name l.full_name false d b ≡ Ok c) × Shows new c hs
+PutsOrNot l d old new lead.Second = (new ≡ old) × HasNoPlace l old second_value_text
+PutsOrNot l d old new lead.Unnamed = (new ≡ old) × HasNoPlace l old (document_fault_text (no_member_name l.full_name))
+
+-- what is answered where a value has a place, or none
+abbrev pub IsAnswered : {U : Type 0} → Label → Lead → Result U SerdeError → Type 0
+IsAnswered l lead.Value (Ok x) = Unit {0}
+IsAnswered l lead.Value (Err e) = ⊥
+IsAnswered l lead.Second (Ok x) = ⊥
+IsAnswered l lead.Second (Err e) = IsRefusedFor (Some second_value_text) e
+IsAnswered l lead.Unnamed (Ok x) = ⊥
+IsAnswered l lead.Unnamed (Err e) = IsRefusedFor (Some (document_fault_text (no_member_name l.full_name))) e
 
 -- a key is written
 abbrev pub IsKeyed : List ℕ → JsonWriting → JsonWriting → Type 0

@@ -1,6 +1,6 @@
-use Rattle.smithy_document.proofs.Common.{false, ap, ◌∙◌, subst, label, scalar_of, scalar_document, second_value_text, document_fault_text, no_member_name, IsRefusedFor, Some}
+use Rattle.smithy_document.proofs.Common.{false, ap, ◌∙◌, subst, label, scalar_of, scalar_document}
 use Rattle.smithy_document.specs.views.JsonStanding.{LeadsOrNot}
-use Rattle.smithy_document.proofs.JsonPuts.{value_put, none_put}
+use Rattle.smithy_document.proofs.JsonPuts.{value_put}
 use Rattle.smithy_document.proofs.json_writing.JsonWriting.put.Goals as goal
 
 pub returns-in_ok-push_scalar-in-Value-clause-put : goal.returns-in_ok-push_scalar-in-Value-clause-put
@@ -12,14 +12,7 @@ returns-in_ok-push_scalar-in-Value-clause-put c = λ b hs no_key s.
     (ap (λ w. w.around) c.settle.ensures ∙ c.in_ok-lead.ensures.around)
 
 pub returns-in-Second-clause-put : goal.returns-in-Second-clause-put
-returns-in-Second-clause-put c =
-    let l = label c.args.schema in
-    let leads = subst (λ o. LeadsOrNot l c.args.self.now c.lead.new.self o) c.in-Second.is c.in_ok-lead.ensures.leads in
-    none_put (Unit {0}) l (scalar_document (scalar_of c.args.scalar)) c.args.self.now c.args.self.now second_value_text _ leads.1 c.second_value.ensures
+returns-in-Second-clause-put c = subst (λ o. LeadsOrNot (label c.args.schema) c.args.self.now c.lead.new.self o) c.in-Second.is c.in_ok-lead.ensures.leads
 
 pub returns-in-Unnamed-clause-put : goal.returns-in-Unnamed-clause-put
-returns-in-Unnamed-clause-put c =
-    let l = label c.args.schema in
-    let leads = subst (λ o. LeadsOrNot l c.args.self.now c.lead.new.self o) c.in-Unnamed.is c.in_ok-lead.ensures.leads in
-    let told = subst (λ full. IsRefusedFor (Some (document_fault_text (no_member_name full))) c.no_member_name.result) c.full_name_of.ensures c.no_member_name.ensures in
-    none_put (Unit {0}) l (scalar_document (scalar_of c.args.scalar)) c.args.self.now c.args.self.now (document_fault_text (no_member_name l.full_name)) _ leads.1 told
+returns-in-Unnamed-clause-put c = subst (λ o. LeadsOrNot (label c.args.schema) c.args.self.now c.lead.new.self o) c.in-Unnamed.is c.in_ok-lead.ensures.leads
