@@ -11,9 +11,9 @@ damaged: some of its bytes are dropped, doubled, changed, cut off, moved or join
 in the place of another of its sort; or a part of its value is dropped, doubled, or exchanged for one of another job's. Each run has to end
 
 - with a status of docs/JOBS.md: 0, 2, 3, or 7 past the most bytes. There is memory enough, so 6 is none;
-- with 2 where scripts/jobs.py reads no job of the command in the bytes; by `rpc`, whose schemas aren't tested, only there;
-- with 0 or 3 by `rpc` where it does by `request`;
+- with 2 exactly where scripts/jobs.py reads no job of the command in the bytes, or scripts/rules.py finds a rule that its schema breaks;
 - with no text at 2 and 7, with a line of a known kind at 3, and at 0 with what has the form of the command's output;
+- with the status and the text that scripts/second.py has, which says of which commands it has one;
 - with 2 where `explain` tells why, by a line that scripts/explained.py takes, and else with `Job` for its line;
 - within ten times the median of the runs that end with 0, of its command and of as many bytes, up to twice as many, where there are
   FEW such runs. It is the time of the processor; a run that takes longer is run ten times more, and the shortest one counts.
@@ -42,6 +42,8 @@ sys.path += [str(ROOT / "bindings"), str(ROOT / "bindings" / "python"), str(ROOT
 import explained  # noqa: E402
 import install  # noqa: E402
 import jobs  # noqa: E402
+import rules  # noqa: E402
+import second  # noqa: E402
 import smithy_bind  # noqa: E402
 
 ROWS = ROOT / "crates" / "job_rows"
@@ -225,19 +227,19 @@ def differs(library, command, data, value, end):
     """How a run is not as it has to be."""
     if end.status not in (0, 2, 3, 7) or (end.status == 7) != (len(data) > jobs.MOST_BYTES):
         return "is of no such status"
-    is_job = value is not NO_JSON and jobs.is_job(command, value)
-    if not is_job and end.status != 2:
-        return "is of no job"
-    if command == "rpc" and is_job and end.status == 2:
-        return "is of a job"
-    if command == "request" and end.status != 2 and end_of(library, "rpc", data)[0].status not in (0, 3):
-        return "is of a job that is none by rpc"
-    if end.status != 7:
-        line = f"{library.explain(command, data)}\n".encode()
-        how = explained.line_differs(command, data, [] if value is NO_JSON else [value], end.status, line)
-        if how:
-            return f"has the line {line[:200]!r}, and {how}"
-    return form_differs(command, end)
+    if end.status == 7:
+        return form_differs(command, end)
+    is_due = value is not NO_JSON and jobs.is_job(command, value) and not rules.broken_in(command, value)
+    if is_due != (end.status != 2):
+        return "is of a job by a checked schema" if is_due else "is of no such job"
+    line = f"{library.explain(command, data)}\n".encode()
+    how = explained.line_differs(command, data, [] if value is NO_JSON else [value], end.status, line)
+    if how:
+        return f"has the line {line[:200]!r}, and {how}"
+    how = form_differs(command, end)
+    if how or not is_due:
+        return how
+    return second.differs(lambda *words: end_of(library, *words)[0], command, value, end)
 
 
 # What a batch found: how many runs of each status, times by command and size, the slowest runs, and what differs.

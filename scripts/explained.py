@@ -3,13 +3,13 @@
     python3 scripts/explained.py COMMAND ROWS [PROGRAM]
 
 ROWS has a JSON object a line: `job`, bytes that are to be a job of the command, or `job_base64`. PROGRAM is that of way_back.py. By a
-slow second reading of the bytes (scripts/jobs.py) the line has to be
+slow second reading of the bytes (scripts/jobs.py, scripts/rules.py) the line has to be
 
-- `Job` exactly where the command doesn't end with 2;
+- `Job` exactly where they are a job whose schema is checked, which is where the command doesn't end with 2;
 - `NotJson` exactly where the bytes are no JSON, with the place of a byte of them, or their number;
-- `NotChecked` exactly where they are a job that ends with 2, and never by `rpc`;
+- `NotChecked` exactly where they are a job whose schema breaks a rule, with the member that breaks the first one, if it is one of a member;
 - `NoJob` everywhere else, with a JSON Pointer (RFC 6901) to a place of the value, or to a key that an object there lacks, and with words
-  behind it. Where a request's target or an endpoint is none, which the second reading doesn't see, it is their place.
+  behind it.
 
 Each row for which that isn't so has a line, and the last line is `N passed, M failed`.
 """
@@ -19,9 +19,9 @@ import sys
 
 sys.dont_write_bytecode = True
 from jobs import NoJson, is_job, read  # noqa: E402
+from rules import broken_in  # noqa: E402
 from way_back import count, given_job, rows_of, runner, side_by_side  # noqa: E402
 
-UNSEEN = ("/request/target", "/rpcEndpoint")
 # The words of a place that nothing else is said of.
 NO_PLACE = ": a job of this command is asked"
 
@@ -55,29 +55,38 @@ def value_of(data):
         return []
 
 
-def no_job_differs(command, values, told):
-    if not values:
-        return "is of no JSON"
+def no_job_differs(values, told):
     pointer = pointer_in(values[0], told)
     if pointer is None:
         return "leads nowhere"
-    if told == NO_PLACE:
-        return "has no place"
-    return "is of a job" if pointer not in UNSEEN and is_job(command, values[0]) else ""
+    return "has no place" if told == NO_PLACE else ""
+
+
+def kind_of(command, values):
+    """The kind of line that is due, and the rule that is broken first, if it is one."""
+    if not values:
+        return "NotJson", None
+    if not is_job(command, values[0]):
+        return "NoJob", None
+    rule = broken_in(command, values[0])
+    return ("NotChecked", rule) if rule else ("Job", None)
 
 
 def line_differs(command, data, values, status, line):
     """How a line isn't what is to be told of bytes, which have this value, and over which the command ends with this status; "" where
     it is."""
     kind, _, told = line.decode().removesuffix("\n").partition(": ")
-    if line == b"Job\n" or status != 2 or not line.endswith(b"\n"):
-        return "" if line == b"Job\n" and status != 2 else f"ends with {status}"
+    due, rule = kind_of(command, values)
+    if kind != due or not line.endswith(b"\n"):
+        return f"is to be {due}"
+    if (kind == "Job") != (status != 2):
+        return f"ends with {status}"
     if kind == "NotJson":
         place = re.fullmatch("byte ([0-9]+)", told)
-        return "" if not values and place and int(place[1]) <= len(data) else "is of JSON, or has no place"
+        return "" if place and int(place[1]) <= len(data) else "has no place"
     if kind == "NotChecked":
-        return "" if values and command != "rpc" and is_job(command, values[0]) else "is of no job"
-    return no_job_differs(command, values, told) if kind == "NoJob" else "is of no kind"
+        return "" if told.startswith(f"member {rule.member}: ") or rule.member is None else f"is to be of {rule.member}"
+    return no_job_differs(values, told) if kind == "NoJob" else ""
 
 
 def differs(run, command, row):

@@ -1,6 +1,6 @@
 """A slow second reading of jobs, by Python's json and docs/JOBS.md: whether bytes are JSON, and whether that is the job of a command.
 
-Whether a request or a response can be made by a job's schema is not looked at, nor whether a text is legal as a request's target.
+Whether a request or a response can be made by a job's schema is looked at by scripts/rules.py.
 """
 
 import base64
@@ -13,6 +13,9 @@ MOST_LEVELS = 127
 PRELUDE = "smithy.api#"
 TOKEN = re.compile(r"[!#$%&'*+.^_`|~0-9A-Za-z-]+")
 FULL_NAME = re.compile(r"[^#]*#[^$]*", re.DOTALL)
+PATH, QUERY, AUTHORITY = '[!"$-;=@-_a-~]', '[!"$-;=?-~]', '[!"$-.0-;=@-_a-~]'
+TARGET = re.compile(rf"(/{PATH}*|https?://{AUTHORITY}+(/{PATH}*)?)(\?{QUERY}*)?")
+MOST_TARGET = 65_534
 ESCAPE = re.compile(r"\\(u[0-9A-Fa-f]{4}|.)", re.DOTALL)
 TYPES = set("blob boolean string byte short integer long float double bigInteger bigDecimal timestamp document".split())
 TYPES |= {"enum", "intEnum", "structure", "union", "list", "set", "map"}
@@ -113,6 +116,11 @@ def is_name(value):
     return isinstance(value, str) and FULL_NAME.fullmatch(value) is not None
 
 
+def is_target(text):
+    """Whether a text is legal as a request's target."""
+    return len(text) <= MOST_TARGET and TARGET.fullmatch(text) is not None
+
+
 def optional(holder, key, kind):
     """The value under a key, which is of the kind where it is there."""
     value = holder.get(key)
@@ -149,7 +157,7 @@ def message(value):
 
 def request(value):
     need(isinstance(value, dict) and isinstance(value.get("method"), str) and isinstance(value.get("target"), str))
-    need(TOKEN.fullmatch(value["method"]))
+    need(TOKEN.fullmatch(value["method"]) and is_target(value["target"]))
     message(value)
 
 
@@ -316,7 +324,9 @@ def is_received(job):
 
 def is_sent_on(job):
     is_recovered(job)
-    need(job.get("to") in ("rpc", "rest") and ("rpcEndpoint" not in job or isinstance(job["rpcEndpoint"], str)))
+    need(job.get("to") in ("rpc", "rest"))
+    endpoint = job.get("rpcEndpoint", "")
+    need(isinstance(endpoint, str) and (not endpoint or is_target(endpoint)))
 
 
 def is_answered(job):
