@@ -90,14 +90,15 @@ def conflict(one, other):
 
 
 def found(job):
-    """The operation that the request of a job of `route` is of, and "", or None and the front of the line that is told."""
+    """The operation that the request of a job of `route` is of, and "", or None and the line that is told."""
     shapes, routes = job.get("model", {}).get("shapes") if job["operations"] else {}, []
     for name in job["operations"]:
         route = route_of(http_of(shapes, name))
         if route is None:
             return None, f"Template: {name} has no routable template\n"
-        if any(conflict(route, it) for _, it in routes):
-            return None, f"Conflict: {name} conflicts with "
+        other = next((it for it, earlier in routes if conflict(route, earlier)), None)
+        if other is not None:
+            return None, f"Conflict: {name} conflicts with {other}\n"
         routes.append((name, route))
     asked = Route(job["request"]["method"], *parts(job["request"]["target"]))
     matching = [it for it in routes if is_within(asked, it[1])]

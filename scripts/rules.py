@@ -19,30 +19,41 @@ RESPONSE = ("httpHeader", "httpPrefixHeaders", "httpResponseCode", "httpPayload"
 Broken = collections.namedtuple("Broken", "rule member")
 
 
+def kind_of(shapes, target):
+    name = target.removeprefix(PRELUDE)
+    if name == target:
+        return TYPES.get(shapes[target]["type"], shapes[target]["type"])
+    name = name.removeprefix("Primitive")
+    return "structure" if name == "Unit" else name[0].lower() + name[1:]
+
+
+def shape_of(shapes, target):
+    """The shape of a name; of one of the prelude nothing is to be known but its kind."""
+    return {} if target.startswith(PRELUDE) else shapes[target]
+
+
+def traits_of(holder):
+    return {name.removeprefix(PRELUDE): value for name, value in holder.get("traits", {}).items() if name.startswith(PRELUDE)}
+
+
 class Node:
     """A shape, or a member: its kind, its traits with those that its target passes on, and what it holds."""
 
     def __init__(self, shapes, target, holder=None):
-        self.shapes, self.target = shapes, target
-        self.shape = {} if target.startswith(PRELUDE) else shapes[target]
-        self.kind = self.kind_of(target)
-        own = (holder or {}).get("traits", {})
-        self.traits = {name.removeprefix(PRELUDE): value for name, value in own.items() if name.startswith(PRELUDE)}
-        of_shape = self.shape.get("traits", {})
-        for name in ("timestampFormat", "mediaType", "streaming"):
-            if name not in self.traits and PRELUDE + name in of_shape:
-                self.traits[name] = of_shape[PRELUDE + name]
-        if self.kind == "list" and "timestampFormat" not in self.traits:
-            element = self.element()
-            if element.kind == "timestamp" and "timestampFormat" in element.traits:
-                self.traits["timestampFormat"] = element.traits["timestampFormat"]
+        self.shapes, self.shape, self.kind = shapes, shape_of(shapes, target), kind_of(shapes, target)
+        self.traits = traits_of(holder or {})
+        self.take(self.shape, "timestampFormat", "mediaType", "streaming")
+        if self.kind == "list":
+            member = self.shape["member"]
+            if kind_of(shapes, member["target"]) == "timestamp":
+                self.take(member, "timestampFormat")
+                self.take(shape_of(shapes, member["target"]), "timestampFormat")
 
-    def kind_of(self, target):
-        name = target.removeprefix(PRELUDE)
-        if name == target:
-            return TYPES.get(self.shape["type"], self.shape["type"])
-        name = name.removeprefix("Primitive")
-        return "structure" if name == "Unit" else name[0].lower() + name[1:]
+    def take(self, holder, *names):
+        """Has the traits of another one that it has not so far."""
+        for name, value in traits_of(holder).items():
+            if name in names:
+                self.traits.setdefault(name, value)
 
     def part(self, holder):
         return Node(self.shapes, holder["target"], holder)

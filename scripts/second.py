@@ -1,71 +1,51 @@
-"""How the end of a run isn't as a slow second reading has it, of a job of a command whose schema is checked (scripts/jobs.py, scripts/rules.py).
+"""How a run ends by a slow second reading of its job, made of docs/JOBS.md and docs/MODEL.md alone: the status and the text of each command.
 
-- `request`, `rpc` and `answer` end exactly as scripts/placing.py has it, text for text.
-- What `recover` writes has, by scripts/placing.py, a request with the facts of the one that is given.
-- `gateway` to `rpc` writes, of what `recover` gives, the request that scripts/placing.py has of `rpc`, and nothing where there is none.
-- `gateway` to `rest` takes a call exactly where the request that scripts/placing.py has of its body is recovered as that body, and writes
-  that request.
-- `route` finds the operation that scripts/routes.py has, and ends as `recover` does by it.
+    python3 scripts/second.py
 
-Of `response` nothing is said, nor where `recover` finds nothing.
+looks whether the rows of crates/job_rows end so. Each that doesn't has a line, and the last line is `N passed, M failed`.
+
+scripts/jobs.py says which bytes are a job, scripts/rules.py whose schema is checked, scripts/placing.py what `request`, `rpc` and `answer`
+write, scripts/received.py what `response` does, scripts/recovering.py what `recover` does, scripts/routes.py which operation a request is
+of; here they are put together.
 """
 
+import base64
 import json
+import pathlib
+import sys
 
+sys.dont_write_bytecode = True
 import jobs
 import placing
+import received
+import recovering
 import routes
-from way_back import MOST_LEVELS, Request, encoded, facts, levels, request_of
-
-NOT_PLACED = (3, b"NotPlaced: no typed input has this request\n")
-
-
-def request_in(job):
-    """The request of a job."""
-    given = job["request"]
-    headers = [(name.lower().encode(), jobs.octets(value)) for name, value in given.get("headers", [])]
-    body = given.get("body")
-    return Request(given["method"].encode(), given["target"].encode(), headers, b"" if body is None else jobs.octets(body))
+import rules
+from recovering import NOT_PLACED
+from way_back import MOST_LEVELS, encoded, levels, request_of
 
 
 def without(job, *keys):
     return {key: value for key, value in job.items() if key not in keys}
 
 
-def text_differs(due, end):
-    return None if tuple(end) == tuple(due) else f"is to end with {due[0]} and {due[1][:200]!r}"
-
-
-def recovered_differs(job, end):
-    if end.status != 0:
-        return text_differs(NOT_PLACED, end)
-    value = jobs.read(end.text)
-    if placing.json_text(value) + b"\n" != end.text:
-        return "is in another layout"
-    status, text = placing.ended("request", {**job, "input": value})
-    has_facts = status == 0 and facts(request_of(text)) == facts(request_in(job))
-    return None if has_facts else f"is an input that ends with {status} and {text[:200]!r}"
-
-
-def recovered(run, job, request):
-    """How `recover` ends with a request."""
-    headers = [[name.decode(), encoded(value)] for name, value in request.headers]
-    asked = {"method": request.method.decode(), "target": request.target.decode(), "headers": headers, "body": encoded(request.body)}
-    return run("recover", json.dumps({**without(job, "input"), "request": asked}).encode())
-
-
-def call_differs(run, job, end):
+def sent_on(job):
     """Of a request that goes to `rpc`."""
-    back = run("recover", json.dumps(job).encode())
-    if back.status != 0:
-        return text_differs(back, end)
-    due = placing.ended("rpc", {**job, "input": jobs.read(back.text), "endpoint": job.get("rpcEndpoint", "")})
-    return text_differs(due, end)
+    status, text = recovering.ended(job)
+    if status != 0:
+        return status, text
+    return placing.ended("rpc", {**job, "input": jobs.read(text), "endpoint": job.get("rpcEndpoint", "")})
 
 
-def taken(run, job):
-    """What is due of a call that goes to `rest`."""
-    call = request_in(job)
+def given(request):
+    """A request as the jobs of `recover` have it."""
+    headers = [[name.decode(), encoded(value)] for name, value in request.headers]
+    return {"method": request.method.decode(), "target": request.target.decode(), "headers": headers, "body": encoded(request.body)}
+
+
+def taken(job):
+    """Of a call that goes to `rest`: its body has to be the input in normal form that the request of it is recovered as."""
+    call = recovering.request_in(job)
     try:
         value = jobs.read(call.body)
     except jobs.NoJson:
@@ -73,27 +53,75 @@ def taken(run, job):
     asked = {**job, "input": value}
     if call.method != b"POST" or not isinstance(value, dict) or not jobs.is_job("request", asked) or levels(value) > MOST_LEVELS:
         return NOT_PLACED
-    due = placing.ended("request", asked)
-    is_normal = due[0] == 0 and recovered(run, job, request_of(due[1])) == (0, call.body + b"\n")
-    return due if is_normal else NOT_PLACED
+    status, text = placing.ended("request", asked)
+    is_normal = status == 0 and recovering.ended({**job, "request": given(request_of(text))}) == (0, call.body + b"\n")
+    return (status, text) if is_normal else NOT_PLACED
 
 
-def routed_differs(run, job, end):
+def routed(job):
     name, line = routes.found(job)
     if name is None:
-        is_due = end.status == 3 and end.text.startswith(line.encode())
-        return None if is_due else f"is to end with 3 and {line!r}"
-    back = run("recover", json.dumps({**without(job, "endpoint"), "operation": name}).encode())
-    first = f"{name}\n".encode() if back.status == 0 else b""
-    return text_differs((back.status, first + back.text), end)
+        return 3, line.encode()
+    status, text = recovering.ended({**without(job, "endpoint"), "operation": name})
+    return status, (f"{name}\n".encode() if status == 0 else b"") + text
 
 
-def differs(run, command, job, end):
-    """How the end isn't as it has to be, or None. `run` gives the ends of other commands, over the bytes of a job."""
-    if command in placing.PLACED:
-        return text_differs(placing.ended(command, job), end)
-    if command == "recover":
-        return recovered_differs(job, end)
-    if command == "gateway":
-        return call_differs(run, job, end) if job["to"] == "rpc" else text_differs(taken(run, job), end)
-    return routed_differs(run, job, end) if command == "route" else None
+READINGS = {
+    "response": received.ended,
+    "recover": recovering.ended,
+    "route": routed,
+    "gateway": lambda job: sent_on(job) if job["to"] == "rpc" else taken(job),
+}
+
+
+def is_due(command, values):
+    """Whether bytes of this value, alone in a list, which is empty where they are no JSON, are a job by a checked schema."""
+    return bool(values) and jobs.is_job(command, values[0]) and not rules.broken_in(command, values[0])
+
+
+def ended(command, values):
+    """The status and the text of a command over such bytes, of which there are not too many."""
+    if not is_due(command, values):
+        return 2, b""
+    return placing.ended(command, values[0]) if command in placing.PLACED else READINGS[command](values[0])
+
+
+# The rows.
+
+ROWS = pathlib.Path(__file__).resolve().parent.parent / "crates" / "job_rows"
+
+
+def octets(value):
+    return value.encode() if isinstance(value, str) else base64.b64decode(value["base64"])
+
+
+def rows():
+    """The case of each row of a command, the command, the bytes of its job, and how it ends."""
+    with open(ROWS / "stdin", encoding="utf-8") as given, open(ROWS / "stdout", encoding="utf-8") as ends:
+        for row, end in zip(map(json.loads, given), ends):
+            status, text = end.split(" ", 1)
+            words = row["words"]
+            if len(words) == 1 and words[0] in jobs.READINGS:
+                yield row["case"], words[0], octets(row["job"]), (int(status), octets(json.loads(text)))
+
+
+def read(data):
+    try:
+        return [jobs.read(data)]
+    except jobs.NoJson:
+        return []
+
+
+def main():
+    passed = failed = 0
+    for case, command, data, end in rows():
+        due = ended(command, read(data))
+        passed, failed = passed + (due == end), failed + (due != end)
+        if due != end:
+            print(f"{command}: {case}: is to end with {due[0]} and {due[1][:300]!r}")
+    print(f"{passed} passed, {failed} failed")
+    return 1 if failed else 0
+
+
+if __name__ == "__main__":
+    sys.exit(main())
