@@ -3,10 +3,10 @@
     python3 scripts/explained.py COMMAND ROWS [PROGRAM]
 
 ROWS has a JSON object a line: `job`, bytes that are to be a job of the command, or `job_base64`. PROGRAM is that of way_back.py. By a
-slow second reading of the bytes (scripts/jobs.py, scripts/rules.py) the line has to be
+slow second reading of the bytes (scripts/jobs.py, scripts/front.py, scripts/rules.py) the line has to be
 
 - `Job` exactly where they are a job whose schema is checked, which is where the command doesn't end with 2;
-- `NotJson` exactly where the bytes are no JSON, with the place of a byte of them, or their number;
+- `NotJson` exactly where the bytes are no JSON, with the number of those before the first one that can't stand there;
 - `NotChecked` exactly where they are a job whose schema breaks a rule, with the member that breaks the first one, if it is one of a member;
 - `NoJob` everywhere else, with a JSON Pointer (RFC 6901) to a place of the value, or to a key that an object there lacks, and with words
   behind it.
@@ -18,6 +18,7 @@ import re
 import sys
 
 sys.dont_write_bytecode = True
+from front import front  # noqa: E402
 from jobs import NoJson, is_job, read  # noqa: E402
 from rules import broken_in  # noqa: E402
 from way_back import count, given_job, rows_of, runner, side_by_side  # noqa: E402
@@ -82,8 +83,7 @@ def line_differs(command, data, values, status, line):
     if (kind == "Job") != (status != 2):
         return f"ends with {status}"
     if kind == "NotJson":
-        place = re.fullmatch("byte ([0-9]+)", told)
-        return "" if place and int(place[1]) <= len(data) else "has no place"
+        return "" if told == f"byte {front(data)}" else f"is to be of byte {front(data)}"
     if kind == "NotChecked":
         return "" if told.startswith(f"member {rule.member}: ") or rule.member is None else f"is to be of {rule.member}"
     return no_job_differs(values, told) if kind == "NoJob" else ""
