@@ -80,7 +80,7 @@ def stack(program, attack, folder):
     wanted = run(program, attack.command, path, folder).status
     for most in STACKS:
         with open(path, "rb") as given:
-            done = subprocess.run([program, attack.command], stdin=given, stdout=subprocess.DEVNULL,
+            done = subprocess.run([program, *attack.command.split()], stdin=given, stdout=subprocess.DEVNULL,
                                   preexec_fn=lambda: resource.setrlimit(resource.RLIMIT_STACK, (most, most)))  # fmt: skip
         if done.returncode == wanted:
             return f"| {attack.name} | `{attack.command}` | {wanted} | {most // 1024} KiB |"

@@ -44,7 +44,7 @@ def leads(value, pointer):
 
 def pointer_in(value, told):
     """The pointer before the words, which may have a colon in a name. None where none leads."""
-    ends = [it.start() for it in re.finditer(": .", told)]
+    ends = [it.start() for it in re.finditer(": .", told, re.DOTALL)]
     return next((told[:it] for it in ends if (it == 0 or told[0] == "/") and leads(value, told[:it])), None)
 
 
