@@ -410,6 +410,10 @@ def deepest_recovered(levels=99, **keys):
     return job({"a#Op": operation(input="a#In"), "a#In": structure({"n": {"target": "a#In"}})}, request=asked, **keys)
 
 
+def deepest_routed():
+    return deepest_recovered(operations=["a#Op"])
+
+
 def deepest_answered(levels=124):
     given = '{"n":' * levels + "{}" + "}" * levels
     return answered({"n": {"target": "a#Out"}}, {}).replace('"output":{}', '"output":' + given)
@@ -490,6 +494,7 @@ DEEPEST = [
     Attack("a structure in itself, 100 levels", "recover", deepest_recovered, ()),
     Attack("a structure in itself, 100 levels, to rpc", "gateway", lambda: deepest_recovered(to="rpc"), ()),
     Attack("a structure in itself, 100 levels, to rest", "gateway", lambda: deepest_recovered(to="rest"), ()),
+    Attack("a structure in itself, 100 levels", "route", deepest_routed, ()),
     Attack("a structure in itself, 127 levels", "answer", deepest_answered, ()),
     Attack("a float below 126 arrays", "explain request", deepest_wrong, ()),
     Attack("a chain of 10,000 structures", "request", lambda: deep_model(10_000), ()),
