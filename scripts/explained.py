@@ -9,7 +9,7 @@ slow second reading of the bytes (scripts/jobs.py, scripts/front.py, scripts/rul
 - `NotJson` exactly where the bytes are no JSON, with the number of those before the first one that can't stand there;
 - `NotChecked` exactly where they are a job whose schema breaks a rule, with the member that breaks the first one, if it is one of a member;
 - `NoJob` everywhere else, with a JSON Pointer (RFC 6901) to a place of the value, or to a key that an object there lacks, and with words
-  behind it.
+  behind it; the place is of the first key of docs/JOBS.md that hasn't its form, or else of a key whose form hangs on the shapes.
 
 Each row for which that isn't so has a line, and the last line is `N passed, M failed`.
 """
@@ -19,10 +19,12 @@ import sys
 
 sys.dont_write_bytecode = True
 from front import front  # noqa: E402
-from jobs import NoJson, is_job, read  # noqa: E402
+from jobs import NoJson, is_job, read, wrong_key  # noqa: E402
 from rules import broken_in  # noqa: E402
 from way_back import count, given_job, rows_of, runner, side_by_side  # noqa: E402
 
+# The keys that a place is of whose form hangs on the shapes.
+BY_SHAPES = ("model", "operations", "error", "code", "serviceErrors", "policy")
 # The words of a place that nothing else is said of.
 NO_PLACE = ": a job of this command is asked"
 
@@ -56,11 +58,20 @@ def value_of(data):
         return []
 
 
-def no_job_differs(values, told):
-    pointer = pointer_in(values[0], told)
+def first_key(pointer):
+    return pointer.partition("/")[2].partition("/")[0]
+
+
+def no_job_differs(command, value, told):
+    pointer = pointer_in(value, told)
     if pointer is None:
         return "leads nowhere"
-    return "has no place" if told == NO_PLACE else ""
+    if told == NO_PLACE or not isinstance(value, dict):
+        return "has no place" if told == NO_PLACE or pointer else ""
+    key = wrong_key(command, value)
+    if key is None:
+        return "" if first_key(pointer) in BY_SHAPES else "is to be of a shape"
+    return "" if first_key(pointer) == key else f"is to be of the key {key}"
 
 
 def kind_of(command, values):
@@ -86,7 +97,7 @@ def line_differs(command, data, values, status, line):
         return "" if told == f"byte {front(data)}" else f"is to be of byte {front(data)}"
     if kind == "NotChecked":
         return "" if told.startswith(f"member {rule.member}: ") or rule.member is None else f"is to be of {rule.member}"
-    return no_job_differs(values, told) if kind == "NoJob" else ""
+    return no_job_differs(command, values[0], told) if kind == "NoJob" else ""
 
 
 def differs(run, command, row):

@@ -309,7 +309,7 @@ def is_received(job):
     shapes = shapes_of(job)
     _, output, errors = operation(shapes, job.get("operation"))
     response(job.get("response"))
-    need(job.get("policy", "reject") in ("reject", "skip"))
+    policy(job)
     service = job.get("serviceErrors", [])
     need(isinstance(service, list) and all(is_name(it) for it in service))
     if "error" in job:
@@ -324,9 +324,8 @@ def is_received(job):
 
 def is_sent_on(job):
     is_recovered(job)
-    need(job.get("to") in ("rpc", "rest"))
-    endpoint = job.get("rpcEndpoint", "")
-    need(isinstance(endpoint, str) and (not endpoint or is_target(endpoint)))
+    way(job)
+    call_endpoint(job)
 
 
 def is_answered(job):
@@ -347,6 +346,81 @@ READINGS = {
     "response": is_received,
     "answer": is_answered,
 }
+
+
+# The keys of a job with a form that doesn't hang on the shapes, each command's in the order of docs/JOBS.md.
+
+
+def has_shapes(job):
+    shapes_of(job)
+
+
+def names_operation(job):
+    name = job.get("operation")
+    need(is_name(name) and name in shapes_of(job))
+
+
+def key_of(key, reads):
+    """What reads the value of a key that has to be there."""
+
+    def read(job):
+        need(key in job)
+        reads(job[key])
+
+    return read
+
+
+def texts_if_there(*keys):
+    def read(job):
+        for key in keys:
+            optional(job, key, str)
+
+    return read
+
+
+def list_of_operations(value):
+    need(isinstance(value, list))
+
+
+def way(job):
+    need(job.get("to") in ("rpc", "rest"))
+
+
+def call_endpoint(job):
+    endpoint = job.get("rpcEndpoint", "")
+    need(isinstance(endpoint, str) and (not endpoint or is_target(endpoint)))
+
+
+def policy(job):
+    need(job.get("policy", "reject") in ("reject", "skip"))
+
+
+def status(job):
+    need("status" not in job or is_whole(job["status"], 100, 999))
+
+
+MODEL = (("model", has_shapes), ("operation", names_operation))
+ENDPOINT, OMIT, ASKED = ("endpoint", texts_if_there("endpoint")), ("omit", omit), ("request", key_of("request", request))
+SENT = (*MODEL, ("input", lambda job: given_writes(job, "input")), ENDPOINT, OMIT)
+KEYS = {
+    "request": SENT,
+    "rpc": SENT,
+    "response": (*MODEL, ("response", key_of("response", response)), ("error", texts_if_there("error"))),
+    "recover": (*MODEL, ENDPOINT, OMIT, ASKED),
+    "route": (("model", key_of("model", lambda _: None)), OMIT, ASKED, ("operations", key_of("operations", list_of_operations))),
+    "gateway": (*MODEL, ENDPOINT, OMIT, ASKED, ("to", way), ("rpcEndpoint", call_endpoint)),
+    "answer": (*MODEL, ("output", lambda job: given_writes(job, "output")), ("status", status)),
+}
+
+
+def wrong_key(command, value):
+    """The first of these keys that isn't of its form, of an object that is no job; None where they all are."""
+    for key, reads in KEYS[command]:
+        try:
+            reads(value)
+        except NoJob:
+            return key
+    return None
 
 
 def is_job(command, value):
