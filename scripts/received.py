@@ -1,4 +1,5 @@
-"""A slow second reading of what `response` writes, by docs/JOBS.md and docs/MODEL.md: the line of a response's value, or of its first refusal.
+"""A slow second reading of what `response` writes, by docs/JOBS.md and docs/MODEL.md: the line of a response's value, or of its first
+refusal.
 
 The value is that of a job of `response` whose schema is checked, as scripts/jobs.py and scripts/rules.py see it.
 """
@@ -194,7 +195,8 @@ def items(text):
                 raise invalid("header list: expected a comma after a quoted item")
             found.append(re.sub(r"\\(.)", r"\1", quoted[1], flags=re.DOTALL))
         else:
-            item, rest = (rest.partition(",")[0], rest[len(rest.partition(",")[0]) :])
+            item = rest.partition(",")[0]
+            rest = rest[len(item) :]
             found.append(trimmed(item))
         left = rest[1:]
     return found
@@ -246,8 +248,7 @@ def header_items(node, values):
     if node.kind == "timestamp":
         form = node.traits.get("timestampFormat", "http-date")
         return [it for value in values for it in dates(decoded(value), form)]
-    texts = [it for value in values for it in items(decoded(value))]
-    return texts
+    return [it for value in values for it in items(decoded(value))]
 
 
 def header_value(node, name, values):

@@ -1,7 +1,7 @@
 """A slow second reading of what `recover` writes, by docs/JOBS.md: the input that a request has, or none.
 
-Each member's value is read from the place where `request` puts it; the input that comes of it counts where it is typed and scripts/placing.py
-has for it a request with the facts of the given one. The value is that of a job of `recover` whose schema is checked.
+Each member's value is read from the place where `request` puts it; the input that comes of it counts where it is typed and
+scripts/placing.py has for it a request with the facts of the given one. The value is that of a job of `recover` whose schema is checked.
 """
 
 import base64
@@ -89,11 +89,11 @@ class Parts:
     def labels(self):
         """The text of each hole."""
         literals = [re.escape(it) for it in "\0".join(self.literals).partition("?")[0].split("\0")]
-        pattern = "".join(f"(?P<h{at}>{'.+' if name.endswith('+') else '[^/]+'}){after}" for at, (name, after) in enumerate(zip(self.names, literals[1:])))
-        found = re.fullmatch(literals[0] + pattern, self.path)
+        holes = ["(.+)" if it.endswith("+") else "([^/]+)" for it in self.names]
+        found = re.fullmatch(literals[0] + "".join(map("".join, zip(holes, literals[1:]))), self.path)
         if found is None:
             raise NoInput
-        return {name.removesuffix("+"): unescaped(found[f"h{at}"]) for at, name in enumerate(self.names)}
+        return {name.removesuffix("+"): unescaped(text) for name, text in zip(self.names, found.groups())}
 
     def query(self, name):
         return [unescaped(it.partition("=")[2]) for it in self.pieces.get(placing.escaped(name), [])]

@@ -1,5 +1,5 @@
-"""A slow second reading of which operation a request is of, by docs/JOBS.md: the routes of operations, which of them match, beat each other and
-conflict.
+"""A slow second reading of which operation a request is of, by docs/JOBS.md: the routes of operations, which of them match, beat each
+other and conflict.
 """
 
 import collections

@@ -1,5 +1,5 @@
-"""A slow second reading of schemas: whether those of a job are checked, by the list of rules in docs/JOBS.md, and if not, which rule is broken
-first, and by which member.
+"""A slow second reading of schemas: whether those of a job are checked, by the list of rules in docs/JOBS.md, and if not, which rule is
+broken first, and by which member.
 
 The value is that of a job of the command, as scripts/jobs.py sees it.
 """

@@ -72,8 +72,8 @@ fn sent(alloc: Global, given: &Value, is_placed: bool) -> Result<Text, Failed> {
     }
 }
 
-// The schema under `by`, by which the request is made in place of the job's own, where there is one. A name that only this one has is
-// written by a node with that name and without an index, and any other by the index that it has in the job's.
+// The schema under `by`, by which the request is made in place of the job's own, where there is one. A name that only this
+// one has is written by a node with that name and without an index, and any other by the index that it has in the job's.
 fn other_schema(alloc: Global, given: &Value) -> Result<Option<ModelTable>, Failed> {
     let Some(other) = given.get("by") else {
         return Ok(None);
