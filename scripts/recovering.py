@@ -89,8 +89,8 @@ class Parts:
     def labels(self):
         """The text of each hole."""
         literals = [re.escape(it) for it in "\0".join(self.literals).partition("?")[0].split("\0")]
-        holes = ["(.+)" if it.endswith("+") else "([^/]+)" for it in self.names]
-        found = re.fullmatch(literals[0] + "".join(map("".join, zip(holes, literals[1:]))), self.path)
+        texts = ["(.+)" if it.endswith("+") else "([^/]+)" for it in self.names]
+        found = re.fullmatch(literals[0] + "".join(map("".join, zip(texts, literals[1:]))), self.path)
         if found is None:
             raise NoInput
         return {name.removesuffix("+"): unescaped(text) for name, text in zip(self.names, found.groups())}
