@@ -10,11 +10,9 @@ The jobs are those of crates/job_rows whose commands stand in COMMANDS, their ex
 damaged: some of its bytes are dropped, doubled, changed, cut off, moved or joined with those of another job; or one of its words is put
 in the place of another of its sort; or a part of its value is dropped, doubled, or exchanged for one of another job's. Each run has to end
 
-- with a status of docs/JOBS.md: 0, 2, 3, or 7 past the most bytes. There is memory enough, so 6 is none;
-- with 2 where scripts/jobs.py reads no job of the command in the bytes; by `rpc`, whose schemas aren't tested, only there;
-- with 0 or 3 by `rpc` where it does by `request`;
-- with no text at 2 and 7, with a line of a known kind at 3, and at 0 with what has the form of the command's output;
-- with 2 where `explain` tells why, by a line that scripts/explained.py takes, and else with `Job` for its line;
+- with the status and the text that the slow second reading of scripts/second.py has, of whatever command and whatever bytes; there is
+  memory enough, so 6 is none;
+- and with a line of `explain` that scripts/explained.py takes: `Job` where it doesn't end with 2, and else why it does;
 - within ten times the median of the runs that end with 0, of its command and of as many bytes, up to twice as many, where there are
   FEW such runs. It is the time of the processor; a run that takes longer is run ten times more, and the shortest one counts.
 
@@ -42,6 +40,7 @@ sys.path += [str(ROOT / "bindings"), str(ROOT / "bindings" / "python"), str(ROOT
 import explained  # noqa: E402
 import install  # noqa: E402
 import jobs  # noqa: E402
+import second  # noqa: E402
 import smithy_bind  # noqa: E402
 
 ROWS = ROOT / "crates" / "job_rows"
@@ -50,14 +49,11 @@ COMMANDS = ("request", "rpc", "response", "recover", "route", "gateway", "answer
 MOST_BYTES = 20_000
 BATCH = 5_000
 TIMES_MEDIAN = 10
-NO_JSON = object()
 AGAIN = 10
 FEW = 30
 MOST_SHOWN = 20
 WORD = re.compile(rb'"(?:[^"\\]|\\.)*"|-?[0-9][0-9.eE+-]*|true|false|null|[][{}:,]')
 EDGES = b'"\\{}[]:,0-.eE \n\t\x00\x1f\x7f\x80\xc3\xe2\xed\xf4\xff/%#$&=?+;'
-KINDS = ("TypeMismatch", "MissingMember", "UnknownMember", "InvalidInput", "UnsupportedOperation", "WriteFailed", "BlobDecodeFailed",
-         "TimestampParseFailed", "Custom", "NumericCoercionOverflow", "NumericCoercionLossy", "NotPlaced", "NoRoute", "Template", "Conflict")  # fmt: skip
 
 # A job of a command, its words and its value; how a run ends.
 Sample = collections.namedtuple("Sample", "command data words value")
@@ -177,67 +173,16 @@ def end_of(library, command, data):
     return end, time.thread_time_ns() - begun
 
 
-def header_differs(headers):
-    named = (it.partition(b": ")[0].decode("latin-1") for it in headers)
-    return None if all(map(jobs.TOKEN.fullmatch, named)) else "a header's name is no token"
-
-
-def request_differs(text):
-    head, gap, body = text.partition(b"\n\n")
-    first, *headers = head.split(b"\n")
-    method, _, target = first.partition(b" ")
-    if not gap or not jobs.TOKEN.fullmatch(method.decode()) or not re.fullmatch(rb"[!-~]{1,65534}", target):
-        return "its first line is none of a request"
-    return header_differs(headers)
-
-
-def response_differs(text):
-    head, gap, _ = text.partition(b"\n\n")
-    status, *headers = head.split(b"\n")
-    if not gap or not re.fullmatch(rb"[1-9][0-9]{2}", status):
-        return "its first line is no status"
-    return header_differs(headers)
-
-
-def value_differs(text):
-    try:
-        jobs.read(text)
-    except jobs.NoJson:
-        return "its line is no JSON"
-    return None if text.endswith(b"}\n") and b": " not in re.sub(rb'"(?:[^"\\]|\\.)*"', b'""', text) else "its line is no compact object"
-
-
-def form_differs(command, end):
-    """How the text of a run has not the form of its status."""
-    if end.status in (2, 7):
-        return "it has a text" if end.text else None
-    if end.status == 3:
-        kind = end.text.partition(b": ")[0].decode(errors="replace")
-        return None if kind in KINDS and end.text.endswith(b"\n") else "its line is of no known kind"
-    if command in ("request", "rpc", "gateway"):
-        return request_differs(end.text)
-    if command == "answer":
-        return response_differs(end.text)
-    return value_differs(end.text[end.text.rfind(b"\n{") + 1 :])
-
-
-def differs(library, command, data, value, end):
-    """How a run is not as it has to be."""
-    if end.status not in (0, 2, 3, 7) or (end.status == 7) != (len(data) > jobs.MOST_BYTES):
-        return "is of no such status"
-    is_job = value is not NO_JSON and jobs.is_job(command, value)
-    if not is_job and end.status != 2:
-        return "is of no job"
-    if command == "rpc" and is_job and end.status == 2:
-        return "is of a job"
-    if command == "request" and end.status != 2 and end_of(library, "rpc", data)[0].status not in (0, 3):
-        return "is of a job that is none by rpc"
-    if end.status != 7:
-        line = f"{library.explain(command, data)}\n".encode()
-        how = explained.line_differs(command, data, [] if value is NO_JSON else [value], end.status, line)
-        if how:
-            return f"has the line {line[:200]!r}, and {how}"
-    return form_differs(command, end)
+def differs(library, command, data, values, end):
+    """How a run is not as it has to be, over bytes of this value, alone in a list, which is empty where they are no JSON."""
+    if len(data) > jobs.MOST_BYTES:
+        return None if end == (7, b"") else "is too long"
+    due = second.ended(command, values)
+    if end != due:
+        return f"is to end with {due[0]} and {due[1][:200]!r}"
+    line = f"{library.explain(command, data)}\n".encode()
+    how = explained.line_differs(command, data, values, end.status, line)
+    return f"has the line {line[:200]!r}, and {how}" if how else None
 
 
 # What a batch found: how many runs of each status, times by command and size, the slowest runs, and what differs.
@@ -256,8 +201,7 @@ def batch(number):
     for _ in range(min(BATCH, count - number * BATCH)):
         command, data = damaged_job(chosen, jobs_of_rows)
         end, spent = end_of(library, command, data)
-        value = read(data)
-        how = differs(library, command, data, value, end)
+        how = differs(library, command, data, explained.value_of(data), end)
         statuses[command, end.status] += 1
         if how:
             wrong.append((command, data, f"ends with {end.status} and {end.text[:200]!r}, which {how}"))
@@ -268,13 +212,6 @@ def batch(number):
         slowest[size] = sorted(slowest[size], reverse=True)[:3]
     gc.enable()
     return Found(statuses, dict(times), slowest, wrong)
-
-
-def read(data):
-    try:
-        return jobs.read(data)
-    except jobs.NoJson:
-        return NO_JSON
 
 
 STATE = None

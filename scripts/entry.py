@@ -33,6 +33,10 @@ MADE_TOOLCHAIN = (
     '#!/bin/sh\n[ "$1" = try ] && shift && shift || exit 9\n'
     'if [ "$1" = explain ]; then ENDS=0; printf "%s of " "$2"; fi\ncat\necho "run=ended status=$ENDS" >&2\nexit "$ENDS"\n'
 )
+# A program that finds no JSON behind the ninth byte.
+REFUSING_PROGRAM = '#!/bin/sh\n[ "$1" = explain ] || exit 2\necho "NotJson: byte 9"\n'
+# What ./smithy_bind --build keeps of crates.txt, by the script's own functions.
+LINES = "here=.; eval \"$(sed -n '/^crates_of_program() {/,/^}/p; /^lines_of_program() {/,/^}/p' smithy_bind)\"; lines_of_program"
 NO_TOOLCHAIN = "#!/bin/sh\nexit 9\n"
 
 JOB = b'{"a job": [1, 2]}\n'
@@ -66,6 +70,16 @@ class Clone:
         self.script = folder / "smithy_bind"
         if program is not None:
             executable(folder / PROGRAM / "out" / "smithy_bind_program", program)
+
+    def add_crate(self, line):
+        """A line more in crates.txt, which is then newer than the program."""
+        crates = self.folder / "crates.txt"
+        crates.write_text(crates.read_text() + line)
+        built = self.folder / PROGRAM / "out" / "smithy_bind_program"
+        os.utime(built, (0, 0))
+        for source in self.folder.rglob("*"):
+            if source != crates:
+                os.utime(source, (0, 0))
 
     def link(self, path):
         path.parent.mkdir(parents=True, exist_ok=True)
@@ -144,6 +158,27 @@ def statuses(clone, tools):
         yield Case("request of a terminal", ["request"], clone.script, "/", tools, 0, JOB, said, True)
 
 
+def no_json(clone, tools):
+    """What is said of bytes that are no JSON."""
+    said = [
+        "smithy_bind: status 2: NotJson: byte 9",
+        re.escape(f"smithy_bind: before that byte stands: {JOB[:9].decode()}"),
+        "smithy_bind: see '.*' in .*",
+    ]
+    yield Case("no JSON behind the ninth byte", ["request"], clone.script, "/", tools, 2, b"", said)
+
+
+def with_crates(work, trying):
+    """A crate that is added: the build stays where it was made by the same lines, and else not."""
+    note = ["smithy_bind: there is no proved build .*", "smithy_bind: more .*", "smithy_bind: which compiles .*"]
+    for name, line, said in (("of another", "mine: smithy_ids\n", []), ("of the program", "smithy_bind_program: mine\n", note)):
+        clone = Clone(work / f"a crate {name}", MADE_PROGRAM)
+        lines = clone.folder / PROGRAM / "out" / "crates_of_program"
+        lines.write_bytes(subprocess.run(["sh", "-c", LINES], cwd=clone.folder, stdout=subprocess.PIPE, check=True).stdout)
+        clone.add_crate(line)
+        yield Case(f"a line of a crate {name} is added", ["request"], clone.script, "/", trying, 0, JOB, said)
+
+
 def unproved(clone, tools):
     """The same without a program, by a made toolchain."""
     note = ["smithy_bind: there is no proved build .*", "smithy_bind: more .*", "smithy_bind: which compiles .*"]
@@ -201,6 +236,8 @@ def cases(work):
     yield from places(built, useless, work)
     yield from statuses(built, useless)
     yield from unproved(bare, trying)
+    yield from with_crates(work / "added", trying)
+    yield from no_json(Clone(work / "a clone" / "of what is no JSON", REFUSING_PROGRAM), useless)
     if shutil.which("rt", path="/usr/bin:/bin") is None:
         yield from without_toolchain(bare, None)
 

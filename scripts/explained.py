@@ -3,13 +3,13 @@
     python3 scripts/explained.py COMMAND ROWS [PROGRAM]
 
 ROWS has a JSON object a line: `job`, bytes that are to be a job of the command, or `job_base64`. PROGRAM is that of way_back.py. By a
-slow second reading of the bytes (scripts/jobs.py) the line has to be
+slow second reading of the bytes (scripts/jobs.py, scripts/front.py, scripts/rules.py) the line has to be
 
-- `Job` exactly where the command doesn't end with 2;
-- `NotJson` exactly where the bytes are no JSON, with the place of a byte of them, or their number;
-- `NotChecked` exactly where they are a job that ends with 2, and never by `rpc`;
+- `Job` exactly where they are a job whose schema is checked, which is where the command doesn't end with 2;
+- `NotJson` exactly where the bytes are no JSON, with the number of those before the first one that can't stand there;
+- `NotChecked` exactly where they are a job whose schema breaks a rule, with the member that breaks the first one, if it is one of a member;
 - `NoJob` everywhere else, with a JSON Pointer (RFC 6901) to a place of the value, or to a key that an object there lacks, and with words
-  behind it. Where a request's target or an endpoint is none, which the second reading doesn't see, it is their place.
+  behind it; the place is of the first key of docs/JOBS.md that hasn't its form, or else of a key whose form hangs on the shapes.
 
 Each row for which that isn't so has a line, and the last line is `N passed, M failed`.
 """
@@ -18,10 +18,13 @@ import re
 import sys
 
 sys.dont_write_bytecode = True
-from jobs import NoJson, is_job, read  # noqa: E402
+from front import front  # noqa: E402
+from jobs import NoJson, is_job, read, wrong_key  # noqa: E402
+from rules import broken_in  # noqa: E402
 from way_back import count, given_job, rows_of, runner, side_by_side  # noqa: E402
 
-UNSEEN = ("/request/target", "/rpcEndpoint")
+# The keys that a place is of whose form hangs on the shapes.
+BY_SHAPES = ("model", "operations", "error", "code", "serviceErrors", "policy")
 # The words of a place that nothing else is said of.
 NO_PLACE = ": a job of this command is asked"
 
@@ -43,7 +46,7 @@ def leads(value, pointer):
 
 def pointer_in(value, told):
     """The pointer before the words, which may have a colon in a name. None where none leads."""
-    ends = [it.start() for it in re.finditer(": .", told)]
+    ends = [it.start() for it in re.finditer(": .", told, re.DOTALL)]
     return next((told[:it] for it in ends if (it == 0 or told[0] == "/") and leads(value, told[:it])), None)
 
 
@@ -55,29 +58,46 @@ def value_of(data):
         return []
 
 
-def no_job_differs(command, values, told):
-    if not values:
-        return "is of no JSON"
-    pointer = pointer_in(values[0], told)
+def first_key(pointer):
+    return pointer.partition("/")[2].partition("/")[0]
+
+
+def no_job_differs(command, value, told):
+    pointer = pointer_in(value, told)
     if pointer is None:
         return "leads nowhere"
-    if told == NO_PLACE:
-        return "has no place"
-    return "is of a job" if pointer not in UNSEEN and is_job(command, values[0]) else ""
+    if told == NO_PLACE or not isinstance(value, dict):
+        return "has no place" if told == NO_PLACE or pointer else ""
+    key = wrong_key(command, value)
+    if key is None:
+        return "" if first_key(pointer) in BY_SHAPES else "is to be of a shape"
+    return "" if first_key(pointer) == key else f"is to be of the key {key}"
+
+
+def kind_of(command, values):
+    """The kind of line that is due, and the rule that is broken first, if it is one."""
+    if not values:
+        return "NotJson", None
+    if not is_job(command, values[0]):
+        return "NoJob", None
+    rule = broken_in(command, values[0])
+    return ("NotChecked", rule) if rule else ("Job", None)
 
 
 def line_differs(command, data, values, status, line):
     """How a line isn't what is to be told of bytes, which have this value, and over which the command ends with this status; "" where
     it is."""
     kind, _, told = line.decode().removesuffix("\n").partition(": ")
-    if line == b"Job\n" or status != 2 or not line.endswith(b"\n"):
-        return "" if line == b"Job\n" and status != 2 else f"ends with {status}"
+    due, rule = kind_of(command, values)
+    if kind != due or not line.endswith(b"\n"):
+        return f"is to be {due}"
+    if (kind == "Job") != (status != 2):
+        return f"ends with {status}"
     if kind == "NotJson":
-        place = re.fullmatch("byte ([0-9]+)", told)
-        return "" if not values and place and int(place[1]) <= len(data) else "is of JSON, or has no place"
+        return "" if told == f"byte {front(data)}" else f"is to be of byte {front(data)}"
     if kind == "NotChecked":
-        return "" if values and command != "rpc" and is_job(command, values[0]) else "is of no job"
-    return no_job_differs(command, values, told) if kind == "NoJob" else "is of no kind"
+        return "" if told.startswith(f"member {rule.member}: ") or rule.member is None else f"is to be of {rule.member}"
+    return no_job_differs(command, values[0], told) if kind == "NoJob" else ""
 
 
 def differs(run, command, row):

@@ -1,6 +1,6 @@
 """A slow second reading of jobs, by Python's json and docs/JOBS.md: whether bytes are JSON, and whether that is the job of a command.
 
-Whether a request or a response can be made by a job's schema is not looked at, nor whether a text is legal as a request's target.
+Whether a request or a response can be made by a job's schema is looked at by scripts/rules.py.
 """
 
 import base64
@@ -13,6 +13,9 @@ MOST_LEVELS = 127
 PRELUDE = "smithy.api#"
 TOKEN = re.compile(r"[!#$%&'*+.^_`|~0-9A-Za-z-]+")
 FULL_NAME = re.compile(r"[^#]*#[^$]*", re.DOTALL)
+PATH, QUERY, AUTHORITY = '[!"$-;=@-_a-~]', '[!"$-;=?-~]', '[!"$-.0-;=@-_a-~]'
+TARGET = re.compile(rf"(/{PATH}*|https?://{AUTHORITY}+(/{PATH}*)?)(\?{QUERY}*)?")
+MOST_TARGET = 65_534
 ESCAPE = re.compile(r"\\(u[0-9A-Fa-f]{4}|.)", re.DOTALL)
 TYPES = set("blob boolean string byte short integer long float double bigInteger bigDecimal timestamp document".split())
 TYPES |= {"enum", "intEnum", "structure", "union", "list", "set", "map"}
@@ -113,6 +116,11 @@ def is_name(value):
     return isinstance(value, str) and FULL_NAME.fullmatch(value) is not None
 
 
+def is_target(text):
+    """Whether a text is legal as a request's target."""
+    return len(text) <= MOST_TARGET and TARGET.fullmatch(text) is not None
+
+
 def optional(holder, key, kind):
     """The value under a key, which is of the kind where it is there."""
     value = holder.get(key)
@@ -149,7 +157,7 @@ def message(value):
 
 def request(value):
     need(isinstance(value, dict) and isinstance(value.get("method"), str) and isinstance(value.get("target"), str))
-    need(TOKEN.fullmatch(value["method"]))
+    need(TOKEN.fullmatch(value["method"]) and is_target(value["target"]))
     message(value)
 
 
@@ -301,7 +309,7 @@ def is_received(job):
     shapes = shapes_of(job)
     _, output, errors = operation(shapes, job.get("operation"))
     response(job.get("response"))
-    need(job.get("policy", "reject") in ("reject", "skip"))
+    policy(job)
     service = job.get("serviceErrors", [])
     need(isinstance(service, list) and all(is_name(it) for it in service))
     if "error" in job:
@@ -316,7 +324,8 @@ def is_received(job):
 
 def is_sent_on(job):
     is_recovered(job)
-    need(job.get("to") in ("rpc", "rest") and ("rpcEndpoint" not in job or isinstance(job["rpcEndpoint"], str)))
+    way(job)
+    call_endpoint(job)
 
 
 def is_answered(job):
@@ -337,6 +346,81 @@ READINGS = {
     "response": is_received,
     "answer": is_answered,
 }
+
+
+# The keys of a job with a form that doesn't hang on the shapes, each command's in the order of docs/JOBS.md.
+
+
+def has_shapes(job):
+    shapes_of(job)
+
+
+def names_operation(job):
+    name = job.get("operation")
+    need(is_name(name) and name in shapes_of(job))
+
+
+def key_of(key, reads):
+    """What reads the value of a key that has to be there."""
+
+    def read(job):
+        need(key in job)
+        reads(job[key])
+
+    return read
+
+
+def texts_if_there(*keys):
+    def read(job):
+        for key in keys:
+            optional(job, key, str)
+
+    return read
+
+
+def list_of_operations(value):
+    need(isinstance(value, list))
+
+
+def way(job):
+    need(job.get("to") in ("rpc", "rest"))
+
+
+def call_endpoint(job):
+    endpoint = job.get("rpcEndpoint", "")
+    need(isinstance(endpoint, str) and (not endpoint or is_target(endpoint)))
+
+
+def policy(job):
+    need(job.get("policy", "reject") in ("reject", "skip"))
+
+
+def status(job):
+    need("status" not in job or is_whole(job["status"], 100, 999))
+
+
+MODEL = (("model", has_shapes), ("operation", names_operation))
+ENDPOINT, OMIT, ASKED = ("endpoint", texts_if_there("endpoint")), ("omit", omit), ("request", key_of("request", request))
+SENT = (*MODEL, ("input", lambda job: given_writes(job, "input")), ENDPOINT, OMIT)
+KEYS = {
+    "request": SENT,
+    "rpc": SENT,
+    "response": (*MODEL, ("response", key_of("response", response)), ("error", texts_if_there("error"))),
+    "recover": (*MODEL, ENDPOINT, OMIT, ASKED),
+    "route": (("model", key_of("model", lambda _: None)), OMIT, ASKED, ("operations", key_of("operations", list_of_operations))),
+    "gateway": (*MODEL, ENDPOINT, OMIT, ASKED, ("to", way), ("rpcEndpoint", call_endpoint)),
+    "answer": (*MODEL, ("output", lambda job: given_writes(job, "output")), ("status", status)),
+}
+
+
+def wrong_key(command, value):
+    """The first of these keys that isn't of its form, of an object that is no job; None where they all are."""
+    for key, reads in KEYS[command]:
+        try:
+            reads(value)
+        except NoJob:
+            return key
+    return None
 
 
 def is_job(command, value):

@@ -13,15 +13,17 @@ the pieces of each query name. Each job for which that isn't so has a line, and 
 """
 
 import base64
-import binascii
 import collections
 import concurrent.futures
 import json
 import os
 import pathlib
-import re
 import subprocess
 import sys
+
+sys.dont_write_bytecode = True
+from placing import is_of_kind  # noqa: E402
+from rules import REQUEST, end_of, holes, http_of  # noqa: E402
 
 ROOT = pathlib.Path(__file__).resolve().parent.parent
 PRELUDE = "smithy.api#"
@@ -72,111 +74,70 @@ def way_back(job, request):
 
 
 class Input:
-    """The writes of a job's input, each a name with its value, and the members that they are for."""
+    """The writes of a job's input, each a name with its value, and the nodes of the members that they are for."""
 
     def __init__(self, job):
-        self.shapes, self.endpoint = job["model"]["shapes"], job.get("endpoint", "")
-        operation = self.shapes[job["operation"]]
-        self.http = operation.get("traits", {}).get(PRELUDE + "http")
-        self.members = self.shape(operation.get("input", {}).get("target", PRELUDE + "Unit")).get("members", {})
+        shapes, name = job["model"]["shapes"], job["operation"]
+        self.endpoint, self.http = job.get("endpoint", ""), http_of(shapes, name)
+        self.members = end_of(shapes, name, "input").members()
         given = job["input"]
         self.writes = sorted(given.items()) if isinstance(given, dict) else given
 
-    def shape(self, target):
-        """The shape of a name; those of the prelude are simple, but for the one without members."""
-        name = target.removeprefix(PRELUDE)
-        if name == target:
-            return self.shapes[target]
-        if name == "Unit":
-            return {"type": "structure", "members": {}}
-        name = name.removeprefix("Primitive")
-        return {"type": name[0].lower() + name[1:]}
-
     def trait(self, member, name):
-        return self.members[member].get("traits", {}).get(PRELUDE + name)
+        return self.members[member].traits.get(name)
 
     def is_bound(self, member):
-        traits = ("httpHeader", "httpPrefixHeaders", "httpQuery", "httpQueryParams", "httpLabel", "httpPayload")
-        return any(self.trait(member, it) is not None for it in traits)
+        return any(it in self.members[member].traits for it in REQUEST)
 
     def first(self, member):
         return next((value for name, value in self.writes if name == member), None)
 
-
-WIDTHS = {"byte": 8, "short": 16, "integer": 32, "intEnum": 32, "long": 64, "timestamp": 64}
-NUMBER = re.compile(r"[+-]?(\d+\.?\d*|\.\d+)([eE][+-]?\d+)?")
-
-
-def is_within(number, bits):
-    return isinstance(number, int) and not isinstance(number, bool) and -(2 ** (bits - 1)) <= number < 2 ** (bits - 1)
+    def with_trait(self, name):
+        return [it for it in self.members if name in self.members[it].traits]
 
 
-def is_big(text, pattern):
-    found = isinstance(text, str) and text.isascii() and re.fullmatch(pattern, text)
-    return bool(found) and is_within(int(re.sub(r"[eE].*|\.", "", text)), 128)
-
-
-def is_base64(text):
-    try:
-        return isinstance(text, str) and base64.b64encode(base64.b64decode(text, validate=True)).decode() == text
-    except (binascii.Error, ValueError):
-        return False
-
-
-def is_scalar(kind, value):
-    if kind in WIDTHS:
-        return is_within(value, WIDTHS[kind])
-    if kind == "bigInteger":
-        return isinstance(value, int) and not isinstance(value, bool) or is_big(value, r"[+-]?\d+")
-    if kind == "bigDecimal":
-        return is_big(value, NUMBER)
-    if kind == "blob":
-        return is_base64(value)
-    return kind in ("string", "enum") and isinstance(value, str) or kind == "boolean" and isinstance(value, bool)
-
-
-def is_shaped(given, target, value):
-    """Whether a value of the body follows its shape at every depth."""
-    shape = given.shape(target)
-    kind = shape["type"]
-    if value is None or kind == "document":
+def is_shaped(node, value):
+    """Whether a value of the body follows its node at every depth."""
+    if value is None or node.kind == "document":
         return True
-    if kind in ("list", "set"):
-        return isinstance(value, list) and all(is_shaped(given, shape["member"]["target"], it) for it in value)
-    if kind == "map":
-        has_texts = given.shape(shape["key"]["target"])["type"] in ("string", "enum")
-        return isinstance(value, dict) and has_texts and all(is_shaped(given, shape["value"]["target"], it) for it in value.values())
-    if kind in ("structure", "union"):
-        members = shape["members"]
-        return isinstance(value, dict) and all(it in members and is_shaped(given, members[it]["target"], value[it]) for it in value)
-    return is_scalar(kind, value)
+    if not is_of_kind(node.kind, value):
+        return False
+    if node.kind == "list":
+        element = node.element()
+        return all(is_shaped(element, it) for it in value)
+    if node.kind == "map":
+        entry = node.value()
+        return node.key().kind == "string" and all(is_shaped(entry, it) for it in value.values())
+    if node.kind in ("structure", "union"):
+        members = node.members()
+        return all(it in members and is_shaped(members[it], value[it]) for it in value)
+    return True
 
 
 def has_shaped_body(given):
-    """Whether each write to a member of the body, and the first to a payload that the codec writes, follows its shape."""
+    """Whether each write to a member of the body, and the first to a payload that the codec writes, follows its node."""
     for name, value in given.writes:
-        target = given.members[name]["target"]
-        if not given.is_bound(name) and not is_shaped(given, target, value):
+        if not given.is_bound(name) and not is_shaped(given.members[name], value):
             return False
-    payload = next((it for it in given.members if given.trait(it, "httpPayload") is not None), None)
+    payload = next(iter(given.with_trait("httpPayload")), None)
     if payload is None or all(name != payload for name, _ in given.writes):
         return True
-    target = given.members[payload]["target"]
-    return given.shape(target)["type"] in ("blob", "string", "enum") or is_shaped(given, target, given.first(payload))
+    node = given.members[payload]
+    return node.kind in ("blob", "string") or is_shaped(node, given.first(payload))
 
 
 def writes_defaults(given, request):
     """Whether no default header stands in the place of a header member that isn't written."""
     there = {name.decode() for name, _ in request.headers}
     written = {name for name, _ in given.writes}
-    names = [(it, given.trait(it, "httpHeader")) for it in given.members]
-    return not any(own and own.lower() in DEFAULTS and own.lower() in there and it not in written for it, own in names)
+    names = {it: given.trait(it, "httpHeader").lower() for it in given.with_trait("httpHeader")}
+    return not any(own in DEFAULTS and own in there and it not in written for it, own in names.items())
 
 
 def has_no_default_entry(given):
-    for name in given.members:
+    for name in given.with_trait("httpPrefixHeaders"):
         prefix = given.trait(name, "httpPrefixHeaders")
-        if prefix is not None and any((prefix + key).lower() in DEFAULTS for key in given.first(name) or {}):
+        if any((prefix + key).lower() in DEFAULTS for key in given.first(name) or {}):
             return False
     return True
 
@@ -185,8 +146,8 @@ def has_clear_template(given):
     """Whether without smithy.api#http the endpoint is a clear template: its holes are whole segments, one for each label."""
     if given.http is not None:
         return True
-    literals, names = (re.split(r"\{([^}]*)\}", given.endpoint or "/")[it::2] for it in (0, 1))
-    labels = [it for it in given.members if given.trait(it, "httpLabel") is not None]
+    literals, names = holes(given.endpoint or "/")
+    labels = given.with_trait("httpLabel")
     stem, scheme, authority = literals[0].partition("?")[0].partition("://")
     return (
         "{" not in literals[-1]

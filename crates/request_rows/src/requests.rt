@@ -6,6 +6,7 @@ ghost use Rattle.smithy_serde.specs.StoredValues.{AreDefined, IsDefined};
 ghost use Rattle.smithy_binding.specs.Checked.{checked_input as checked};
 
 use crate::given_job::job_bytes;
+use crate::models::placed as schema_placed;
 use crate::told::{no_job, outcome_text, same_text};
 use crate::told_input::ToldInput;
 use serde_json::Value;
@@ -14,6 +15,7 @@ use smithy_document::{JsonCodec, json_is_lawful};
 use smithy_http::Request;
 use smithy_job::{Job, read_job};
 use smithy_json::{Scratch, read_json};
+use smithy_model::ModelTable;
 use smithy_schema::laws::schema_is_well_made;
 use smithy_schema::{SchemaIndex, SchemaRef, Schemas};
 use smithy_serde::{
@@ -52,17 +54,35 @@ fn sent(alloc: Global, given: &Value, is_placed: bool) -> Result<Text, Failed> {
         Ok(job) => job,
         Err(refusal) => return no_job(alloc, refusal),
     };
-    let Some(schema) = table.get(index) else {
+    let Some(own) = table.get(index) else {
         return Err(Failed);
     };
     let nodes = further.as_ref().unwrap_or(&table);
-    let writes = with_broken_map(alloc, nodes, schema, given, writes)?;
+    let writes = with_broken_map(alloc, nodes, own, given, writes)?;
     let input = StructValue::with_writes(nodes, index, writes);
+    let other = other_schema(alloc, given)?;
+    let schema = match &other {
+        Some(other) => other.table.get(other.index).ok_or(Failed)?,
+        None => own,
+    };
     if is_placed {
         placed(alloc, input, schema, endpoint, omit)
     } else {
         posted(alloc, input, schema, endpoint, omit)
     }
+}
+
+// The schema under `by`, by which the request is made in place of the job's own, where there is one. A name that only this
+// one has is written by a node with that name and without an index, and any other by the index that it has in the job's.
+fn other_schema(alloc: Global, given: &Value) -> Result<Option<ModelTable>, Failed> {
+    let Some(other) = given.get("by") else {
+        return Ok(None);
+    };
+    let bytes = job_bytes(alloc, other)?;
+    let mut scratch = Scratch::new(alloc);
+    let value = read_json(alloc, bytes.as_slice(), &mut scratch).map_err(|_| Failed)?;
+    let placed = schema_placed(alloc, &value).map_err(|_| Failed)?;
+    Ok(Some(placed))
 }
 
 // The writes, with one for the member under `brokenMap` behind them, where there is one: a map of these texts in turn, whose last
