@@ -5,7 +5,7 @@ ghost use Rattle.smithy_binding.specs.Filling.{fill, filled_by, keep_slashes};
 ghost use Rattle.smithy_binding.specs.Faults.{filled_fault};
 ghost use Rattle.smithy_binding.specs.Refusing.{IsTold, Says};
 ghost use Rattle.smithy_binding.specs.views.Seen.{label_pair};
-ghost use Rattle.smithy_binding.specs.views.LabelTexts.{text_under, label_text, is_text, missing_in, long_fault, target_in, Extends, LacksLabel};
+ghost use Rattle.smithy_binding.specs.views.LabelTexts.{text_under, label_text, is_text, missing_in, long_fault, target_in, Extends, LacksLabel, IsTextOf, IsFaultOf};
 ghost use Rattle.smithy_binding.specs.views.LeftTemplates.{template_left};
 ghost use Rattle.smithy_binding.specs.views.TargetParts.{separator, target_behind, text_by, one_query, IsBehindFirst};
 
@@ -111,10 +111,8 @@ fn fill_by<'l>(
     texts: &LabelTexts<'l>,
     room: usize,
 ) -> Result<String, SerdeError>
-    ensures ok { IfOk result
-        (λ t. filled_by (text_under texts.now) (template_left template.entry) ≡ Ok (string_bytes t)) }
-    ensures err { IfErr result
-        (IsTold (filled_fault (filled_by (text_under texts.now) (template_left template.entry)))) }
+    ensures ok { IfOk result (IsTextOf (filled_by (text_under texts.now) (template_left template.entry))) }
+    ensures err { IfErr result (IsFaultOf (filled_by (text_under texts.now) (template_left template.entry))) }
 {
     let mut out = String::with_capacity(alloc, room)?;
     let mut rest = template;
@@ -137,10 +135,8 @@ fn fill<'l>(
     labels: &'l [Label<'l, 'l>],
     room: usize,
 ) -> Result<String, SerdeError>
-    ensures ok { IfOk result
-        (λ t. fill (template_left template.entry) (map label_pair labels.now) ≡ Ok (string_bytes t)) }
-    ensures err { IfErr result
-        (IsTold (filled_fault (fill (template_left template.entry) (map label_pair labels.now)))) }
+    ensures ok { IfOk result (IsTextOf (fill (template_left template.entry) (map label_pair labels.now))) }
+    ensures err { IfErr result (IsFaultOf (fill (template_left template.entry) (map label_pair labels.now))) }
 {
     let texts = texts_by_name(alloc, labels)?;
     fill_by(alloc, template, &texts, room)

@@ -2,7 +2,7 @@
 ghost use Rattle.std.specs.Prelude.{◌≡◌, ◌<◌, ◌+◌, ◌∷◌, [], length, false, Err, IfOk, IfErr, OnOk, OnErr};
 ghost use Rattle.smithy_document.specs.Words.{view, label, scalar_of, scalar_document as document_of, key_text, key_is_no_text};
 ghost use Rattle.smithy_document.specs.Building.{Building};
-ghost use Rattle.smithy_document.specs.views.JsonStanding.{Part, IsPartOf, wants_key, settled, group_kind, opening, empty_of, level_of, IsNamed, LeadsOrNot, LeadsGroup, PutsOrNot, IsAnswered, IsKeyed, KeyOutcome, WritesScalar, Begins, IsOrdered, EndsObject, EndsText, Leaving, Ends, IsNewWriting};
+ghost use Rattle.smithy_document.specs.views.JsonStanding.{Part, IsPartOf, wants_key, settled, group_kind, opening, empty_of, level_of, IsNamed, LeadsOrNot, LeadsGroup, PutsScalar, IsAnswered, IsKeyed, KeyOutcome, WritesScalar, Begins, IsOrdered, EndsObject, EndsText, Leaving, Ends, IsNewWriting};
 
 use crate::building::{no_member_name, not_a_text, second_value, unmatched_key};
 use crate::frame::full_name_of;
@@ -240,8 +240,8 @@ impl JsonWriting {
     // A scalar is written where no key is due; where it has no place nothing is written.
     #[inline(always)]
     fn put(&mut self, schema: SchemaRef<'_>, scalar: Scalar<'_>) -> Result<Lead, OutOfMemory>
-        ensures put { IfOk result (PutsOrNot (label schema.entry) (document_of (scalar_of scalar.entry))
-            self.old self.new) }
+        ensures put { IfOk result
+            (PutsScalar (label schema.entry) (scalar_of scalar.entry) self.old self.new) }
         ensures around { self.new.around ≡ self.old.around }
     {
         match self.lead(schema)? {

@@ -2,8 +2,7 @@
 ghost use Rattle.std.specs.Prelude.{◌≡◌, option_map};
 ghost use Rattle.std.specs.Option.{is_some};
 ghost use Rattle.smithy_schema.specs.Nodes.{is_response_bound};
-ghost use Rattle.smithy_schema.specs.Templates.{pieces};
-ghost use Rattle.smithy_schema.specs.views.Pieces.{in_turn};
+ghost use Rattle.smithy_schema.specs.views.Pieces.{pieces_of};
 ghost use Rattle.smithy_schema.specs.views.References.{schema_of};
 ghost use Rattle.smithy_schema.specs.views.Stored.{ShowsTraits};
 ghost use Rattle.smithy_schema.specs.views.MarksOf.{marks_of};
@@ -133,8 +132,7 @@ impl<'t> SchemaRef<'t> {
 
     /// The URI template of `http`, cut into its pieces: None exactly without that trait. Takes no memory.
     pub fn template_pieces(&self) -> Option<&'t Pieces>
-        ensures { option_map (λ p. p.now) result
-            ≡ option_map (λ h. in_turn (pieces h.uri)) (schema_of self.now).node.traits.http }
+        ensures { option_map (λ p. p.now) result ≡ pieces_of (schema_of self.now) }
     {
         match &self.traits_kept()?.http {
             Some(kept) => Some(&kept.parts),

@@ -2,9 +2,9 @@
 use Rattle.std.specs.Prelude.{◌≡◌, ℕ, Bool, false, not, ◌==◌, List, ◌++◌, length, map, String, string_bytes, Option, Some, None, option_map, Result, Ok, Err}
 use Rattle.smithy_binding.specs.Words.{Bor, BTreeMap, get_by, slice_cmp, nat_cmp, option_map_or, Template, found, then_give, SerdeError}
 use Rattle.std.specs.Result.{result_err}
-use Rattle.smithy_binding.specs.Faults.{Fault, missing_hole, too_long}
+use Rattle.smithy_binding.specs.Faults.{Fault, missing_hole, too_long, filled_fault}
 use Rattle.smithy_binding.specs.Filling.{filled_by}
-use Rattle.smithy_binding.specs.Refusing.{TellsFault}
+use Rattle.smithy_binding.specs.Refusing.{TellsFault, IsTold}
 use Rattle.smithy_binding.specs.views.TargetParts.{text_in, target_with}
 use Rattle.smithy_binding.specs.views.Seen.{label_pair}
 use Rattle.smithy_binding.specs.declared.labels.Label.{Label}
@@ -50,3 +50,11 @@ long_fault rest = option_map_or missing_hole (result_err rest) too_long
 -- the target of a template, of these labels, and of pairs that each stand behind a `&`
 abbrev pub target_in : List ℕ → List Label → List ℕ → Result (List ℕ) (List ℕ)
 target_in template labels query = target_with template (map label_pair labels) query
+
+-- the text is this filled template
+abbrev pub IsTextOf : {Z : Type 0} → Result (List ℕ) (List ℕ) → String Z → Type 0
+IsTextOf filled text = filled ≡ Ok (string_bytes text)
+
+-- the refusal tells why a template is not filled, or that it is too long
+abbrev pub IsFaultOf : Result (List ℕ) (List ℕ) → SerdeError → Type 0
+IsFaultOf filled = IsTold (filled_fault filled)

@@ -204,6 +204,10 @@ PutsOrNot l d old new lead.Value = (b : Building) (hs : List Held) → wants_key
 PutsOrNot l d old new lead.Second = (new ≡ old) × HasNoPlace l old second_value_text
 PutsOrNot l d old new lead.Unnamed = (new ≡ old) × HasNoPlace l old (document_fault_text (no_member_name l.full_name))
 
+-- so is the document of a scalar
+abbrev pub PutsScalar : Label → Scalar → JsonWriting → JsonWriting → Lead → Type 0
+PutsScalar l s = PutsOrNot l (scalar_document s)
+
 -- what is answered where a value has a place, or none
 abbrev pub IsAnswered : {U : Type 0} → Label → Lead → Result U SerdeError → Type 0
 IsAnswered l lead.Value (Ok x) = Unit {0}
