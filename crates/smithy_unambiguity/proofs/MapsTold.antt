@@ -137,30 +137,25 @@ pub last_of_entries : (key : List ℕ) (o : Option Value) → option_map_or (λ 
 last_of_entries key None = refl
 last_of_entries key (Some v) = refl
 
+-- a name that is not in lower case is that of no text in lower case
+unlike_lower : (name : List ℕ) → same_text (str_to_ascii_lowercase name) name ≡ false → (x : List ℕ) → str_to_ascii_lowercase x ≢ name
+unlike_lower name upper x same =
+    let lower : str_to_ascii_lowercase name ≡ name = ap str_to_ascii_lowercase (sym same) ∙ lower_twice x ∙ same in
+    let q : true ≡ false = sym (same_text_self name) ∙ ap (λ n. same_text n name) (sym lower) ∙ upper in
+    cc q
+
 -- only names in lower case stand among these
 pub not_lower : (name : List ℕ) (ps : List (List ℕ × List ℕ)) → same_text (str_to_ascii_lowercase name) name ≡ false → values_at name (lowered ps) ≡ []
 not_lower name ps e = nothing_at name (lowered ps) (all ps)
   where
-    other : (key : List ℕ) → str_to_ascii_lowercase key ≢ name
-    other key same =
-        let lower : str_to_ascii_lowercase name ≡ name = ap str_to_ascii_lowercase (sym same) ∙ lower_twice key ∙ same in
-        let q : true ≡ false = sym (same_text_self name) ∙ ap (λ n. same_text n name) (sym lower) ∙ e in
-        cc q
-
     all : (ps : List (List ℕ × List ℕ)) → AllByRecursion (λ p. p.0 ≢ name) (lowered ps)
     all [] = tt
-    all (p ∷ ps) = (other p.0, all ps)
+    all (p ∷ ps) = (unlike_lower name e p.0, all ps)
 
 -- No header of a message has a name that is not in lower case.
 no_upper : (schema : Schema) (ws : List Write) (name : List ℕ) → same_text (str_to_ascii_lowercase name) name ≡ false → values_at name (headers schema ws) ≡ []
-no_upper schema ws name upper = headers_at schema ws name ∙ ap (λ vs. option_to_list (last_value vs)) (none_given (given name) schema ws (λ r at. nothing_inserted name r (unnamed r) (λ prefix e key. unlike (prefix ++ key))))
+no_upper schema ws name upper = headers_at schema ws name ∙ ap (λ vs. option_to_list (last_value vs)) (none_given (given name) schema ws (λ r at. nothing_inserted name r (unnamed r) (λ prefix e key. unlike_lower name upper (prefix ++ key))))
   where
-    unlike : (x : List ℕ) → str_to_ascii_lowercase x ≢ name
-    unlike x same =
-        let lower : str_to_ascii_lowercase name ≡ name = ap str_to_ascii_lowercase (sym same) ∙ lower_twice x ∙ same in
-        let q : true ≡ false = sym (same_text_self name) ∙ ap (λ n. same_text n name) (sym lower) ∙ upper in
-        cc q
-
     unnamed : (r : Resolved) → named_header name (binding_of r.member) ≡ false
     unnamed r = go (binding_of r.member)
       where
@@ -168,7 +163,7 @@ no_upper schema ws name upper = headers_at schema ws name ∙ ap (λ vs. option_
         go (to_header n) = by (same_text (str_to_ascii_lowercase n) name) refl
           where
             by : (t : Bool) → same_text (str_to_ascii_lowercase n) name ≡ t → t ≡ false
-            by true e = absurd (unlike n (same_from_test (str_to_ascii_lowercase n) name (sym e)))
+            by true e = absurd (unlike_lower name upper n (same_from_test (str_to_ascii_lowercase n) name (sym e)))
             by false e = refl
         go _ = refl
 
