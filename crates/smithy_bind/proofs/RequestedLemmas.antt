@@ -1,12 +1,11 @@
 -- Many inputs of an operation that was read once.
-use Rattle.std.proofs.Common.{◌≡◌, refl, sym, ap, ◌∙◌, subst, ℕ, Bool, true, false, List, [], ◌∷◌, ◌++◌, append_assoc, map, Vec, Global, drop, IfOk, Option, Some, None, IfSome, option_map, option_and_then, unwrap_or, Result, Ok, Err, IsTrue, if◌then◌else◌}
+use Rattle.std.proofs.Common.{◌≡◌, refl, sym, ap, ◌∙◌, subst, ℕ, Bool, true, false, List, [], ◌∷◌, ◌++◌, append_assoc, map, Vec, Global, drop, IfOk, Option, Some, None, option_map, option_and_then, unwrap_or, Result, Ok, Err, if◌then◌else◌}
 use Rattle.std.proofs.lemmas.List.{append-nil}
-use Rattle.std.specs.List.{AllByRecursion}
 use Rattle.serde_json.specs.Data.{Data}
 use Rattle.smithy_types.specs.Documents.{Document}
 use Rattle.smithy_http.specs.Requests.{Request}
 use Rattle.smithy_schema.specs.Nodes.{Schema, Table, at_place}
-use Rattle.smithy_serde.specs.StoredValues.{AreDefined, writes_in}
+use Rattle.smithy_serde.specs.StoredValues.{writes_in}
 use Rattle.smithy_serde.specs.Values.{Write, Writes, list_of}
 use Rattle.smithy_serde.specs.declared.error.SerdeError.{SerdeError}
 use Rattle.smithy_serde.specs.declared.value.WriteList.{WriteList}
@@ -29,12 +28,12 @@ use Rattle.smithy_bind.specs.Lines.{answer_line}
 use Rattle.smithy_bind.specs.Outcome.{answered, json_bodies, requested_to, sent_job}
 use Rattle.smithy_bind.specs.Requesting.{answer_for, answer_of, lines_for, operation, operation_of, requested_by}
 use Rattle.smithy_bind.specs.Alone.{told_alone, LinesAreAlone}
-use Rattle.smithy_bind.specs.Told.{Outcome, no_job, output, outcome_of}
+use Rattle.smithy_bind.specs.Told.{no_job, output, outcome_of}
 use Rattle.smithy_bind.specs.declared.requested.ReadOperation.{ReadOperation}
 use Rattle.smithy_bind.specs.declared.told.Answer.{Answer}
 use Rattle.smithy_bind.specs.views.AnswerView.{Gives}
 use Rattle.smithy_bind.specs.views.LineView.{IsMade}
-use Rattle.smithy_bind.specs.views.RequestedView.{answer_with, lines_with, IsOperation, PlacesInput, TellsInputs, MakesInput, MakesLines}
+use Rattle.smithy_bind.specs.views.RequestedView.{answer_with, lines_with, IsOperation, TellsInputs, MakesInput, MakesLines}
 
 -- ---- the operation
 

@@ -1,6 +1,5 @@
 -- What is answered to many inputs of one operation.
-use Rattle.std.specs.Prelude.{◌≡◌, ℕ, List, [], ◌∷◌, ◌++◌, Option, Some, None, option_map, option_and_then, Result, IsTrue, if◌then◌else◌}
-use Rattle.std.specs.Option.{option_map_or}
+use Rattle.std.specs.Prelude.{ℕ, List, [], ◌∷◌, ◌++◌, Option, Some, option_map, option_and_then, Result, if◌then◌else◌}
 use Rattle.serde_json.specs.Data.{Data}
 use Rattle.smithy_http.specs.Requests.{Request}
 use Rattle.smithy_binding.specs.Answer.{answer}

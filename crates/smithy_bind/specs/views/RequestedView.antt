@@ -1,5 +1,5 @@
 -- An operation that was read once, and what is made of its inputs.
-use Rattle.std.specs.Prelude.{◌≡◌, ℕ, List, [], ◌∷◌, ◌++◌, map, Vec, Option, Some, Result, IsTrue, option_map}
+use Rattle.std.specs.Prelude.{◌≡◌, ℕ, List, [], ◌∷◌, ◌++◌, map, Vec, Option, Result, IsTrue, option_map}
 use Rattle.std.specs.declared.alloc.Global.{Global}
 use Rattle.serde_json.specs.Data.{Data}
 use Rattle.smithy_types.specs.Documents.{Document}
@@ -11,7 +11,6 @@ use Rattle.smithy_serde.specs.declared.value.WriteList.{WriteList}
 use Rattle.smithy_binding.specs.Answer.{answer}
 use Rattle.smithy_binding.specs.Checked.{checked_input}
 use Rattle.smithy_binding.specs.Faults.{Fault}
-use Rattle.smithy_binding.specs.Placing.{Protocol}
 use Rattle.smithy_binding.specs.Refusing.{Answers}
 use Rattle.smithy_model.specs.declared.error.JobError.{JobError}
 use Rattle.smithy_job.specs.Common.{Common}

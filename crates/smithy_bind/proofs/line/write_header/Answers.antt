@@ -1,4 +1,4 @@
-use Rattle.std.proofs.Common.{◌∷◌, [], codes, ◌++◌, decimal}
+use Rattle.std.proofs.Common.{◌∷◌, [], ◌++◌}
 use Rattle.json.specs.Token as token
 use Rattle.smithy_document.proofs.PrintLemmas.{printed}
 use Rattle.smithy_bind.proofs.LineWrites.{behind, wrote}
