@@ -22,6 +22,7 @@ mod texts;
 mod told;
 mod value_text;
 mod values;
+mod wire;
 mod write_lists;
 mod writes;
 
@@ -59,6 +60,9 @@ fn by_reading(alloc: Global, call: &str, given: &Value) -> Result<Option<Text>, 
         return Ok(Some(text));
     }
     if let Some(text) = json_values::answer(alloc, call, given)? {
+        return Ok(Some(text));
+    }
+    if let Some(text) = wire::answer(alloc, call, given)? {
         return Ok(Some(text));
     }
     if let Some(text) = texts::answer(alloc, call, given)? {

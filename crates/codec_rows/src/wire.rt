@@ -1,0 +1,81 @@
+// The JSON of AWS's protocols, by the input of a row's model.
+use crate::given::{canonical_document, input_of};
+use crate::json_text::document_text;
+use crate::model::input_schema;
+use crate::told::{answered, optional, refusal};
+use serde_json::Value;
+use smithy_schema::SchemaRef;
+use smithy_types::Text;
+use smithy_wire::{WireJson, json_name, names_stand};
+use std::alloc::Global;
+use test_rows::{Failed, flag_of, text_of};
+
+/// What a call answers for the document or the body under `text`, by the input of the operation.
+pub fn answer(alloc: Global, call: &str, given: &Value) -> Result<Option<Text>, Failed> {
+    match call {
+        "names_stand" => by_schema(alloc, call, given),
+        "json_name" => by_schema(alloc, call, given),
+        "WireJson::text" => by_schema(alloc, call, given),
+        "WireJson::document" => by_schema(alloc, call, given),
+        _ => Ok(None),
+    }
+}
+
+fn by_schema(alloc: Global, call: &str, given: &Value) -> Result<Option<Text>, Failed> {
+    let placed = input_schema(alloc, given)?;
+    let schema = placed.table.get(placed.index).ok_or(Failed)?;
+    let told = match call {
+        "names_stand" => stand_told(alloc, schema)?,
+        "json_name" => name_told(alloc, schema, given)?,
+        "WireJson::text" => text_told(alloc, schema, given)?,
+        _ => document_told(alloc, schema, given)?,
+    };
+    Ok(Some(told))
+}
+
+fn stand_told(alloc: Global, schema: SchemaRef<'_>) -> Result<Text, Failed> {
+    let stand = names_stand(alloc, schema)?;
+    Ok(Text::from_string(format!(in alloc; "{stand}")?))
+}
+
+fn name_told(alloc: Global, schema: SchemaRef<'_>, given: &Value) -> Result<Text, Failed> {
+    match schema.member_schema(text_of(given, "member")?) {
+        Some(member) => optional(alloc, Some(json_name(member))),
+        None => optional(alloc, None),
+    }
+}
+
+// The JSON of the input's side, of the output's or of the whole value, without JSON names where the row says so.
+fn wire_of<'t>(
+    alloc: Global,
+    schema: SchemaRef<'t>,
+    given: &Value,
+) -> Result<WireJson<'t>, Failed> {
+    let json_names = !flag_of(given, "without_names");
+    if !names_stand(alloc, schema)? {
+        return Err(Failed);
+    }
+    Ok(match text_of(given, "body")? {
+        "input" => WireJson::of_input(schema, json_names),
+        "output" => WireJson::of_output(schema, json_names),
+        _ => WireJson::of_whole(schema, json_names),
+    })
+}
+
+fn text_told(alloc: Global, schema: SchemaRef<'_>, given: &Value) -> Result<Text, Failed> {
+    let wire = wire_of(alloc, schema, given)?;
+    let document = canonical_document(alloc, input_of(alloc, given)?.as_slice())?;
+    let text = wire.text(alloc, &document)?;
+    match str::from_utf8(text.as_slice()) {
+        Ok(text) => Ok(Text::from_str(alloc, text)?),
+        Err(_) => Err(Failed),
+    }
+}
+
+fn document_told(alloc: Global, schema: SchemaRef<'_>, given: &Value) -> Result<Text, Failed> {
+    let wire = wire_of(alloc, schema, given)?;
+    match wire.document(alloc, input_of(alloc, given)?.as_slice()) {
+        Ok(document) => answered(alloc, document_text(alloc, &document)),
+        Err(error) => refusal(alloc, &error),
+    }
+}
