@@ -1,6 +1,7 @@
 // Uses of the library, as a caller writes them: requests made, read back and sent on, responses written and read, errors found, documents kept.
 #![tactic(auto)]
 
+mod columns;
 mod documents;
 mod errors;
 mod gateway;
@@ -15,6 +16,7 @@ mod serving;
 #[cfg(test)]
 mod tests;
 
+pub use columns::two_requests;
 pub use documents::{structure_in, through_document};
 pub use errors::{error_place, error_registry};
 pub use gateway::{call_of, request_of_call};
