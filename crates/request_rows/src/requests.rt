@@ -10,14 +10,14 @@ use crate::models::placed as schema_placed;
 use crate::told::{no_job, outcome_text, same_text};
 use crate::told_input::ToldInput;
 use serde_json::Value;
-use smithy_binding::{HttpBindingProtocol, HttpRpcProtocol, checked_input};
+use smithy_binding::{HttpBindingProtocol, HttpRpcProtocol, LowerHeaderNames, checked_input};
 use smithy_document::{JsonCodec, json_is_lawful};
 use smithy_http::Request;
 use smithy_job::{Job, read_job};
 use smithy_json::{Scratch, read_json};
 use smithy_model::ModelTable;
 use smithy_schema::laws::schema_is_well_made;
-use smithy_schema::{SchemaIndex, SchemaRef, Schemas};
+use smithy_schema::{SchemaExtension, SchemaIndex, SchemaRef, Schemas};
 use smithy_serde::{
     ClientProtocolInner, Codec, OmitFlags, SerializableStruct, ShapeValue, StructValue, WriteList,
 };
@@ -202,7 +202,38 @@ fn place_each_way<C: Codec>(
     };
     let outcome = protocol.serialize_request_with_body(alloc, body, input, schema, endpoint, omit);
     answers.push(outcome_text(alloc, outcome)?.as_str())?;
+    place_cached(alloc, protocol, input, schema, endpoint, omit, answers)?;
     by_client(alloc, protocol, input, schema, endpoint, omit, answers)
+}
+
+// Adds what is told of the request of an input by a column of header names, without a name at first, and then with them.
+fn place_cached<C: Codec>(
+    alloc: Global,
+    protocol: &HttpBindingProtocol<C>,
+    input: &dyn SerializableStruct,
+    schema: SchemaRef<'_>,
+    endpoint: &str,
+    omit: OmitFlags,
+    answers: &mut Words,
+) -> Result<(), Failed>
+    requires checked { IsTrue (checked (schema_of schema)) }
+    requires lawful { C.lawful protocol.now.codec }
+{
+    let Some(table) = schema.table() else {
+        return Err(Failed);
+    };
+    let Ok(mut names) = SchemaExtension::new(alloc, table, LowerHeaderNames::new(alloc)) else {
+        return Err(Failed);
+    };
+    let outcome = protocol.serialize_request_cached(
+        alloc, input, schema, endpoint, omit, &mut names,
+    );
+    answers.push(outcome_text(alloc, outcome)?.as_str())?;
+    let outcome = protocol.serialize_request_cached(
+        alloc, input, schema, endpoint, omit, &mut names,
+    );
+    answers.push(outcome_text(alloc, outcome)?.as_str())?;
+    Ok(())
 }
 
 fn posted(

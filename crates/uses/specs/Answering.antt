@@ -1,5 +1,5 @@
 -- What protocols with bodies of JSON answer (AWS restJson1).
-use Rattle.std.specs.Prelude.{◌≡◌, ℕ, codes, false, true, List, [], Result}
+use Rattle.std.specs.Prelude.{◌≡◌, ℕ, codes, false, true, List, [], Result, Ok}
 use Rattle.smithy_document.specs.JsonText.{json_text}
 use Rattle.smithy_http.specs.Requests.{Request}
 use Rattle.smithy_schema.specs.Nodes.{Schema}
@@ -29,6 +29,10 @@ IsAnswer schema ws endpoint omit result =
 -- the same of the writes of a structure
 abbrev pub RestAnswers : Schema → Writes → List ℕ → OmitFlags → Result Request SerdeError → Type 0
 RestAnswers schema ws endpoint omit result = IsAnswer schema (list_of ws) endpoint omit result
+
+-- both requests are those of two inputs of one schema, without an endpoint
+abbrev pub BothAnswer : Schema → Writes → Writes → OmitFlags → Request × Request → Type 0
+BothAnswer schema first second omit both = RestAnswers schema first [] omit (Ok both.0) × RestAnswers schema second [] omit (Ok both.1)
 
 -- the same of an input of the model that is made in code, whose schema is one
 abbrev pub RestAnswersModel : Writes → Result Request SerdeError → Type 0

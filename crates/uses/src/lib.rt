@@ -2,6 +2,7 @@
 #![tactic(auto)]
 
 mod aws_bodies;
+mod columns;
 mod documents;
 mod errors;
 mod gateway;
@@ -17,6 +18,7 @@ mod serving;
 mod tests;
 
 pub use aws_bodies::{aws_body, aws_structure};
+pub use columns::two_requests;
 pub use documents::{structure_in, through_document};
 pub use errors::{error_place, error_registry};
 pub use gateway::{call_of, request_of_call};

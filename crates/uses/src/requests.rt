@@ -20,7 +20,7 @@ use smithy_serde::{OmitFlags, SerdeError, StructValue};
 use std::alloc::Global;
 
 // The refusal of a schema that no request can be placed by.
-fn unplaced(alloc: Global) -> SerdeError {
+pub(crate) fn unplaced(alloc: Global) -> SerdeError {
     SerdeError::invalid_input(alloc, "no request can be placed by the schema")
 }
 

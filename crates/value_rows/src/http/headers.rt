@@ -98,9 +98,26 @@ fn put(
             let text = item_text(alloc, value)?.into_string();
             Ok(headers.insert_text(name, CowStr::Owned(text)))
         }
+        "insert_lower" => insert_lower(
+            alloc,
+            headers,
+            name,
+            item_text(alloc, value)?.into_string(),
+        ),
         "insert_each" => Ok(insert_each(headers, name, item_text(alloc, value)?.as_str())),
         _ => Err(Failed),
     }
+}
+
+// Puts the value under the name in lower case.
+fn insert_lower(
+    alloc: Global,
+    headers: &mut Headers,
+    name: &str,
+    text: String,
+) -> Result<Result<(), HttpError>, Failed> {
+    let lower = Text::from_string(name.to_ascii_lowercase(alloc)?);
+    Ok(headers.insert_lower(lower, CowStr::Owned(text)))
 }
 
 // Puts the value under each of these names, which stand between spaces.
