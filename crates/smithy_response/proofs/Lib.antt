@@ -1,5 +1,6 @@
 pub mod Common
 pub mod BodyOnlyItems
+pub mod BoundBits
 pub mod Containers
 pub mod Copies
 pub mod HandedItems

@@ -4,6 +4,10 @@ use Rattle.smithy_binding.proofs.MemberSteps.{members_from-more}
 use Rattle.smithy_response.specs.declared.parts.BoundMember.TheVariants as bound
 use Rattle.smithy_response.proofs.BodyOnlyItems.{stands_in_body}
 use Rattle.smithy_response.proofs.Members.{from-end}
+use Rattle.std.proofs.Common.{zero, suc, ℕ, ◌-◌, nat_le}
+use Rattle.std.proofs.lemmas.Bool.{leb-true, leb-false}
+use Rattle.std.specs.Option.{option_map_or}
+use Rattle.smithy_response.specs.views.BoundPositions.{IsNextBound, is_bound_position}
 
 taken_nothing : (response : Response) (r : Route) → IsTaken response r bound.Nothing → r ≡ passed_over
 taken_nothing response passed_over t = refl
@@ -114,3 +118,40 @@ module _ (schema : Schema) (is_given : Bool) (start t : Transport) (p : Passing 
     pub refuses_member : (e : SerdeError) → TakesAt t.response (source_of m) m (Err e) → RefusesMember schema is_given start e
     refuses_member e (inl memory) = λ rest body left. inl memory
     refuses_member e (inr is) = λ rest body left. inr (by_route (refused e) is rest body left)
+
+-- members that are not bound, one by one
+passes_one : (schema : Schema) (is_given : Bool) (start t : Transport) → Passing schema is_given start t → t.place < length schema.node.members → is_bound_position schema t.place ≡ false → Passing schema is_given start (record t { place = t.place + 1 })
+passes_one schema is_given start t p h unbound = go (member_at schema t.place) refl
+  where
+    go : (found : Option Schema) → found ≡ member_at schema t.place → Passing schema is_given start (record t { place = t.place + 1 })
+    go None e = passes_hole schema is_given start t p h e
+    go (Some m) e = passes_unbound schema is_given start t p h m e (ap (λ (o : Option Schema). option_map_or is_response_bound o false) e ∙ unbound)
+
+passes_many : (schema : Schema) (is_given : Bool) (n : ℕ) (start t : Transport) → Passing schema is_given start t → t.place + n ≤ length schema.node.members → ((i : ℕ) → t.place ≤ i → i < t.place + n → is_bound_position schema i ≡ false)
+    → Passing schema is_given start (record t { place = t.place + n })
+passes_many schema is_given zero start t p within unbound = let same : t.place + 0 ≡ t.place = omega arith in rw same p
+passes_many schema is_given (suc n) start t p within unbound =
+    let next : t.place + suc n ≡ t.place + 1 + n = omega arith in
+    let one = passes_one schema is_given start t p (omega (arith, within)) (unbound t.place (omega arith) (omega arith)) in
+    rw next (passes_many schema is_given n start (record t { place = t.place + 1 }) one (omega (arith, within)) (λ i low high. unbound i (omega (arith, low)) (omega (arith, high))))
+
+-- up to the next bound one
+passes_to : (schema : Schema) (is_given : Bool) (start t : Transport) (to : ℕ) → Passing schema is_given start t → t.place ≤ to → to ≤ length schema.node.members → ((i : ℕ) → t.place ≤ i → i < to → is_bound_position schema i ≡ false)
+    → Passing schema is_given start (record t { place = to })
+passes_to schema is_given start t to p later within unbound =
+    let same : t.place + (to - t.place) ≡ to = omega (arith, later) in
+    rw (← same) (passes_many schema is_given (to - t.place) start t p (omega (arith, later, within)) (λ i low high. unbound i low (omega (arith, later, high))))
+
+pub to_bound : (schema : Schema) (is_given : Bool) (start t : Transport) (to : ℕ) → Passing schema is_given start t → IsNextBound schema t.place (Some to) → Passing schema is_given start (record t { place = to })
+to_bound schema is_given start t to p (later, within, unbound) = passes_to schema is_given start t to p later (omega (arith, within)) unbound
+
+-- and to the end, where none is left
+pub ends_unbound : (schema : Schema) (is_given : Bool) (start t : Transport) → Passing schema is_given start t → ((i : ℕ) → t.place ≤ i → is_bound_position schema i ≡ false) → HandsNoMember schema is_given start t
+ends_unbound schema is_given start t p unbound = go (nat_le (length schema.node.members) t.place) refl
+  where
+    go : (b : Bool) → nat_le (length schema.node.members) t.place ≡ b → HandsNoMember schema is_given start t
+    go true e = ends schema is_given start t p (leb-true (length schema.node.members) t.place e)
+    go false e =
+        let before : t.place < length schema.node.members = leb-false (length schema.node.members) t.place e in
+        let last = passes_to schema is_given start t (length schema.node.members) p (omega (arith, before)) (omega arith) (λ i low high. unbound i low) in
+        record { follows = (ends schema is_given start (record t { place = length schema.node.members }) last (omega arith)).follows }

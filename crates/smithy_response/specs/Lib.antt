@@ -10,7 +10,6 @@ pub mod ResponseReaders
 pub mod ResponseValue
 pub mod Routes
 pub mod Settling
-pub mod Sought
 pub mod TransportWins
 pub mod WholeResponses
 pub mod views

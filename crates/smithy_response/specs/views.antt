@@ -1,4 +1,5 @@
 pub mod BodyCalls
+pub mod BoundPositions
 pub mod Frames
 pub mod Stages
 pub mod Transporting

@@ -1,11 +1,11 @@
 // Responses: what their status, headers and body hand out.
 #![tactic(auto)]
 
+mod bound_positions;
 mod composite;
 mod counted;
 mod header_reads;
 pub mod laws;
-mod member_search;
 mod opening;
 mod parts;
 mod prefixes;

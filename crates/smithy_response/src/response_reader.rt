@@ -3,8 +3,8 @@ ghost use Rattle.std.specs.Prelude.{◌≡◌, [], true, false, IfOk};
 ghost use Rattle.smithy_response.specs.Words.{schema_of};
 ghost use Rattle.smithy_response.specs.ResponseReaders.{is_body_only, reads_whole, IsReader};
 
+use crate::bound_positions::{has_bound, has_unbound};
 use crate::composite::CompositeReader;
-use crate::member_search::{Sought, has_member};
 use crate::parts::BoundMember;
 use crate::transport::Transport;
 use smithy_http::{NonUtf8HeaderHandling, Response};
@@ -221,5 +221,5 @@ fn copied(alloc: Global, response: &Response) -> Result<Response, OutOfMemory>
 fn is_body_only(schema: SchemaRef<'_>) -> bool
     ensures { result ≡ is_body_only (schema_of schema.entry) }
 {
-    has_member(schema, Sought::Unbound) && !has_member(schema, Sought::Bound)
+    has_unbound(schema) && !has_bound(schema)
 }

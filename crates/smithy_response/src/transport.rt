@@ -6,8 +6,8 @@ ghost use Rattle.smithy_response.specs.GivenScalars.{GivesScalar, GivesRaw};
 ghost use Rattle.smithy_response.specs.Handed.{has_no_bytes};
 ghost use Rattle.smithy_response.specs.Settling.{skips};
 
+use crate::bound_positions::{has_payload, has_unbound, next_bound};
 use crate::header_reads::shape_type;
-use crate::member_search::{Sought, has_member};
 use crate::opening::{next_entry, open_entries, opened_type, read_entries};
 use crate::parts::BoundMember;
 use crate::prefixes::{has_unreadable, has_unreadable_behind};
@@ -74,9 +74,7 @@ impl Transport {
         ensures closed { (transport_at_hand self.new).opened ≡ [] }
     {
         self.member = BoundMember::Nothing;
-        let count = schema.members().len();
-        while self.place < count {
-            let position = self.place;
+        while let Some(position) = next_bound(schema, self.place) {
             self.place = position + 1;
             if let Some(member) = schema.member_schema_by_index(position) {
                 if !member.has_http_response_binding() {
@@ -104,8 +102,8 @@ impl Transport {
     pub(crate) fn reads_body(&self, schema: SchemaRef<'_>) -> bool
         ensures { result ≡ reads_body (schema_of schema.entry) self.now.response self.now.is_error }
     {
-        !has_member(schema, Sought::Payload)
-            && has_member(schema, Sought::Unbound)
+        !has_payload(schema)
+            && has_unbound(schema)
             && !(self.is_error && has_no_bytes(&self.response))
     }
 
