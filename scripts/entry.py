@@ -116,7 +116,7 @@ def texts(clone, tools):
         yield Case(word, [word], clone.script, "/", tools, 0, constant("VERSION"), [])
     yield Case("no word", [], clone.script, "/", tools, 1, b"", ["smithy_bind: a command is needed", *usage()])
     for words in (
-        [""], ["post"], ["Request"], ["requests"], ["request", "request"], ["--help", "--help"], ["--"], ["a b"], ["*"],
+        [""], ["post"], ["Request"], ["request", "request"], ["--help", "--help"], ["--"], ["a b"], ["*"],
         ["generate"], ["generate", ""], ["generate", "100001"], ["generate", "0000003"], ["generate", "-1"],
         ["generate", "3.0"], ["generate", "3", "3"], ["request < JOB"],
         ["explain"], ["explain", ""], ["explain", "explain"], ["explain", "generate"], ["explain", "request", "rpc"],

@@ -290,6 +290,11 @@ def is_sent(job):
     given_writes(job, "input")
 
 
+def are_sent(job):
+    by_input(job)
+    need(isinstance(job.get("inputs"), list))
+
+
 def is_recovered(job):
     by_input(job)
     request(job.get("request"))
@@ -339,6 +344,7 @@ def is_answered(job):
 
 READINGS = {
     "request": is_sent,
+    "requests": are_sent,
     "rpc": is_sent,
     "recover": is_recovered,
     "route": is_routed,
@@ -378,7 +384,7 @@ def texts_if_there(*keys):
     return read
 
 
-def list_of_operations(value):
+def is_list(value):
     need(isinstance(value, list))
 
 
@@ -404,10 +410,11 @@ ENDPOINT, OMIT, ASKED = ("endpoint", texts_if_there("endpoint")), ("omit", omit)
 SENT = (*MODEL, ("input", lambda job: given_writes(job, "input")), ENDPOINT, OMIT)
 KEYS = {
     "request": SENT,
+    "requests": (*MODEL, ("inputs", key_of("inputs", is_list)), ENDPOINT, OMIT),
     "rpc": SENT,
     "response": (*MODEL, ("response", key_of("response", response)), ("error", texts_if_there("error"))),
     "recover": (*MODEL, ENDPOINT, OMIT, ASKED),
-    "route": (("model", key_of("model", lambda _: None)), OMIT, ASKED, ("operations", key_of("operations", list_of_operations))),
+    "route": (("model", key_of("model", lambda _: None)), OMIT, ASKED, ("operations", key_of("operations", is_list))),
     "gateway": (*MODEL, ENDPOINT, OMIT, ASKED, ("to", way), ("rpcEndpoint", call_endpoint)),
     "answer": (*MODEL, ("output", lambda job: given_writes(job, "output")), ("status", status)),
 }

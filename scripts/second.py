@@ -29,6 +29,30 @@ def without(job, *keys):
     return {key: value for key, value in job.items() if key not in keys}
 
 
+def told(data):
+    """Bytes as the lines of `requests` have them."""
+    try:
+        return data.decode()
+    except UnicodeDecodeError:
+        return encoded(data)
+
+
+def line(job, value):
+    """The line of one input among many."""
+    status, text = ended("request", [{**without(job, "inputs"), "input": value}])
+    if status == 0:
+        sent = request_of(text)
+        headers = [[name.decode(), told(value)] for name, value in sent.headers]
+        parts = {"method": sent.method.decode(), "target": sent.target.decode(), "headers": headers, "body": told(sent.body)}
+    else:
+        parts = {"fault": text.decode()[:-1]} if status == 3 else {}
+    return json.dumps({"status": status, **parts}, ensure_ascii=False, separators=(",", ":")).encode() + b"\n"
+
+
+def many(job):
+    return 0, b"".join(line(job, value) for value in job["inputs"])
+
+
 def sent_on(job):
     """Of a request that goes to `rpc`."""
     status, text = recovering.ended(job)
@@ -67,6 +91,7 @@ def routed(job):
 
 
 READINGS = {
+    "requests": many,
     "response": received.ended,
     "recover": recovering.ended,
     "route": routed,
