@@ -24,7 +24,7 @@ from rules import broken_in  # noqa: E402
 from way_back import count, given_job, rows_of, runner, side_by_side  # noqa: E402
 
 # The keys that a place is of whose form hangs on the shapes.
-BY_SHAPES = ("model", "operations", "error", "code", "serviceErrors", "policy")
+BY_SHAPES = ("model", "operation", "operations", "error", "code", "serviceErrors", "policy")
 # The words of a place that nothing else is said of.
 NO_PLACE = ": a job of this command is asked"
 

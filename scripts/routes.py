@@ -101,6 +101,6 @@ def found(job):
             return None, f"Conflict: {name} conflicts with {other}\n"
         routes.append((name, route))
     asked = Route(job["request"]["method"], *parts(job["request"]["target"]))
-    matching = [it for it in routes if is_within(asked, it[1])]
+    matching = [it for it in routes if job["request"]["target"].startswith("/") and is_within(asked, it[1])]
     best = [name for name, route in matching if all(route is it or beats(route, it) for _, it in matching)]
     return (best[0], "") if best else (None, "NoRoute: no operation has this request\n")
