@@ -383,7 +383,7 @@ def lengths():
 
 def failed_reads():
     """Standard input that can't be read, or not to its end."""
-    for command in ("request", "requests", "response", "rpc", "recover", "route", "gateway", "answer", "explain request"):
+    for command in ("request", "requests", "response", "responses", "rpc", "recover", "route", "gateway", "answer", "explain request"):
         yield Case(f"{command} of a folder", command.split(), Path("/"), Pipe(), 4, b"")
         yield Case(f"{command} without standard input", command.split(), File(GET), Pipe(), 4, b"", None, close(0))
         for data in (b"", GET[:9], GET):
@@ -426,7 +426,7 @@ def failed_writes():
 
 def without_memory():
     """An input for which there is not enough memory."""
-    for command in ("request", "requests", "response", "rpc", "recover", "route", "gateway", "answer", "explain request"):
+    for command in ("request", "requests", "response", "responses", "rpc", "recover", "route", "gateway", "answer", "explain request"):
         first = limit(resource.RLIMIT_AS, MOST_READ)
         yield Case(f"{command} without memory", command.split(), File(GET.ljust(MOST_READ)), Pipe(), 6, b"", None, first)
 

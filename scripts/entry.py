@@ -40,7 +40,7 @@ LINES = "here=.; eval \"$(sed -n '/^crates_of_program() {/,/^}/p; /^lines_of_pro
 NO_TOOLCHAIN = "#!/bin/sh\nexit 9\n"
 
 JOB = b'{"a job": [1, 2]}\n'
-COMMANDS = ("request", "requests", "rpc", "response", "recover", "route", "gateway", "answer")
+COMMANDS = ("request", "requests", "rpc", "response", "responses", "recover", "route", "gateway", "answer")
 
 
 def constant(name):

@@ -7,7 +7,8 @@ slow second reading of the bytes (scripts/jobs.py, scripts/front.py, scripts/rul
 
 - `Job` exactly where they are a job whose schema is checked, which is where the command doesn't end with 2;
 - `NotJson` exactly where the bytes are no JSON, with the number of those before the first one that can't stand there;
-- `NotChecked` exactly where they are a job whose schema breaks a rule, with the member that breaks the first one, if it is one of a member;
+- `NotChecked` exactly where they are a job whose schema breaks a rule, with the member that breaks the first one, if it is one of a member,
+  behind the operation of many, or the response of many, whose schema it is;
 - `NoJob` everywhere else, with a JSON Pointer (RFC 6901) to a place of the value, or to a key that an object there lacks, and with words
   behind it; the place is of the first key of docs/JOBS.md that hasn't its form, or else of a key whose form hangs on the shapes.
 
@@ -19,8 +20,8 @@ import sys
 
 sys.dont_write_bytecode = True
 from front import front  # noqa: E402
-from jobs import NoJson, is_job, read, wrong_key  # noqa: E402
-from rules import broken_in  # noqa: E402
+from jobs import NoJson, alone, is_job, read, wrong_key  # noqa: E402
+from rules import broken_in, operation_of  # noqa: E402
 from way_back import count, given_job, rows_of, runner, side_by_side  # noqa: E402
 
 # The keys that a place is of whose form hangs on the shapes.
@@ -75,20 +76,34 @@ def no_job_differs(command, value, told):
 
 
 def kind_of(command, values):
-    """The kind of line that is due, and the rule that is broken first, if it is one."""
+    """The kind of line that is due, and of a rule that is broken what stands before the rule."""
     if not values:
-        return "NotJson", None
+        return "NotJson", ""
     if not is_job(command, values[0]):
-        return "NoJob", None
+        return "NoJob", ""
+    if command == "responses":
+        return kind_of_items(values[0])
     rule = broken_in(command, values[0])
-    return ("NotChecked", rule) if rule else ("Job", None)
+    if not rule:
+        return "Job", ""
+    operation = f"operation {operation_of(values[0])}: " if command == "route" else ""
+    return "NotChecked", operation + ("" if rule.member is None else f"member {rule.member}: ")
+
+
+def kind_of_items(job):
+    """The same of many responses: that of the first that isn't told to be a job."""
+    for position, item in enumerate(job["responses"]):
+        kind, before = kind_of("response", [alone(job, item)])
+        if kind != "Job":
+            return kind, f"response {position}: {before}" if kind == "NotChecked" else f"/responses/{position}"
+    return "Job", ""
 
 
 def line_differs(command, data, values, status, line):
     """How a line isn't what is to be told of bytes, which have this value, and over which the command ends with this status; "" where
     it is."""
     kind, _, told = line.decode().removesuffix("\n").partition(": ")
-    due, rule = kind_of(command, values)
+    due, before = kind_of(command, values)
     if kind != due or not line.endswith(b"\n"):
         return f"is to be {due}"
     if (kind == "Job") != (status != 2):
@@ -96,14 +111,18 @@ def line_differs(command, data, values, status, line):
     if kind == "NotJson":
         return "" if told == f"byte {front(data)}" else f"is to be of byte {front(data)}"
     if kind == "NotChecked":
-        return "" if told.startswith(f"member {rule.member}: ") or rule.member is None else f"is to be of {rule.member}"
+        return "" if told.startswith(before) else f"is to begin with {before}"
+    if kind == "NoJob" and before:
+        return "" if told.startswith((before + ":", before + "/")) else f"is to be of {before}"
     return no_job_differs(command, values[0], told) if kind == "NoJob" else ""
 
 
 def differs(run, command, row):
     data = given_job(row)
     end, explained = run(command, data), run("explain", command, data)
-    how = line_differs(command, data, value_of(data), end.status, explained.text)
+    # A line of many that tells no job counts as the run's end.
+    status = 2 if command == "responses" and b'{"status":2}' in end.text.split(b"\n") else end.status
+    how = line_differs(command, data, value_of(data), status, explained.text)
     if explained.status != (7 if end.status == 7 else 0):
         return f"is explained with {explained.status}"
     return f"has the line {explained.text[:300]!r}, and {how}" if how and end.status != 7 else ""

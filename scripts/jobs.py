@@ -327,6 +327,18 @@ def is_received(job):
         walk(shapes, [output])
 
 
+def alone(job, item):
+    """The job of one response among many: of each key what its item has, or else the job; the model is the job's."""
+    item = item if isinstance(item, dict) else {}
+    own = {key: item[key] for key in ("operation", "response", "error", "code", "serviceErrors", "policy") if key in item}
+    return {**{key: value for key, value in job.items() if key != "responses"}, **own}
+
+
+def are_received(job):
+    shapes_of(job)
+    need(isinstance(job.get("responses"), list))
+
+
 def is_sent_on(job):
     is_recovered(job)
     way(job)
@@ -345,6 +357,7 @@ def is_answered(job):
 READINGS = {
     "request": is_sent,
     "requests": are_sent,
+    "responses": are_received,
     "rpc": is_sent,
     "recover": is_recovered,
     "route": is_routed,
@@ -413,6 +426,7 @@ KEYS = {
     "requests": (*MODEL, ("inputs", key_of("inputs", is_list)), ENDPOINT, OMIT),
     "rpc": SENT,
     "response": (*MODEL, ("response", key_of("response", response)), ("error", texts_if_there("error"))),
+    "responses": (("model", has_shapes), ("responses", key_of("responses", is_list))),
     "recover": (*MODEL, ENDPOINT, OMIT, ASKED),
     "route": (("model", key_of("model", lambda _: None)), OMIT, ASKED, ("operations", key_of("operations", is_list))),
     "gateway": (*MODEL, ENDPOINT, OMIT, ASKED, ("to", way), ("rpcEndpoint", call_endpoint)),

@@ -213,7 +213,7 @@ def error_of(job):
 
 def broken_in(command, job):
     """The first rule that the schema of a job breaks, or None."""
-    if command == "rpc" or command == "route" and not job["operations"]:
+    if command in ("rpc", "responses") or command == "route" and not job["operations"]:
         return None
     shapes = job["model"]["shapes"]
     if command == "answer":
@@ -225,3 +225,9 @@ def broken_in(command, job):
     names = job["operations"] if command == "route" else [job["operation"]]
     found = (broken(end_of(shapes, it, "input"), REQUEST, http_of(shapes, it)) for it in names)
     return next((it for it in found if it), None)
+
+
+def operation_of(job):
+    """The first operation of a job of `route` whose schema breaks a rule."""
+    shapes = job["model"]["shapes"]
+    return next(it for it in job["operations"] if broken(end_of(shapes, it, "input"), REQUEST, http_of(shapes, it)))

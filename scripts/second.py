@@ -53,6 +53,21 @@ def many(job):
     return 0, b"".join(line(job, value) for value in job["inputs"])
 
 
+def reply(job, item):
+    """The line of one response among many."""
+    status, text = ended("response", [jobs.alone(job, item)])
+    parts = {"fault": text.decode()[:-1]} if status == 3 else {}
+    if status == 0:
+        # The value is the last line: a name may have line feeds, and the value's are escaped.
+        name, is_named, value = text.decode()[:-1].rpartition("\n")
+        parts = {**({"error": name} if is_named else {}), "value": json.loads(value)}
+    return json.dumps({"status": status, **parts}, ensure_ascii=False, separators=(",", ":")).encode() + b"\n"
+
+
+def replies(job):
+    return 0, b"".join(reply(job, item) for item in job["responses"])
+
+
 def sent_on(job):
     """Of a request that goes to `rpc`."""
     status, text = recovering.ended(job)
@@ -93,6 +108,7 @@ def routed(job):
 READINGS = {
     "requests": many,
     "response": received.ended,
+    "responses": replies,
     "recover": recovering.ended,
     "route": routed,
     "gateway": lambda job: sent_on(job) if job["to"] == "rpc" else taken(job),

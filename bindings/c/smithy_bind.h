@@ -23,6 +23,7 @@
     ROW(request)  /* the HTTP request of a job's input */ \
     ROW(requests) /* the HTTP requests of a job's inputs, a line of JSON for each */ \
     ROW(response) /* the value that a job's response hands out, as JSON */ \
+    ROW(responses) /* the values that a job's responses hand out, a line of JSON for each */ \
     ROW(rpc)      /* the POST of a job's input as one JSON body, of content type application/json, without X-Amz-Target */ \
     ROW(recover)  /* the input that a job's request is of, as JSON */ \
     ROW(route)    /* the operation that a job's request is of, by its full name and a line feed, and its input, as JSON */ \
@@ -197,9 +198,9 @@ static inline int smithy_bind_parts_of(const void *text, size_t text_len, struct
            smithy_bind_take_headers(&parts->body, &parts->headers);
 }
 
-/* Takes the next line, without its end, from the text that `requests` writes: a JSON object for each input, in order, with `status`
- * 0 and the request's `method`, `target`, `headers` and `body`; 3 and the line of the `fault`; or 2 where the value is no input.
- * docs/JOBS.md has their form. 1, or 0 where there is none left. */
+/* Takes the next line, without its end, from the text that `requests` or `responses` writes: a JSON object for each input or response,
+ * in order, with `status` 0 and the request's `method`, `target`, `headers` and `body`, or the response's `value`, beside the `error`
+ * of a code; 3 and the line of the `fault`; or 2 where there is no job of it alone. docs/JOBS.md has their form. 1, or 0 where there is none left. */
 static inline int smithy_bind_next_line(struct smithy_bind_part *lines, struct smithy_bind_part *line)
 {
     return smithy_bind_take(lines, "\n", 1, line);

@@ -8,12 +8,12 @@ import os
 import pathlib
 from typing import Any, Callable, Dict, List, Mapping, Tuple, TypeVar, Union
 
-from smithy_bind._parts import Output, Request, Response, Routed, parsed_lines
+from smithy_bind._parts import Output, Request, Response, Routed, parsed_requests, parsed_responses
 from smithy_bind._refusals import Fault, NoJob, TooLong, UnknownAnswer, refused
 
 # The commands that read a job, and those whose jobs are explained, which all are: each is the export smithy_bind_NAME of the shared
 # object, and what explains it is smithy_bind_explain_NAME.
-COMMANDS = ("request", "requests", "response", "rpc", "recover", "route", "gateway", "answer")
+COMMANDS = ("request", "requests", "response", "responses", "rpc", "recover", "route", "gateway", "answer")
 EXPLAINED = COMMANDS
 
 # What a job is given as: JSON as a str or as bytes, or what json.dumps writes.
@@ -66,11 +66,16 @@ class Library:
 
     def requests(self, job: Job) -> List[Union[Request, Fault, NoJob]]:
         """For each of a job's inputs, in order, its HTTP request, or why it has none. A refusal stands in the list and isn't raised."""
-        return self._parted("requests", job, parsed_lines)
+        return self._parted("requests", job, parsed_requests)
 
     def response(self, job: Job) -> Output:
         """The value that a job's response hands out."""
         return self._parted("response", job, Output.parse)
+
+    def responses(self, job: Job) -> List[Union[Output, Fault, NoJob]]:
+        """For each of a job's responses, in order, the value that it hands out, or why it has none. A refusal stands in the list and
+        isn't raised."""
+        return self._parted("responses", job, parsed_responses)
 
     def rpc(self, job: Job) -> Request:
         """The POST of a job's input as one JSON body, of content type application/json, without X-Amz-Target."""

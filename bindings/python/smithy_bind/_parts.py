@@ -5,9 +5,11 @@ from __future__ import annotations
 import base64
 import dataclasses
 import json
-from typing import Any, List, Tuple, Union
+from typing import Any, Callable, List, Tuple, TypeVar, Union
 
 from smithy_bind._refusals import Fault, NoJob
+
+Part = TypeVar("Part")
 
 
 @dataclasses.dataclass(frozen=True)
@@ -35,24 +37,41 @@ class Request:
         return dict(self.headers).get(name.lower())
 
 
-def parsed_lines(text: bytes) -> List[Union[Request, Fault, NoJob]]:
+def parsed_requests(text: bytes) -> List[Union[Request, Fault, NoJob]]:
     """What the lines of the text that `requests` writes tell. ValueError where it has not their form."""
+    return [_parsed_line(it, _request_in) for it in _lines(text)]
+
+
+def parsed_responses(text: bytes) -> List[Union[Output, Fault, NoJob]]:
+    """What the lines of the text that `responses` writes tell. ValueError where it has not their form."""
+    return [_parsed_line(it, _output_in) for it in _lines(text)]
+
+
+def _lines(text: bytes) -> List[Any]:
     *lines, last = text.split(b"\n")
     if last:
         raise ValueError("a line without its end")
-    return [_parsed_line(json.loads(it)) for it in lines]
+    return [json.loads(it) for it in lines]
 
 
-def _parsed_line(value: Any) -> Union[Request, Fault, NoJob]:
+def _parsed_line(value: Any, done: Callable[[Any], Part]) -> Union[Part, Fault, NoJob]:
     try:
         if value["status"] == Fault.status:
             return Fault(value["fault"].encode() + b"\n")
         if value["status"] == NoJob.status:
             return NoJob()
-        headers = tuple((name, _bytes(it).decode("iso-8859-1")) for name, it in value["headers"])
-        return Request(value["method"], value["target"], headers, _bytes(value["body"]))
+        return done(value)
     except (AttributeError, KeyError, TypeError) as error:
-        raise ValueError(f"{str(value)[:100]} tells no request") from error
+        raise ValueError(f"{str(value)[:100]} tells no answer") from error
+
+
+def _request_in(value: Any) -> Request:
+    headers = tuple((name, _bytes(it).decode("iso-8859-1")) for name, it in value["headers"])
+    return Request(value["method"], value["target"], headers, _bytes(value["body"]))
+
+
+def _output_in(value: Any) -> Output:
+    return Output(value["value"], value.get("error"))
 
 
 def _bytes(value: Any) -> bytes:

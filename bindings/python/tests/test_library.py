@@ -55,6 +55,18 @@ class Calls(unittest.TestCase):
         wanted = json.loads((EXAMPLES / "get_object_response.txt").read_bytes())
         self.assertEqual(self.library.response(example("get_object_response")), smithy_bind.Output(wanted))
 
+    def test_many_responses_have_their_values(self):
+        job = json.loads(example("get_space_error"))
+        name, value = (EXAMPLES / "get_space_error.txt").read_text().splitlines()
+        response = job.pop("response")
+        code = job.pop("code")
+        job["responses"] = [{"response": response, "code": code}, {"response": response, "code": "Gone"}, {"code": code}]
+        read = self.library.responses(job)
+        self.assertEqual(read[0], smithy_bind.Output(json.loads(value), name))
+        self.assertEqual((type(read[1]), read[1].line), (smithy_bind.Fault, b"UnknownMember: unknown member: Gone\n"))
+        self.assertEqual(type(read[2]), smithy_bind.NoJob)
+        self.assertTrue(self.library.explain("responses", job).startswith("NoJob: /responses/2: "))
+
     def test_an_error_has_its_name(self):
         name, value = (EXAMPLES / "get_space_error.txt").read_text().splitlines()
         self.assertEqual(self.library.response(example("get_space_error")), smithy_bind.Output(json.loads(value), name))

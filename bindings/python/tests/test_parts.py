@@ -3,7 +3,7 @@
 import unittest
 
 from smithy_bind import Fault, NoJob, Output, Request, Response, Routed
-from smithy_bind._parts import parsed_lines
+from smithy_bind._parts import parsed_requests, parsed_responses
 
 
 class Requests(unittest.TestCase):
@@ -29,16 +29,25 @@ class Requests(unittest.TestCase):
 class Lines(unittest.TestCase):
     def test_a_line_tells_a_request_or_why_there_is_none(self):
         request = b'{"status":0,"method":"PUT","target":"/b","headers":[["x-a",{"base64":"/w=="}],["x-b","\xc3\xa9"]],"body":"\xc3\xa9"}\n'
-        told = parsed_lines(request + b'{"status":3,"fault":"Custom: a"}\n{"status":2}\n')
+        told = parsed_requests(request + b'{"status":3,"fault":"Custom: a"}\n{"status":2}\n')
         self.assertEqual(told[0], Request("PUT", "/b", (("x-a", "\xff"), ("x-b", "\xc3\xa9")), b"\xc3\xa9"))
         self.assertEqual((type(told[1]), told[1].line), (Fault, b"Custom: a\n"))
         self.assertEqual((type(told[2]), told[2].line), (NoJob, b""))
-        self.assertEqual(parsed_lines(b""), [])
+        self.assertEqual(parsed_requests(b""), [])
+
+    def test_a_line_tells_a_value_or_why_there_is_none(self):
+        told = parsed_responses(b'{"status":0,"value":{"a":1}}\n{"status":0,"error":"ex#Gone","value":{}}\n{"status":3,"fault":"Custom: a"}\n{"status":2}\n')
+        self.assertEqual(told[:2], [Output({"a": 1}), Output({}, "ex#Gone")])
+        self.assertEqual((type(told[2]), told[2].line), (Fault, b"Custom: a\n"))
+        self.assertEqual((type(told[3]), told[3].line), (NoJob, b""))
+        self.assertEqual(parsed_responses(b""), [])
 
     def test_other_texts_are_no_lines(self):
         for text in (b'{"status":2}', b"GET /b\n\n", b'{"status":0}\n', b"[]\n", b'{"status":3,"fault":1}\n'):
             with self.subTest(text), self.assertRaises(ValueError):
-                parsed_lines(text)
+                parsed_requests(text)
+            with self.subTest(text), self.assertRaises(ValueError):
+                parsed_responses(text)
 
 
 class Responses(unittest.TestCase):

@@ -63,6 +63,8 @@ commands! {
     Requests "requests" smithy_bind_requests smithy_bind_explain_requests,
     /// The value that a job's response hands out.
     Response "response" smithy_bind_response smithy_bind_explain_response,
+    /// The values that a job's responses hand out, a line of JSON for each.
+    Responses "responses" smithy_bind_responses smithy_bind_explain_responses,
     /// The `POST` of a job's input as one JSON body.
     Rpc "rpc" smithy_bind_rpc smithy_bind_explain_rpc,
     /// The input that a job's request is of.

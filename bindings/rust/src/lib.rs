@@ -63,6 +63,17 @@ pub fn response(job: impl AsRef<[u8]>) -> Result<Output, Refusal> {
     parted(Command::Response, job, Output::parse)
 }
 
+/// The values that a job's responses hand out: for each, in order, a line of JSON without its end. It is an object with the
+/// `status` 0, the `error` that was found for a code, and the `value`; 3 and the line of the `fault`; or 2 where there is no
+/// job of this response alone. `docs/JOBS.md` has its form.
+///
+/// # Errors
+///
+/// The [`Refusal`] of the command `responses`.
+pub fn responses(job: impl AsRef<[u8]>) -> Result<Vec<String>, Refusal> {
+    parted(Command::Responses, job, parts::lines)
+}
+
 /// The input that a job's request is of, as one line of JSON without its end.
 ///
 /// # Errors

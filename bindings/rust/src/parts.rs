@@ -112,7 +112,7 @@ impl Routed {
     }
 }
 
-/// The lines of the text that `requests` writes, each without its end. `None` where it has not its form.
+/// The lines of the text that `requests` or `responses` writes, each without its end. `None` where it has not its form.
 pub(crate) fn lines(text: &[u8]) -> Option<Vec<String>> {
     let text = std::str::from_utf8(text).ok()?;
     if text.is_empty() {

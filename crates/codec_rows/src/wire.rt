@@ -3,10 +3,12 @@ use crate::given::{canonical_document, input_of};
 use crate::json_text::document_text;
 use crate::model::input_schema;
 use crate::told::{answered, optional, refusal};
+use json::{Scratch, Value as Json};
 use serde_json::Value;
+use smithy_json::JsonError;
 use smithy_schema::SchemaRef;
 use smithy_types::Text;
-use smithy_wire::{WireJson, json_name, names_stand};
+use smithy_wire::{WireJson, json_in, json_name, names_stand};
 use std::alloc::Global;
 use test_rows::{Failed, flag_of, text_of};
 
@@ -17,6 +19,7 @@ pub fn answer(alloc: Global, call: &str, given: &Value) -> Result<Option<Text>, 
         "json_name" => by_schema(alloc, call, given),
         "WireJson::text" => by_schema(alloc, call, given),
         "WireJson::document" => by_schema(alloc, call, given),
+        "json_in" => Ok(Some(json_told(alloc, given)?)),
         _ => Ok(None),
     }
 }
@@ -45,8 +48,8 @@ fn name_told(alloc: Global, schema: SchemaRef<'_>, given: &Value) -> Result<Text
     }
 }
 
-// The JSON of the input's side, of the output's or of the whole value, without JSON names where the row says so.
-fn wire_of<'t>(
+/// The JSON of the input's side, of the output's or of the whole value, without JSON names where the row says so.
+pub fn wire_of<'t>(
     alloc: Global,
     schema: SchemaRef<'t>,
     given: &Value,
@@ -78,4 +81,26 @@ fn document_told(alloc: Global, schema: SchemaRef<'_>, given: &Value) -> Result<
         Ok(document) => answered(alloc, document_text(alloc, &document)),
         Err(error) => refusal(alloc, &error),
     }
+}
+
+// The value of JSON that the bytes under `text` are: its kind, with a number's text, a text, or how many parts there are.
+fn json_told(alloc: Global, given: &Value) -> Result<Text, Failed> {
+    let bytes = input_of(alloc, given)?;
+    let mut scratch = Scratch::new(alloc);
+    match json_in(alloc, bytes.as_slice(), &mut scratch) {
+        Ok(value) => kind_told(alloc, &value),
+        Err(JsonError::Unreadable) => Ok(Text::from_str(alloc, "Unreadable")?),
+        Err(JsonError::OutOfMemory) => Err(Failed),
+    }
+}
+
+fn kind_told(alloc: Global, value: &Json<'_>) -> Result<Text, Failed> {
+    Ok(Text::from_string(match value {
+        Json::Null => format!(in alloc; "null")?,
+        Json::Bool(truth) => format!(in alloc; "{truth}")?,
+        Json::Number(text) => format!(in alloc; "number {text}")?,
+        Json::String(text) => format!(in alloc; "string {text}")?,
+        Json::Array(items) => format!(in alloc; "array of {}", items.len())?,
+        Json::Object(members) => format!(in alloc; "object of {}", members.len())?,
+    }))
 }

@@ -2,17 +2,18 @@
 ghost use Rattle.std.specs.Prelude.{◌≡◌, IfOk, OnOk, IsSome};
 ghost use Rattle.smithy_serde.specs.Recording.{open_count};
 
-use crate::json_text::plain;
+use crate::json_text::{document_text, plain};
 use crate::model::input_schema;
 use crate::one_write::{one_write, step_of};
 use crate::told::{answered, push_part, refusal};
 use crate::value_text::{document_told, writes_told};
+use crate::wire::wire_of;
 use serde_json::Value;
 use smithy_document::{DocumentShapeSerializer, JsonCodec};
 use smithy_schema::SchemaRef;
 use smithy_serde::{Codec, FinishSerializer, Recorder, SerdeError, ShapeSerializer};
 use smithy_strings::{HttpStringCodec, HttpStringSerializer};
-use smithy_types::Text;
+use smithy_types::{Document, Text};
 use std::alloc::Global;
 use test_rows::{Failed, items_of, told_bytes};
 
@@ -37,7 +38,9 @@ fn by_name(
         "JsonCodec" => by_codec(alloc, &JsonCodec, schema, given)?,
         "HttpStringCodec" => by_codec(alloc, &HttpStringCodec, schema, given)?,
         "HttpStringSerializer" => by_string(alloc, schema, given)?,
-        "DocumentShapeSerializer" => by_document(alloc, schema, given)?,
+        "WireJson::create_serializer" => by_wire(alloc, schema, given)?,
+        "DocumentShapeSerializer" => by_document(alloc, schema, given, false)?,
+        "DocumentShapeSerializer::into_document" => by_document(alloc, schema, given, true)?,
         "Recorder" => by_recorder(alloc, schema, given)?,
         _ => return Ok(None),
     };
@@ -117,6 +120,12 @@ fn by_codec<C: Codec>(
     }
 }
 
+// By the JSON of the schema.
+fn by_wire(alloc: Global, schema: Option<SchemaRef<'_>>, given: &Value) -> Result<Text, Failed> {
+    let wire = wire_of(alloc, schema.ok_or(Failed)?, given)?;
+    by_codec(alloc, &wire, schema, given)
+}
+
 fn by_string(alloc: Global, schema: Option<SchemaRef<'_>>, given: &Value) -> Result<Text, Failed> {
     let steps = items_of(given, "steps")?;
     let mut to = HttpStringSerializer::new(alloc);
@@ -131,21 +140,42 @@ fn by_string(alloc: Global, schema: Option<SchemaRef<'_>>, given: &Value) -> Res
     }
 }
 
+// The document with its discriminator, or the document alone, `None` where nothing is told.
 fn by_document(
     alloc: Global,
     schema: Option<SchemaRef<'_>>,
     given: &Value,
+    is_alone: bool,
 ) -> Result<Text, Failed> {
     let steps = items_of(given, "steps")?;
     let mut to = DocumentShapeSerializer::new(alloc);
     let mut told = 0;
     match all_writes(alloc, &mut to, schema, steps.as_slice(), &mut told) {
-        Ok(0) => document_told(alloc, to.finish()),
+        Ok(0) => {
+            if is_alone {
+                alone(alloc, to.into_document())
+            } else {
+                document_told(alloc, to.finish())
+            }
+        }
         Ok(_) => Err(Failed),
         Err(error) => {
             let text = refused(alloc, &mut to, told, &error)?;
-            with_end(alloc, text, to.finish().err())
+            let end = if is_alone {
+                to.into_document().err()
+            } else {
+                to.finish().err()
+            };
+            with_end(alloc, text, end)
         }
+    }
+}
+
+fn alone(alloc: Global, told: Result<Option<Document>, SerdeError>) -> Result<Text, Failed> {
+    match told {
+        Ok(Some(document)) => answered(alloc, document_text(alloc, &document)),
+        Ok(None) => Ok(Text::from_str(alloc, "None")?),
+        Err(error) => refusal(alloc, &error),
     }
 }
 

@@ -5,14 +5,15 @@ use crate::told::{flag_text, no_job, push_headers, push_names, request_text, wri
 use serde_json::Value;
 use smithy_http::NonUtf8HeaderHandling;
 use smithy_job::{
-    CodedError, Expected, Gateway, Job, Operation, Received, Recovering, Routing, Sending,
-    read_gateway, read_job, read_received, read_recovering, read_routing,
+    CodedError, Expected, Gateway, Job, NamedOperations, NamedRouting, Operation, Received,
+    Recovering, Routing, Sending, read_gateway, read_job, read_named_routing, read_received,
+    read_recovering, read_routing,
 };
 use smithy_json::{Scratch, read_json};
 use smithy_model::{is_full_name, members_of, text_of};
 use smithy_recovery::are_shallow;
 use smithy_schema::Schemas;
-use smithy_serde::OmitFlags;
+use smithy_serde::{OmitFlags, ShapeValue, WriteList};
 use smithy_types::Text;
 use std::alloc::Global;
 use test_rows::{Failed, count_of, text_of as given_text, told_bytes};
@@ -24,12 +25,14 @@ pub fn answer(alloc: Global, call: &str, given: &Value) -> Result<Option<Text>, 
         "read_received" => Ok(Some(received(alloc, given)?)),
         "read_recovering" => Ok(Some(recovering(alloc, given)?)),
         "read_routing" => Ok(Some(routing(alloc, given)?)),
+        "read_named_routing" => Ok(Some(named_routing(alloc, given)?)),
         "read_gateway" => Ok(Some(gateway(alloc, given)?)),
         "is_full_name" => {
             let is_name = is_full_name(given_text(given, "name")?);
             Ok(Some(flag_text(alloc, is_name)?))
         }
         "are_shallow" => Ok(Some(shallow(alloc, given)?)),
+        "WriteList::present" => Ok(Some(present(alloc, given)?)),
         "members_of" => Ok(Some(members(alloc, given)?)),
         _ => Ok(None),
     }
@@ -60,6 +63,38 @@ fn shallow(alloc: Global, given: &Value) -> Result<Text, Failed> {
         Ok(job) => flag_text(alloc, are_shallow(&job.writes, count_of(given, "levels")?)),
         Err(refusal) => no_job(alloc, refusal),
     }
+}
+
+// The writes of a job without those of null members.
+fn present(alloc: Global, given: &Value) -> Result<Text, Failed> {
+    let bytes = job_bytes(alloc, given)?;
+    let mut scratch = Scratch::new(alloc);
+    let value = match read_json(alloc, bytes.as_slice(), &mut scratch) {
+        Ok(value) => value,
+        Err(refusal) => return no_job(alloc, refusal.into()),
+    };
+    match read_job(alloc, &value) {
+        Ok(job) => {
+            let nodes = job.further.as_ref().unwrap_or(&job.table);
+            both_levels(alloc, nodes, &job.writes.present(alloc)?)
+        }
+        Err(refusal) => no_job(alloc, refusal),
+    }
+}
+
+// The writes, and those inside each of them in brackets.
+fn both_levels(alloc: Global, nodes: &Schemas, writes: &WriteList) -> Result<Text, Failed> {
+    let mut text = writes_text(alloc, nodes, writes)?;
+    for (_, value) in writes.iter() {
+        if let ShapeValue::List(inner)
+        | ShapeValue::Map(inner)
+        | ShapeValue::Struct(inner) = value
+        {
+            let inside = writes_text(alloc, nodes, inner)?;
+            text.push_str(format!(in alloc; "[{}]", inside.as_str())?.as_str())?;
+        }
+    }
+    Ok(text)
 }
 
 // The writes, whether they have names that are no member's, the endpoint, and the headers to be left out.
@@ -148,6 +183,44 @@ fn routing_text(alloc: Global, job: Routing<'_>) -> Result<Text, Failed> {
     Ok(text)
 }
 
+fn named_routing(alloc: Global, given: &Value) -> Result<Text, Failed> {
+    let bytes = job_bytes(alloc, given)?;
+    let mut scratch = Scratch::new(alloc);
+    let value = match read_json(alloc, bytes.as_slice(), &mut scratch) {
+        Ok(value) => value,
+        Err(refusal) => return no_job(alloc, refusal.into()),
+    };
+    match read_named_routing(alloc, &value) {
+        Ok(job) => named_text(alloc, &job),
+        Err(refusal) => no_job(alloc, refusal),
+    }
+}
+
+// A line for each name, of its operation or that there is none, and then the request.
+fn named_text(alloc: Global, job: &NamedRouting<'_, '_>) -> Result<Text, Failed> {
+    let mut text = Text::from_str(alloc, "")?;
+    push_named(alloc, &mut text, &job.operations)?;
+    text.push_str(request_text(alloc, &job.request)?.as_str())?;
+    Ok(text)
+}
+
+fn push_named(
+    alloc: Global,
+    text: &mut Text,
+    operations: &NamedOperations<'_, '_>,
+) -> Result<(), Failed> {
+    for name in operations.names {
+        match operations.read(alloc, name) {
+            Ok(operation) => push_operation(alloc, text, &operation)?,
+            Err(refusal) => {
+                text.push_str(no_job(alloc, refusal)?.as_str())?;
+                text.push_str("\n")?;
+            }
+        }
+    }
+    Ok(())
+}
+
 // The name of an operation, its method and its template, and the name of its input's schema.
 fn push_operation(alloc: Global, text: &mut Text, operation: &Operation<'_>) -> Result<(), Failed> {
     let name = operation.name;
@@ -217,7 +290,12 @@ fn received_text(alloc: Global, received: &Received<'_>) -> Result<Text, Failed>
     Ok(text)
 }
 
-fn push_expected(text: &mut Text, table: &Schemas, expected: &Expected<'_>) -> Result<(), Failed> {
+/// What a response is read as, by the names of its schemas.
+pub fn push_expected(
+    text: &mut Text,
+    table: &Schemas,
+    expected: &Expected<'_>,
+) -> Result<(), Failed> {
     match expected {
         Expected::Output(place) => {
             text.push_str("output")?;

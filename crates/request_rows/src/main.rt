@@ -4,8 +4,10 @@
 
 mod documents;
 mod given_job;
+mod items;
 mod jobs;
 mod many;
+mod misfits;
 mod models;
 mod outputs;
 mod pointing;
@@ -43,10 +45,16 @@ impl Answers for Calls {
         if let Some(text) = jobs::answer(alloc, call, given)? {
             return Ok(text);
         }
+        if let Some(text) = items::answer(alloc, call, given)? {
+            return Ok(text);
+        }
         if let Some(text) = many::answer(alloc, call, given)? {
             return Ok(text);
         }
         if let Some(text) = requests::answer(alloc, call, given)? {
+            return Ok(text);
+        }
+        if let Some(text) = misfits::answer(alloc, call, given)? {
             return Ok(text);
         }
         if let Some(text) = outputs::answer(alloc, call, given)? {

@@ -8,8 +8,8 @@ use smithy_binding::{broken_input_rule, broken_output_rule, checked_input, check
 use smithy_ids::{PayloadHint, ShapeId, ShapeType};
 use smithy_json::{JsonValue, Scratch, read_json};
 use smithy_model::{
-    Asked, JobError, ModelTable, PlacedErrors, errors_of_operation, items_of, schema_of_operation,
-    text_of,
+    Asked, JobError, ModelTable, PlacedErrors, errors_of_operation, items_of, schema_among,
+    schema_of_operation, shapes_of, text_of,
 };
 use smithy_schema::{Schema, SchemaIndex, Schemas};
 use smithy_types::Text;
@@ -20,6 +20,7 @@ use test_rows::{Failed, flag_of};
 pub fn answer(alloc: Global, call: &str, given: &Value) -> Result<Option<Text>, Failed> {
     match call {
         "schema_of_operation" => Ok(Some(by_schema(alloc, given, Told::Schema)?)),
+        "schema_among" => Ok(Some(by_shapes(alloc, given)?)),
         "checked_input" => Ok(Some(by_schema(alloc, given, Told::Input)?)),
         "checked_output" => Ok(Some(by_schema(alloc, given, Told::Output)?)),
         "checked_input with a flag" => Ok(Some(by_schema(alloc, given, Told::Flagged)?)),
@@ -93,6 +94,30 @@ fn by_schema(alloc: Global, given: &Value, told: Told) -> Result<Text, Failed> {
             broken(alloc, &table, index, true)
         }
     }
+}
+
+// The schema that a row asks for among the shapes of its model.
+fn by_shapes(alloc: Global, given: &Value) -> Result<Text, Failed> {
+    let bytes = job_bytes(alloc, given)?;
+    let mut scratch = Scratch::new(alloc);
+    let job = match read_json(alloc, bytes.as_slice(), &mut scratch) {
+        Ok(job) => job,
+        Err(refusal) => return no_job(alloc, refusal.into()),
+    };
+    match placed_among(alloc, &job) {
+        Ok(placed) => schema_text(alloc, &placed, flag_of(given, "members")),
+        Err(refusal) => no_job(alloc, refusal),
+    }
+}
+
+fn placed_among(alloc: Global, job: &JsonValue<'_>) -> Result<ModelTable, JobError> {
+    let (Some(model), Some(name)) = (job.get("model"), text_of(job, "operation")) else {
+        return Err(JobError::NoJob);
+    };
+    let Some(shapes) = shapes_of(model) else {
+        return Err(JobError::NoJob);
+    };
+    schema_among(alloc, &shapes, name, asked_of(job))
 }
 
 // Whether a request can be placed, or a response be read, by the schema at a place.

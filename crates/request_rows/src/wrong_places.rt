@@ -46,6 +46,7 @@ fn kind_of(given: &Value) -> Result<JobKind, Failed> {
         "requests" => Ok(JobKind::Requests),
         "rpc" => Ok(JobKind::Rpc),
         "response" => Ok(JobKind::Response),
+        "responses" => Ok(JobKind::Responses),
         "recover" => Ok(JobKind::Recover),
         "route" => Ok(JobKind::Route),
         "gateway" => Ok(JobKind::Gateway),

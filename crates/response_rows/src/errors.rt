@@ -1,8 +1,10 @@
 // Errors by their codes, and documents by their discriminators.
+use crate::asked::asked_of;
 use crate::json::json_of;
 use crate::readers::body_reader;
 use crate::told::told;
 use serde_json::Value;
+use smithy_aws::error_code;
 use smithy_http::Response;
 use smithy_job::{CodedError, Expected, Received, read_received};
 use smithy_json::{Scratch, read_json};
@@ -21,10 +23,19 @@ pub fn answer(alloc: Global, call: &str, given: &Value) -> Result<Option<Text>, 
         "ComposedRegistry::entry_for_error_code" => {
             Ok(Some(named_by_code(alloc, &errors_asked(alloc, given)?, given)?))
         }
+        "error_code" => Ok(Some(code_told(alloc, given)?)),
         "TypeRegistry::deserialize_document" => {
             Ok(Some(read_as_named(alloc, &errors_asked(alloc, given)?, given)?))
         }
         _ => Ok(None),
+    }
+}
+
+// The code by which the response of a job names its error.
+fn code_told(alloc: Global, given: &Value) -> Result<Text, Failed> {
+    match error_code(alloc, &asked_of(alloc, given)?.response)? {
+        Some(code) => Ok(code),
+        None => Ok(Text::from_str(alloc, "None")?),
     }
 }
 

@@ -18,7 +18,7 @@ use Rattle.smithy_recovery.proofs.Decided.{IsSoundReading}
 use Rattle.smithy_gateway.specs.Answers.{IsRpc, IsRest, NoInput, NoCall, call_headers}
 use Rattle.smithy_recovery.specs.Finding.{Finds}
 use Rattle.smithy_recovery.specs.declared.error.RecoverError.{RecoverError}
-use Rattle.smithy_gateway.proofs.Found.{rpc_found, rest_found}
+use Rattle.smithy_gateway.proofs.Sent.{rpc_found, rest_found}
 use Rattle.smithy_model.specs.declared.error.JobError.{JobError}
 use Rattle.smithy_job.specs.Gateway as jobs
 use Rattle.smithy_job.specs.GatewayView.{IsGateway}
@@ -57,13 +57,13 @@ module _ (t : Table) (place : SchemaIndex) (s here : Schema) (endpoint : List �
       → NoInput (λ _. json_text) rest t place endpoint omit q result → Finds (λ x. x) result (sent_on Rpc (json_reading s endpoint) json_calls omit e q)
   rpc_by_json e legal is target headers none =
       rw (kind, rpc_kind) at
-      (rpc_found (λ _. json_text) (λ _. json_held) (λ _. json_text) (λ _. json_held) rest rpc t place s endpoint omit q at sound e omit result legal is target headers none)
+      (rpc_found (λ _. json_text) (λ _. json_held) (λ _. json_text) (λ _. json_held) rest rpc t place s endpoint omit q at sound e omit legal result is target headers none)
 
   pub rest_by_json : (e : List ℕ) → IsRest (λ _. json_text) (λ _. json_text) rest rpc t place endpoint omit q result
       → NoCall (λ _. json_text) (λ _. json_text) rest rpc t place endpoint omit q result → Finds (λ x. x) result (sent_on Rest (json_reading s endpoint) json_calls omit e q)
   rest_by_json e is none =
       rw (kind, rpc_kind) at
-      (rest_found (λ _. json_text) (λ _. json_held) (λ _. json_text) (λ _. json_held) rest rpc t place s endpoint omit q at sound result lawful is none)
+      (rest_found (λ _. json_text) (λ _. json_held) (λ _. json_text) (λ _. json_held) rest rpc t place s endpoint omit q at sound lawful result is none)
 
 -- the job whose request is sent on is the one that was read
 pub gateway_answered : (o : Option jobs.Gateway) (stored : Gateway) (result : Result Answer JobError) → Has o (IsGateway stored) → TellsSent stored result → Gives (outcome_of gatewayed_job o) result

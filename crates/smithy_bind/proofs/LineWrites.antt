@@ -3,6 +3,7 @@ use Rattle.std.proofs.Common.{◌≡◌, refl, ap, ◌∙◌, append_assoc, code
 use Rattle.json.specs.Print.{print}
 use Rattle.json.specs.Token.{Token}
 use Rattle.json.specs.Written.{Written, Writes}
+use Rattle.serde_json.specs.Written.{compact_text}
 use Rattle.serde_json.proofs.Texts.{print-outline}
 use Rattle.smithy_http.specs.Requests.{Request}
 use Rattle.smithy_document.specs.views.Printing.{Prints}
@@ -13,7 +14,7 @@ use Rattle.smithy_binding.specs.Faults.{Fault}
 use Rattle.smithy_binding.specs.Refusing.{Answers}
 use Rattle.smithy_bind.specs.Lines.{answer_line, answer_value}
 use Rattle.smithy_bind.specs.Shown.{refusal_words}
-use Rattle.smithy_bind.specs.views.LineView.{data_tokens, IsMade, IsLineOf, WritesAnswer, WritesRefusal}
+use Rattle.smithy_bind.specs.views.LineView.{data_tokens, IsMade, EndsWithLine, WritesAnswer, WritesRefusal}
 
 -- a token was written
 pub wrote : {E : Type 0} {u : Unit {0}} {old new : Written} {t : Token} → Writes {E = E} (Ok u) old new t → IsPrinted (t ∷ []) old new
@@ -65,11 +66,13 @@ answer-none old new r p = go
     go None is = p
     go (Some answer) is = absurd is
 
--- the line of what was written to a new buffer
-pub line_written : (made : Option (Result Request SerdeError)) (old new : Written) (text : List ℕ) → old.before ≡ [] → old.tokens ≡ []
-    → ((answer : Option (Result Request Fault)) → IsMade made answer → IsPrinted (data_tokens (answer_value answer)) old new) → text ≡ (new.before ++ print new.tokens) ++ codes "\n" → IsLineOf made text
+-- what was written behind lines, as their last one
+pub line_written : (made : Option (Result Request SerdeError)) (old new : Written) (lines text : List ℕ) → old.before ≡ lines → old.tokens ≡ []
+    → ((answer : Option (Result Request Fault)) → IsMade made answer → IsPrinted (data_tokens (answer_value answer)) old new) → text ≡ (new.before ++ print new.tokens) ++ codes "\n"
+    → EndsWithLine made lines text
 unfolding answer_line
-line_written made old new text before tokens written is = λ answer made_so.
+line_written made old new lines text before tokens written is = λ answer made_so.
     let printed = written answer made_so in
     is ∙ ap (λ line. line ++ codes "\n")
-    ((λ i. (printed.0 ∙ before) i ++ print ((printed.1 ∙ ap (λ ts. ts ++ data_tokens (answer_value answer)) tokens) i)) ∙ print-outline (answer_value answer))
+    ((λ i. (printed.0 ∙ before) i ++ print ((printed.1 ∙ ap (λ ts. ts ++ data_tokens (answer_value answer)) tokens) i)) ∙ ap (λ line. lines ++ line) (print-outline (answer_value answer)))
+    ∙ append_assoc lines (compact_text (answer_value answer)) (codes "\n")

@@ -84,10 +84,9 @@ by_writes text c d = go (input c.schema d)
 -- ---- lines
 
 -- the line of one more
-pub lines_more : (f : List Write → Result Request Fault) (w : Option (List Write)) (ws : List (Option (List Write))) (all old line new : List ℕ) → line ≡ answer_line (option_map f w) → new ≡ old ++ line
+pub lines_more : (f : List Write → Result Request Fault) (w : Option (List Write)) (ws : List (Option (List Write))) (all old new : List ℕ) → new ≡ old ++ answer_line (option_map f w)
     → old ++ lines_with f (w ∷ ws) ≡ all → new ++ lines_with f ws ≡ all
-lines_more f w ws all old line new is extended h =
-    ap (λ t. t ++ lines_with f ws) (extended ∙ ap (λ l. old ++ l) is) ∙ append_assoc old (answer_line (option_map f w)) (lines_with f ws) ∙ h
+lines_more f w ws all old new extended h = ap (λ t. t ++ lines_with f ws) extended ∙ append_assoc old (answer_line (option_map f w)) (lines_with f ws) ∙ h
 
 pub lines_end : (f : List Write → Result Request Fault) (text all : List ℕ) → text ++ lines_with f [] ≡ all → text ≡ all
 lines_end f text all h = sym (append-nil text) ∙ h

@@ -1,13 +1,12 @@
 -- Lists of routes, as functions: the outcome of adding an operation's, and the best one of a request.
-use Rattle.std.proofs.Common.{◌≡◌, refl, sym, ◌∙◌, ap, subst, ℕ, ◌+◌, ◌<◌, length, drop, get_or, Bool, true, false, not, cond, ◌&&◌, ◌||◌, List, [], ◌∷◌, ◌++◌, Option, Some, None, option_map, find, Result, Ok, Err, IsTrue, codes}
+use Rattle.std.proofs.Common.{◌≡◌, refl, sym, ◌∙◌, ap, subst, ℕ, Bool, true, false, not, cond, ◌&&◌, ◌||◌, List, [], ◌∷◌, ◌++◌, Option, Some, None, option_map, find, Result, Ok, Err, IsTrue, codes}
 use Rattle.std.specs.List.{AllByRecursion, list_all}
 use Rattle.std.specs.Option.{option_map_or}
 use Rattle.std.proofs.lemmas.Bool.{and_parts, and_from}
-use Rattle.std.proofs.lemmas.List.{drop_more}
 use Rattle.smithy_http.specs.Requests.{Request}
 use Rattle.smithy_schema.specs.Nodes.{Http}
 use Rattle.smithy_binding.specs.Placing.{endpoint_or_slash, method_of, template_of}
-use Rattle.smithy_router.specs.Adding.{ConflictsFirst, IsAdded, AddsRoute, AddsTemplate, FindsBest, with_last}
+use Rattle.smithy_router.specs.Adding.{ConflictsFirst, IsAdded, AddsTemplate, FindsBest, with_last}
 use Rattle.smithy_router.specs.Deciding.{covers, conflicts}
 use Rattle.smithy_router.specs.Ranking.{Beats, Covers}
 use Rattle.smithy_router.specs.Routes.{Route, IsRoute, matches}
@@ -25,18 +24,14 @@ use Rattle.smithy_model.specs.declared.error.JobError.{JobError}
 use Rattle.smithy_job.specs.Recovering as jobs
 use Rattle.smithy_job.specs.RecoveringView.{IsRecovering}
 use Rattle.smithy_job.specs.Routing.{Operation, recovering_by}
-use Rattle.smithy_job.specs.RoutingView.{operation_seen, operations_seen}
-use Rattle.smithy_job.specs.declared.operation.Operation.{Operation as Stored}
 use Rattle.smithy_job.specs.declared.recovering.Recovering.{Recovering}
 use Rattle.smithy_bind.specs.Outcome.{json_reading, json_requests}
 use Rattle.smithy_bind.specs.Recovering.{recovered_by}
-use Rattle.smithy_bind.specs.Routing.{conflict, is_best, no_template, operation_found, route_in, with_operation, with_operations, with_route}
-use Rattle.smithy_bind.specs.declared.routed.Refusal.{Refusal}
-use Rattle.smithy_bind.specs.declared.routed.Refusal.TheVariants.{Line, OutOfMemory}
+use Rattle.smithy_bind.specs.Routing.{conflict, is_best, no_template, operation_found, route_in, with_operation, with_route}
 use Rattle.smithy_bind.specs.declared.told.Answer.{Answer}
 use Rattle.smithy_bind.specs.views.AnswerView.{Gives}
 use Rattle.smithy_bind.specs.views.RecoveredView.{TellsInput}
-use Rattle.smithy_bind.specs.views.RoutedView.{AddsRouteOf, GivesRoutes, MakesRoutes}
+use Rattle.smithy_bind.specs.views.RoutedView.{AddsRouteOf}
 
 -- The first of a list.
 
@@ -117,18 +112,6 @@ pub adds_by_http : (o : Operation) (http : Http) (method uri : List ℕ) (old ne
     → AddsTemplate old (route_of method uri) o.name new result → AreApart new → AddsRouteOf old o new result
 adds_by_http o http method uri old new result e m u h apart =
     adds o old new apart result (subst (λ (r : Option Route). AddsTemplate old r o.name new result) ((λ i. route_of (m i) (u i)) ∙ sym (route_by_http o http e)) h)
-
--- one operation more
-module _ (ops : List Stored) (i : ℕ) (op : Stored) (old new : List Entry) (all : Result (List Entry) (List ℕ)) (l : i < length ops) (is : op ≡ get_or ops i op) (h : with_operations old (operations_seen (drop i ops)) ≡ all) where
-  pub operations-more : with_operation old (operation_seen op) ≡ Ok new → with_operations new (operations_seen (drop (i + 1) ops)) ≡ all
-  operations-more e = sym (rw (drop_more ops i op l, ← is, e) refl) ∙ h
-
-  operations-none : (line : List ℕ) → with_operation old (operation_seen op) ≡ Err line → all ≡ Err line
-  operations-none line e = sym h ∙ rw (drop_more ops i op l, ← is, e) refl
-
-  pub operations-refused : (e : Refusal) (r : Result (List Entry) Refusal) → r ≡ Err e → GivesRoutes (with_operation old (operation_seen op)) new (Err e) → MakesRoutes all r
-  operations-refused (Line line) r same k = rw same (operations-none line.items k)
-  operations-refused OutOfMemory r same k = rw same tt
 
 -- The best one.
 

@@ -7,7 +7,7 @@ use Rattle.smithy_model.specs.Names.{is}
 use Rattle.smithy_job.specs.declared.job_kind.JobKind.{JobKind}
 use Rattle.smithy_job.specs.declared.job_kind.JobKind.TheVariants as kind
 use Rattle.smithy_bind.specs.declared.command.Command.{Command}
-use Rattle.smithy_bind.specs.declared.command.Command.TheVariants.{Request, Requests, Response, Rpc, Recover, Route, Gateway, Answer, Explain, Generate, Help, Version}
+use Rattle.smithy_bind.specs.declared.command.Command.TheVariants.{Request, Requests, Response, Responses, Rpc, Recover, Route, Gateway, Answer, Explain, Generate, Help, Version}
 
 -- the commands that are one word
 abbrev pub named : List (List ℕ × Command)
@@ -15,6 +15,7 @@ named =
     (codes "request", Request)
     ∷ (codes "requests", Requests)
     ∷ (codes "response", Response)
+    ∷ (codes "responses", Responses)
     ∷ (codes "rpc", Rpc)
     ∷ (codes "recover", Recover)
     ∷ (codes "route", Route)
@@ -31,6 +32,7 @@ jobs =
     ∷ (codes "requests", kind.Requests)
     ∷ (codes "rpc", kind.Rpc)
     ∷ (codes "response", kind.Response)
+    ∷ (codes "responses", kind.Responses)
     ∷ (codes "recover", kind.Recover)
     ∷ (codes "route", kind.Route)
     ∷ (codes "gateway", kind.Gateway)
@@ -72,6 +74,7 @@ command_for kind.Request = Request
 command_for kind.Requests = Requests
 command_for kind.Rpc = Rpc
 command_for kind.Response = Response
+command_for kind.Responses = Responses
 command_for kind.Recover = Recover
 command_for kind.Route = Route
 command_for kind.Gateway = Gateway

@@ -27,6 +27,7 @@ use Rattle.smithy_bind.specs.Told.{Outcome, usage, no_job, output, told_by, outc
 use Rattle.smithy_bind.specs.Explaining.{line_of_value, not_json}
 use Rattle.smithy_bind.specs.Gateway.{gatewayed_by}
 use Rattle.smithy_bind.specs.Recovering.{recovered_by}
+use Rattle.smithy_bind.specs.Replying.{replied_to}
 use Rattle.smithy_bind.specs.Requesting.{requested_by}
 use Rattle.smithy_bind.specs.Responding.{responded_to}
 use Rattle.smithy_bind.specs.Routing.{routed_by}
@@ -128,6 +129,7 @@ answer_to bodies command.Request d = sent_job (sent_by Rest bodies) d
 answer_to bodies command.Requests d = requested_to bodies d
 answer_to bodies command.Rpc d = sent_job (sent_by Rpc bodies) d
 answer_to bodies command.Response d = responded_to d
+answer_to bodies command.Responses d = replied_to d
 answer_to bodies command.Recover d = recovered_to d
 answer_to bodies command.Route d = routed_to d
 answer_to bodies command.Gateway d = gatewayed_to d

@@ -4,6 +4,7 @@ pub mod ExplainingView
 pub mod GatewayView
 pub mod LineView
 pub mod RecoveredView
+pub mod ReplyView
 pub mod RequestedView
 pub mod RoutedView
 pub mod ServedView

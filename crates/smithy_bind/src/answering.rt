@@ -9,6 +9,7 @@ use crate::gatewayed::gatewayed;
 use crate::generate::generated;
 use crate::recovered::recovered;
 use crate::requested::lines_told;
+use crate::responded::replies_told;
 use crate::response::responded;
 use crate::routed::routed;
 use crate::sending::job_told;
@@ -37,6 +38,7 @@ pub fn answer<C: Codec + Drop>(
         Command::Requests => lines_told(alloc, codec, value),
         Command::Rpc => job_told(alloc, Sending::Rpc, codec, value),
         Command::Response => responded(alloc, value),
+        Command::Responses => replies_told(alloc, value),
         Command::Recover => recovered(alloc, value),
         Command::Route => routed(alloc, value),
         Command::Gateway => gatewayed(alloc, value),

@@ -1,26 +1,29 @@
 // The command `explain`: whether bytes are the job of a command, or why they are none.
-ghost use Rattle.std.specs.Prelude.{◌≡◌, IfOk};
+ghost use Rattle.std.specs.Prelude.{◌≡◌, map, IfOk};
 ghost use Rattle.smithy_json.specs.JsonView.{view};
 ghost use Rattle.smithy_serde.specs.StoredValues.{HasNode};
 ghost use Rattle.smithy_binding.specs.Broken.{broken_input, broken_output};
 ghost use Rattle.smithy_binding.specs.views.Breaking.{broken_of, broken_shown};
+ghost use Rattle.smithy_job.specs.KeysView.{keys_seen};
 ghost use Rattle.smithy_job.specs.RoutingView.{operations_seen};
 ghost use Rattle.smithy_job.specs.WrongJobs.{wrong_in_job};
 ghost use Rattle.smithy_job.specs.declared.job_kind.JobKind.TheVariants as kind_of;
-ghost use Rattle.smithy_bind.specs.Explaining.{broken_operation, line_at, line_of_value, not_checked, not_job, not_json, rule_in};
+ghost use Rattle.smithy_bind.specs.Explaining.{broken_operation, in_owner, line_at, line_of_value, not_checked, not_job, not_json, only, by_job, by_operation, by_response, rule_among, rule_in, rule_of_items};
 ghost use Rattle.smithy_bind.specs.Outcome.{unread};
 ghost use Rattle.smithy_bind.specs.Told.{output};
 ghost use Rattle.smithy_bind.specs.views.AnswerView.{Gives};
 ghost use Rattle.smithy_bind.specs.views.CodedView.{Stand};
-ghost use Rattle.smithy_bind.specs.views.ExplainingView.{told_rule, TellsBroken, TellsBrokenCoded, TellsRule};
+ghost use Rattle.smithy_bind.specs.views.ExplainingView.{told_rule, FindsCodedRule, FindsExpectedRule, FindsRule, TellsBroken, TellsItem, TellsRule};
+ghost use Rattle.smithy_bind.specs.views.ReplyView.{IsExpectable};
 
 use crate::coded::error_of_code;
 use crate::command::Command;
 use crate::told::{Answer, said};
 use smithy_binding::{BrokenRule, broken_input_rule, broken_output_rule};
 use smithy_job::{
-    CodedError, Expected, JobKind, Operation, read_answering, read_gateway, read_job,
-    read_received, read_recovering, read_routing, read_whole, wrong_in_job,
+    CodedError, Expected, JobKind, Keys, Operation, read_answering, read_gateway, read_job,
+    read_received, read_received_by, read_recovering, read_routing, read_whole, responses_of,
+    wrong_in_job,
 };
 use smithy_json::{JsonValue, json_end};
 use smithy_model::{JobError, pointer_of};
@@ -91,6 +94,7 @@ fn rule_told(alloc: Global, kind: JobKind, value: &JsonValue<'_>) -> Result<Answ
         JobKind::Requests => requests_told(alloc, value),
         JobKind::Rpc => call_told(alloc, value),
         JobKind::Response => response_told(alloc, value),
+        JobKind::Responses => responses_told(alloc, value),
         JobKind::Recover => recovering_told(alloc, value),
         JobKind::Route => routing_told(alloc, value),
         JobKind::Gateway => gateway_told(alloc, value),
@@ -125,10 +129,18 @@ fn response_told(alloc: Global, value: &JsonValue<'_>) -> Result<Answer, JobErro
     ensures { TellsRule (rule_in kind_of.Response (view value.now)) result }
 {
     let received = read_received(alloc, value)?;
-    match &received.expected {
-        Expected::Output(place) => output_told(alloc, &received.table, *place),
-        Expected::Error(place) => output_told(alloc, &received.table, *place),
-        Expected::Coded(error) => error_told(alloc, &received.table, error),
+    broken_told(
+        alloc,
+        expected_rule(alloc, &received.table, &received.expected)?,
+    )
+}
+
+fn responses_told(alloc: Global, value: &JsonValue<'_>) -> Result<Answer, JobError>
+    ensures { TellsRule (rule_in kind_of.Responses (view value.now)) result }
+{
+    match responses_of(value) {
+        Some(items) => items_told(alloc, value, items),
+        None => Err(JobError::NoJob),
     }
 }
 
@@ -176,21 +188,84 @@ fn output_told(alloc: Global, table: &Schemas, place: SchemaIndex) -> Result<Ans
     requires { HasNode table.now place.0 }
     ensures { TellsBroken broken_output table.now place.0 result }
 {
+    broken_told(alloc, output_rule(alloc, table, place)?)
+}
+
+// What is told of the responses of a job, by the first that is no job of one, or whose schema isn't checked.
+fn items_told<'v, 't>(
+    alloc: Global,
+    job: &'v JsonValue<'t>,
+    items: &'v [JsonValue<'t>],
+) -> Result<Answer, JobError>
+    ensures { TellsRule (rule_of_items (view job.now) 0 (map view items.now)) result }
+{
+    for (position, item) in items.iter().enumerate() {
+        if let Some(told) = item_told(alloc, &Keys::among(job, item), position)? {
+            return Ok(told);
+        }
+    }
+    said(alloc, JOB.as_bytes())
+}
+
+// What is told of a response of many, where its schema isn't checked. No job where there is none under the keys.
+fn item_told(
+    alloc: Global,
+    keys: &Keys<'_, '_>,
+    position: usize,
+) -> Result<Option<Answer>, JobError>
+    ensures { TellsItem (rule_among position (keys_seen keys.now)) result }
+{
+    let received = read_received_by(alloc, keys)?;
+    match expected_rule(alloc, &received.table, &received.expected)? {
+        Some(broken) => Ok(Some(response_not_checked(alloc, position, &broken)?)),
+        None => Ok(None),
+    }
+}
+
+// The first broken rule of the schema at a place.
+fn output_rule<'s>(
+    alloc: Global,
+    table: &'s Schemas,
+    place: SchemaIndex,
+) -> Result<Option<BrokenRule<'s>>, JobError>
+    requires { HasNode table.now place.0 }
+    ensures { FindsRule table.now place.0 result }
+{
     let Some(schema) = table.get(place) else {
         unreachable!()
     };
-    broken_told(alloc, broken_output_rule(alloc, schema)?)
+    Ok(broken_output_rule(alloc, schema)?)
 }
 
-// What is told of the error of a code, where there is one.
-fn error_told(alloc: Global, table: &Schemas, error: &CodedError<'_>) -> Result<Answer, JobError>
+// That of the error of a code, where there is one.
+fn error_rule<'s>(
+    alloc: Global,
+    table: &'s Schemas,
+    error: &CodedError<'_>,
+) -> Result<Option<BrokenRule<'s>>, JobError>
     requires operation { Stand table.now error.now.operation.items }
     requires service { Stand table.now error.now.service.items }
-    ensures { TellsBrokenCoded table.now error.now result }
+    ensures { FindsCodedRule table.now error.now result }
 {
     match error_of_code(alloc, table, error)? {
-        Some(place) => output_told(alloc, table, place),
-        None => said(alloc, JOB.as_bytes()),
+        Some(place) => output_rule(alloc, table, place),
+        None => Ok(None),
+    }
+}
+
+// That of what a response is read as.
+fn expected_rule<'s>(
+    alloc: Global,
+    table: &'s Schemas,
+    expected: &Expected<'_>,
+) -> Result<Option<BrokenRule<'s>>, JobError>
+    requires { IsExpectable table.now expected.now }
+    ensures { FindsExpectedRule table.now expected.now result }
+{
+    match expected {
+        Expected::Output(place) => output_rule(alloc, table, *place),
+        Expected::Error(place) => output_rule(alloc, table, *place),
+        Expected::Coded(error) => error_rule(alloc, table, error),
     }
 }
 
@@ -200,7 +275,7 @@ fn operations_told(alloc: Global, operations: &[Operation<'_>]) -> Result<Answer
 {
     for operation in operations {
         if let Some(broken) = broken_input_rule(alloc, operation.schema())? {
-            return not_checked(alloc, &broken);
+            return operation_not_checked(alloc, operation.name, &broken);
         }
     }
     said(alloc, JOB.as_bytes())
@@ -208,7 +283,7 @@ fn operations_told(alloc: Global, operations: &[Operation<'_>]) -> Result<Answer
 
 // What is told by the first broken rule of a schema, if there is one.
 fn broken_told(alloc: Global, broken: Option<BrokenRule<'_>>) -> Result<Answer, JobError>
-    ensures { Gives (told_rule (broken_shown broken.entry)) result }
+    ensures { Gives (told_rule (only (broken_shown broken.entry))) result }
 {
     match broken {
         Some(broken) => not_checked(alloc, &broken),
@@ -218,8 +293,32 @@ fn broken_told(alloc: Global, broken: Option<BrokenRule<'_>>) -> Result<Answer, 
 
 // The line of a schema that is not checked.
 fn not_checked(alloc: Global, broken: &BrokenRule<'_>) -> Result<Answer, JobError>
-    ensures { Gives (output (not_checked (broken_of broken.now))) result }
+    ensures { Gives (output (not_checked (in_owner by_job (broken_of broken.now)))) result }
 {
     let line = format!(in alloc; "NotChecked: {broken}\n")?;
+    Ok(Answer::Output(line.into_bytes()))
+}
+
+// That of an operation of many.
+fn operation_not_checked(
+    alloc: Global,
+    name: &str,
+    broken: &BrokenRule<'_>,
+) -> Result<Answer, JobError>
+    ensures { Gives (output (not_checked (in_owner (by_operation name.now) (broken_of broken.now)))) result }
+{
+    let line = format!(in alloc; "NotChecked: operation {name}: {broken}\n")?;
+    Ok(Answer::Output(line.into_bytes()))
+}
+
+// That of a response of many, by its position.
+fn response_not_checked(
+    alloc: Global,
+    position: usize,
+    broken: &BrokenRule<'_>,
+) -> Result<Answer, JobError>
+    ensures { Gives (output (not_checked (in_owner (by_response position) (broken_of broken.now)))) result }
+{
+    let line = format!(in alloc; "NotChecked: response {position}: {broken}\n")?;
     Ok(Answer::Output(line.into_bytes()))
 }

@@ -11,8 +11,9 @@ ghost use Rattle.smithy_document.specs.views.JsonHand.{hand};
 ghost use Rattle.smithy_document.specs.JsonHeld.{json_held};
 ghost use Rattle.smithy_document.specs.JsonSeen.{json_seen};
 ghost use Rattle.smithy_document.specs.JsonText.{json_text};
-ghost use Rattle.smithy_bind.specs.Responding.{shown_document};
+ghost use Rattle.smithy_bind.specs.Responding.{made_document, shown_document};
 ghost use Rattle.smithy_bind.specs.views.AnswerView.{Gives};
+ghost use Rattle.smithy_bind.specs.views.ReplyView.{MakesText};
 
 use crate::told::{Answer, refused};
 use smithy_document::{JsonCodec, JsonDeserializer, JsonSerializer, json_is_lawful};
@@ -95,6 +96,20 @@ fn line_of_text(alloc: Global, text: &[u8]) -> Result<Vec<u8>, AllocError>
     Ok(line)
 }
 
+/// The JSON text of a structure's document, or the first rule of documents that it breaks. Takes memory.
+pub fn document_text(
+    alloc: Global,
+    schema: SchemaRef<'_>,
+    value: &StructValue<'_>,
+) -> Result<Blob, SerdeError>
+    ensures { MakesText (made_document (document_of (structure_of value.now))) result }
+{
+    let Ok(serializer) = json_serializer(alloc) else {
+        return Err(SerdeError::OutOfMemory);
+    };
+    struct_text(serializer, schema, value)
+}
+
 /// What is told of a structure that was read: the JSON text of its document and the end of the line, or the line of the
 /// first rule of documents that it breaks. Takes memory.
 pub fn document_told(
@@ -104,10 +119,7 @@ pub fn document_told(
 ) -> Result<Answer, JobError>
     ensures { Gives (shown_document (document_of (structure_of value.now))) result }
 {
-    let Ok(serializer) = json_serializer(alloc) else {
-        return Err(JobError::OutOfMemory);
-    };
-    match struct_text(serializer, schema, value) {
+    match document_text(alloc, schema, value) {
         Ok(text) => Ok(Answer::Output(line_of_text(alloc, text.as_slice())?)),
         Err(refusal) => refused(alloc, &refusal),
     }

@@ -1,7 +1,7 @@
 //! What follows from the contracts of this crate.
 
 ghost use Rattle.std.specs.Prelude.{◌≡◌, [], Some};
-ghost use Rattle.smithy_bind.specs.Alone.{LinesAreAlone};
+ghost use Rattle.smithy_bind.specs.Alone.{LinesAreAlone, RepliesAreAlone};
 ghost use Rattle.smithy_bind.specs.Verdicts.{ExplainIsExact};
 ghost use Rattle.smithy_bind.specs.Runs.{RanInMemory};
 
@@ -36,4 +36,11 @@ pub fn explain_is_exact()
 #[tactic(auto, using(crate::proofs::RequestedLemmas::each_alone))]
 pub fn each_line_is_alone()
     ensures { LinesAreAlone }
+{}
+
+/// The line of a response among many tells what `response` answers to any job that has the keys of its item, and else those of
+/// their job, with its model.
+#[tactic(auto, using(crate::proofs::ReplyLemmas::each_alone))]
+pub fn each_reply_is_alone()
+    ensures { RepliesAreAlone }
 {}

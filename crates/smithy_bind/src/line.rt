@@ -4,7 +4,7 @@ ghost use Rattle.json.specs.Token as token;
 ghost use Rattle.serde_json.specs.Data.{no_members};
 ghost use Rattle.smithy_document.specs.views.Printing.{Prints};
 ghost use Rattle.smithy_bind.specs.Lines.{base64_value, bytes_value, fault_value, header_value, request_members, with_status};
-ghost use Rattle.smithy_bind.specs.views.LineView.{data_tokens, headers_tokens, status_tokens, IsLineOf, WritesAnswer, WritesRefusal};
+ghost use Rattle.smithy_bind.specs.views.LineView.{data_tokens, headers_tokens, status_tokens, EndsWithLine, WritesAnswer, WritesRefusal};
 
 use crate::shown::refusal_words;
 use base64::engine::general_purpose::STANDARD;
@@ -13,9 +13,6 @@ use smithy_http::{Headers, Request};
 use smithy_serde::SerdeError;
 use smithy_types::OutOfMemory;
 use std::alloc::{AllocError, Global};
-
-// Room for most lines.
-const LINE_ROOM: usize = 512;
 
 // Bytes in base64 (RFC 4648).
 fn write_base64(alloc: Global, writer: &mut Writer, bytes: &[u8]) -> Result<(), AllocError>
@@ -63,8 +60,8 @@ fn write_headers(alloc: Global, writer: &mut Writer, headers: &Headers) -> Resul
     writer.end_array()
 }
 
-// The begin of an object, with a status.
-fn write_status(writer: &mut Writer, status: u64) -> Result<(), AllocError>
+/// The begin of an object, with a status. Takes memory.
+pub fn write_status(writer: &mut Writer, status: u64) -> Result<(), AllocError>
     ensures { Prints (status_tokens status) writer.old writer.new result }
 {
     writer.begin_object()?;
@@ -72,8 +69,8 @@ fn write_status(writer: &mut Writer, status: u64) -> Result<(), AllocError>
     writer.u64(status)
 }
 
-// A member with a text.
-fn write_text(writer: &mut Writer, name: &str, text: &str) -> Result<(), AllocError>
+/// A member with a text. Takes memory.
+pub fn write_text(writer: &mut Writer, name: &str, text: &str) -> Result<(), AllocError>
     ensures { Prints (token.key name.now ∷ token.string text.now ∷ []) writer.old writer.new result }
 {
     writer.key(name)?;
@@ -112,8 +109,8 @@ fn write_none(writer: &mut Writer) -> Result<(), AllocError>
     writer.end_object()
 }
 
-// A refusal, by the fault that it tells.
-fn write_refusal(
+/// A refusal, by the fault that it tells. Takes memory.
+pub fn write_refusal(
     alloc: Global,
     writer: &mut Writer,
     refusal: &SerdeError,
@@ -143,17 +140,18 @@ fn write_answer(
     }
 }
 
-/// The line of what came of an input: its request, the first fault, or nothing where the value has not the form of an input.
-/// Takes memory.
-pub fn answer_line(
+/// The lines, and behind them that of what came of an input: its request, the first fault, or nothing where the value has not the
+/// form of an input. Takes memory.
+pub fn with_line(
     alloc: Global,
+    lines: Vec<u8>,
     made: &Option<Result<Request, SerdeError>>,
 ) -> Result<Vec<u8>, OutOfMemory>
-    ensures { IfOk result (λ line. IsLineOf made.now line.items) }
+    ensures { IfOk result (λ more. EndsWithLine made.now lines.items more.items) }
 {
-    let mut writer = Writer::new(Vec::with_capacity(alloc, LINE_ROOM)?);
+    let mut writer = Writer::new(lines);
     write_answer(alloc, &mut writer, made)?;
-    let mut line = writer.into_inner();
-    line.push(b'\n')?;
-    Ok(line)
+    let mut lines = writer.into_inner();
+    lines.push(b'\n')?;
+    Ok(lines)
 }

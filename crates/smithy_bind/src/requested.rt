@@ -3,15 +3,15 @@ ghost use Rattle.smithy_json.specs.JsonView.{view};
 ghost use Rattle.smithy_bind.specs.Outcome.{json_bodies, requested_to};
 ghost use Rattle.smithy_bind.specs.views.AnswerView.{Gives};
 
-use crate::line::answer_line;
-use crate::sending::placed_by;
+use crate::line::with_line;
+use crate::sending::{HeaderColumn, placed_among, placed_by};
 use crate::told::Answer;
-use smithy_binding::{HttpBindingProtocol, checked_input};
+use smithy_binding::{HttpBindingProtocol, LowerHeaderNames, checked_input};
 use smithy_http::Request;
 use smithy_job::{Common, Inputs, inputs_of, read_common};
 use smithy_json::JsonValue;
 use smithy_model::JobError;
-use smithy_schema::Schemas;
+use smithy_schema::{SchemaExtension, Schemas};
 use smithy_serde::{Codec, SerdeError, StructValue, WriteList};
 use smithy_types::OutOfMemory;
 use std::alloc::Global;
@@ -30,7 +30,7 @@ impl<'v, 't> ReadOperation<'v, 't> {
     ghost use Rattle.smithy_serde.specs.StoredValues.{AreDefined, HasNode};
     ghost use Rattle.smithy_job.specs.Tables.{ReadsAs};
     ghost use Rattle.smithy_bind.specs.Requesting.{operation};
-    ghost use Rattle.smithy_bind.specs.views.RequestedView.{IsOperation, IsRead, MakesInput, MakesLines, PlacesInput, TellsInputs};
+    ghost use Rattle.smithy_bind.specs.views.RequestedView.{AddsLine, IsOperation, IsRead, MakesInput, MakesLines, PlacesInput, TellsInputs};
 
     /// The operation of a job, whose `input` or `inputs` are not looked at: its model, its name, the endpoint and the headers to be
     /// left out. Takes memory. No job where one of these has not its form, or where no request can be placed by the schema.
@@ -123,7 +123,63 @@ impl<'v, 't> ReadOperation<'v, 't> {
         }
     }
 
-    // The lines of inputs, by their writes.
+    // The same for one of many inputs, with a column of header names beside the model's table.
+    fn made_among<C: Codec>(
+        &self,
+        alloc: Global,
+        protocol: &HttpBindingProtocol<C>,
+        names: &mut HeaderColumn<'_>,
+        nodes: &Schemas,
+        writes: Option<WriteList>,
+    ) -> Option<Result<Request, SerdeError>>
+        requires lawful { C.lawful protocol.now.codec }
+        requires json { protocol.now.content_type ≡ codes "application/json" }
+        requires read { IsRead self.now }
+        requires node { HasNode nodes.now self.now.common.model.index.0 }
+        requires defined { IfSome writes (AreDefined nodes.now) }
+        requires beside { names.old.table ≡ self.now.common.model.table }
+        ensures made { MakesInput (C.text protocol.now.codec) self.now nodes.now writes result }
+        ensures beside { names.new.table ≡ self.now.common.model.table }
+    {
+        let Common { model, .. } = &self.common;
+        let Some(schema) = model.table.get(model.index) else {
+            unreachable!()
+        };
+        match writes {
+            Some(writes) => {
+                let input = StructValue::with_writes(nodes, model.index, writes);
+                let Common { endpoint, omit, .. } = &self.common;
+                Some(placed_among(alloc, protocol, names, schema, &input, endpoint, *omit))
+            }
+            None => None,
+        }
+    }
+
+    // The lines, and behind them that of one of many inputs, by its writes.
+    fn with_input<C: Codec>(
+        &self,
+        alloc: Global,
+        protocol: &HttpBindingProtocol<C>,
+        names: &mut HeaderColumn<'_>,
+        nodes: &Schemas,
+        writes: Option<WriteList>,
+        lines: Vec<u8>,
+    ) -> Result<Vec<u8>, OutOfMemory>
+        requires lawful { C.lawful protocol.now.codec }
+        requires json { protocol.now.content_type ≡ codes "application/json" }
+        requires read { IsRead self.now }
+        requires node { HasNode nodes.now self.now.common.model.index.0 }
+        requires defined { IfSome writes (AreDefined nodes.now) }
+        requires beside { names.old.table ≡ self.now.common.model.table }
+        ensures line { IfOk result
+            (AddsLine (C.text protocol.now.codec) self.now nodes.now writes lines) }
+        ensures beside { names.new.table ≡ self.now.common.model.table }
+    {
+        let made = self.made_among(alloc, protocol, names, nodes, writes);
+        with_line(alloc, lines, &made)
+    }
+
+    // The lines of inputs, by their writes. The names of their headers are put into lower case once.
     fn lines_of<C: Codec>(
         &self,
         alloc: Global,
@@ -138,12 +194,13 @@ impl<'v, 't> ReadOperation<'v, 't> {
         requires defined { AllByRecursion (λ w. IfSome w (AreDefined nodes.now)) each.items }
         ensures { IfOk result (MakesLines (C.text protocol.now.codec) self.now nodes.now each) }
     {
-        let mut text = Vec::new(alloc);
+        let provider = LowerHeaderNames::new(alloc);
+        let mut names = SchemaExtension::new(alloc, &self.common.model.table, provider)?;
+        let mut lines = Vec::new(alloc);
         for writes in each {
-            let made = self.made(alloc, protocol, nodes, writes);
-            text.extend_from_slice(answer_line(alloc, &made)?.as_slice())?;
+            lines = self.with_input(alloc, protocol, &mut names, nodes, writes, lines)?;
         }
-        Ok(text)
+        Ok(lines)
     }
 }
 

@@ -1,21 +1,22 @@
 // The command `route`: which operation a request is of, and its input.
-ghost use Rattle.std.specs.Prelude.{◌≡◌, [], option_map, IfOk};
+ghost use Rattle.std.specs.Prelude.{◌≡◌, find, map, option_map, OnOk};
 ghost use Rattle.smithy_json.specs.JsonView.{view};
-ghost use Rattle.smithy_job.specs.RoutingView.{operation_seen, operations_seen, routing_seen};
+ghost use Rattle.smithy_model.specs.Reads.{Reads};
+ghost use Rattle.smithy_job.specs.RoutingView.{operation_by, operation_seen};
 ghost use Rattle.smithy_bind.specs.Outcome.{json_requests, routed_to};
 ghost use Rattle.smithy_bind.specs.Recovering.{recovered_by};
 ghost use Rattle.smithy_bind.specs.Responding.{behind_name};
-ghost use Rattle.smithy_bind.specs.Routing.{are_checked, conflict, found_by, no_route, no_template, operation_found, operation_named, routed_by, told_input, with_operation, with_operations};
+ghost use Rattle.smithy_bind.specs.Routing.{conflict, no_route, no_template, operation_found, told_input, with_operation};
 ghost use Rattle.smithy_bind.specs.Told.{fault_line};
 ghost use Rattle.smithy_bind.specs.views.AnswerView.{Gives, outcome_view};
-ghost use Rattle.smithy_bind.specs.views.RoutedView.{text_seen, AddsRouteOf, GivesRoutes, IsLine, MakesRoutes, TellsWhy};
+ghost use Rattle.smithy_bind.specs.views.RoutedView.{added_seen, checked_by, is_named, routes_named, text_seen, told_by_added, told_by_routes, told_in_turn, told_named, with_more, AddsRouteOf, GivesRoutes, IsLine, TellsWhy};
 
 use crate::recovered::job_told;
 use crate::response::behind_name;
 use crate::told::Answer;
 use smithy_binding::checked_input;
 use smithy_http::Request;
-use smithy_job::{Operation, Routing, read_routing};
+use smithy_job::{NamedOperations, NamedRouting, Operation, read_named_routing};
 use smithy_json::JsonValue;
 use smithy_model::JobError;
 use smithy_router::{RouteError, Routes};
@@ -34,51 +35,91 @@ enum Refusal {
     OutOfMemory,
 }
 
+// The routes of operations, in order, up to the first that has none, and its line.
+#[derive(Drop)]
+struct Added {
+    routes: Routes,
+    line: Option<Vec<u8>>,
+}
+
 /// What is to be told of the request that a JSON value has, by the one of its operations whose route matches it best, with bodies
-/// of JSON (AWS restJson1). Takes memory. No job where it is none, or where no request can be placed by a schema of its operations.
+/// of JSON (AWS restJson1). Takes memory, for one operation at a time. No job where it is none, or where no request can be placed
+/// by a schema of its operations.
 #[tactic(auto, unfolding(crate::specs::Outcome::routed_to))]
 pub fn routed(alloc: Global, value: &JsonValue<'_>) -> Result<Answer, JobError>
     ensures { Gives (routed_to (view value.now)) result }
 {
-    routing_told(alloc, read_routing(alloc, value)?)
+    let job = read_named_routing(alloc, value)?;
+    routing_told(alloc, job)
 }
 
 // What is to be told of a request of many operations.
-#[tactic(auto, unfolding(crate::specs::Routing::routed_by))]
-fn routing_told(alloc: Global, job: Routing<'_>) -> Result<Answer, JobError>
-    ensures { Gives (routed_by json_requests (routing_seen job.entry)) result }
+#[tactic(auto, unfolding(crate::specs::views::RoutedView::told_in_turn))]
+fn routing_told(alloc: Global, job: NamedRouting<'_, '_>) -> Result<Answer, JobError>
+    ensures { Gives (told_in_turn json_requests job.entry) result }
 {
-    if !are_checked(alloc, job.operations.as_slice())? {
+    let added = routes_of(alloc, &job.operations)?;
+    added_told(alloc, added, job)
+}
+
+// What is to be told of a request by the routes that were added.
+#[tactic(auto, unfolding(crate::specs::views::RoutedView::told_by_added))]
+fn added_told(alloc: Global, added: Added, job: NamedRouting<'_, '_>) -> Result<Answer, JobError>
+    ensures { Gives (told_by_added json_requests job.entry (added_seen added)) result }
+{
+    let Added { routes, line } = added;
+    match line {
+        Some(line) => Ok(Answer::Fault(line)),
+        None => found_told(alloc, &routes, job),
+    }
+}
+
+// The operation that a text names. No job where it names none, or no request can be placed by its schema.
+fn checked_operation<'t>(
+    alloc: Global,
+    operations: &NamedOperations<'_, 't>,
+    name: &JsonValue<'t>,
+) -> Result<Operation<'t>, JobError>
+    ensures { Reads operation_seen (checked_by (operation_by operations.now) (view name.now)) result }
+{
+    let operation = operations.read(alloc, name)?;
+    if !checked_input(alloc, operation.schema())? {
         return Err(JobError::NoJob);
     }
-    match routes_of(alloc, job.operations.as_slice()) {
-        Ok(routes) => found_told(alloc, &routes, job),
-        Err(Refusal::Line(line)) => Ok(Answer::Fault(line)),
-        Err(Refusal::OutOfMemory) => Err(JobError::OutOfMemory),
-    }
+    Ok(operation)
 }
 
-// Whether a request can be placed by the schema of each operation.
-fn are_checked(alloc: Global, operations: &[Operation<'_>]) -> Result<bool, OutOfMemory>
-    ensures { IfOk result (λ b. b ≡ are_checked (operations_seen operations.now)) }
+// The routes of the operations, in order. No job where one is none, or no request can be placed by its schema.
+fn routes_of(alloc: Global, operations: &NamedOperations<'_, '_>) -> Result<Added, JobError>
+    ensures { Reads added_seen (routes_named operations.now) result }
 {
-    for operation in operations {
-        if !checked_input(alloc, operation.schema())? {
-            return Ok(false);
+    let names = operations.names;
+    let mut added = Added {
+        routes: Routes::new(alloc),
+        line: None,
+    };
+    for name in names {
+        let operation = checked_operation(alloc, operations, name)?;
+        add(alloc, &mut added, &operation)?;
+    }
+    Ok(added)
+}
+
+// Adds the route of an operation, where each one before it has one.
+fn add(alloc: Global, added: &mut Added, operation: &Operation<'_>) -> Result<(), OutOfMemory>
+    ensures { OnOk result (added_seen added.new ≡ with_more added.old operation.now) }
+{
+    if added.line.is_some() {
+        return Ok(());
+    }
+    match add_operation(alloc, &mut added.routes, operation) {
+        Ok(()) => Ok(()),
+        Err(Refusal::Line(line)) => {
+            added.line = Some(line);
+            Ok(())
         }
+        Err(Refusal::OutOfMemory) => Err(OutOfMemory),
     }
-    Ok(true)
-}
-
-// The routes of the operations, in order.
-fn routes_of(alloc: Global, operations: &[Operation<'_>]) -> Result<Routes, Refusal>
-    ensures { MakesRoutes (with_operations [] (operations_seen operations.now)) result }
-{
-    let mut routes = Routes::new(alloc);
-    for operation in operations {
-        add_operation(alloc, &mut routes, operation)?;
-    }
-    Ok(routes)
 }
 
 // Adds the route of an operation, or tells why it has none.
@@ -142,34 +183,53 @@ fn operation_found<'r>(routes: &'r Routes, request: &Request) -> Option<&'r str>
     routes.find(request.method(), request.uri())
 }
 
-// The first operation of this name.
-fn operation_named<'t>(all: Vec<Operation<'t>>, name: &str) -> Option<Operation<'t>>
-    ensures { option_map operation_seen result ≡ operation_named (operations_seen all.entry.items) name.now }
+// Whether a text is this name.
+fn is_named(text: &JsonValue<'_>, name: &str) -> bool
+    ensures { result ≡ is_named name.now (view text.now) }
 {
-    for operation in all {
-        if operation.name == name {
-            return Some(operation);
+    match text.as_str() {
+        Some(text) => text == name,
+        None => false,
+    }
+}
+
+// The first of these that is this name.
+fn text_named<'v, 't>(names: &'v [JsonValue<'t>], name: &str) -> Option<&'v JsonValue<'t>>
+    ensures { option_map (λ v. view v.now) result ≡ find (is_named name.now) (map view names.now) }
+{
+    for text in names {
+        if is_named(text, name) {
+            return Some(text);
         }
     }
     None
 }
 
 // What is to be told of a request by the operation that the routes lead to.
-fn found_told(alloc: Global, routes: &Routes, job: Routing<'_>) -> Result<Answer, JobError>
-    ensures { Gives (found_by json_requests (routing_seen job.entry) routes.now) result }
+#[tactic(auto, unfolding(crate::specs::views::RoutedView::told_by_routes, crate::specs::views::RoutedView::told_named))]
+fn found_told(alloc: Global, routes: &Routes, job: NamedRouting<'_, '_>) -> Result<Answer, JobError>
+    ensures { Gives (told_by_routes json_requests job.entry routes.now) result }
 {
-    let Routing {
-        operations,
-        request,
-        omit,
-    } = job;
-    let Some(name) = operation_found(routes, &request) else {
+    let Some(name) = operation_found(routes, &job.request) else {
         return not_found(alloc);
     };
-    match operation_named(operations, name) {
-        Some(operation) => input_told(alloc, operation, request, omit),
+    match text_named(job.operations.names, name) {
+        Some(text) => named_told(alloc, job, text),
         None => not_found(alloc),
     }
+}
+
+// What is to be told of a request by the operation that a text names, which is read again.
+#[tactic(auto, unfolding(crate::specs::views::RoutedView::told_named))]
+fn named_told<'t>(
+    alloc: Global,
+    job: NamedRouting<'_, 't>,
+    name: &JsonValue<'t>,
+) -> Result<Answer, JobError>
+    ensures { Gives (told_named json_requests job.entry (view name.now)) result }
+{
+    let operation = job.operations.read(alloc, name)?;
+    input_told(alloc, operation, job.request, job.omit)
 }
 
 // What is told where no route matches.

@@ -5,7 +5,7 @@ ghost use Rattle.smithy_schema.specs.References.{schema_of};
 ghost use Rattle.smithy_serde.specs.StructValues.{members_of};
 ghost use Rattle.smithy_binding.specs.Checked.{checked_input as checked};
 ghost use Rattle.smithy_bind.specs.Outcome.{json_bodies, sent_by, sent_job};
-ghost use Rattle.smithy_bind.specs.views.AnswerView.{Gives, Sends, IsPlaced, IsPosted};
+ghost use Rattle.smithy_bind.specs.views.AnswerView.{Gives, Sends, IsPlaced, IsPosted, IsStructPlaced};
 
 use crate::told::{Answer, told};
 use smithy_binding::{HttpBindingProtocol, HttpRpcProtocol, LowerHeaderNames, checked_input};
@@ -15,7 +15,11 @@ use smithy_json::JsonValue;
 use smithy_model::JobError;
 use smithy_schema::{SchemaExtension, SchemaRef};
 use smithy_serde::{Codec, OmitFlags, SerdeError, StructValue};
+use smithy_types::Text;
 use std::alloc::Global;
+
+/// The names of headers in lower case, beside a table.
+pub type HeaderColumn<'t> = SchemaExtension<'t, Option<Text>, LowerHeaderNames>;
 
 /// What is to be told of the job that a JSON value is. Takes memory. No job where it is none, or where its input can't be sent by
 /// its schema. Condition: the codec, which writes the body, is lawful.
@@ -85,11 +89,7 @@ pub fn placed<C: Codec + Drop>(
     ensures { IsPlaced (C.text codec) schema.entry (members_of input.now) endpoint.now omit result }
 {
     let protocol = HttpBindingProtocol::rest_json(codec);
-    let Some(table) = schema.table() else {
-        return protocol.serialize_request(alloc, input, schema, endpoint, omit);
-    };
-    let mut names = SchemaExtension::new(alloc, table, LowerHeaderNames::new(alloc))?;
-    protocol.serialize_request_cached(alloc, input, schema, endpoint, omit, &mut names)
+    placed_by(alloc, &protocol, schema, input, endpoint, omit)
 }
 
 /// The same by a protocol of bodies of JSON, whose codec is lawful.
@@ -107,6 +107,26 @@ pub fn placed_by<C: Codec>(
     ensures { IsPlaced (C.text protocol.now.codec) schema.entry (members_of input.now) endpoint.now omit result }
 {
     protocol.serialize_request(alloc, input, schema, endpoint, omit)
+}
+
+/// The same for one of many inputs, with a column of the header names in lower case, which is beside the schema's table.
+pub fn placed_among<C: Codec>(
+    alloc: Global,
+    protocol: &HttpBindingProtocol<C>,
+    names: &mut HeaderColumn<'_>,
+    schema: SchemaRef<'_>,
+    input: &StructValue<'_>,
+    endpoint: &str,
+    omit: OmitFlags,
+) -> Result<Request, SerdeError>
+    requires checked { IsTrue (checked (schema_of schema)) }
+    requires lawful { C.lawful protocol.now.codec }
+    requires json { protocol.now.content_type ≡ codes "application/json" }
+    requires beside { names.old.table ≡ (schema_of schema).table }
+    ensures placed { IsStructPlaced (C.text protocol.now.codec) schema.entry input.now endpoint.now omit result }
+    ensures beside { names.new.table ≡ (schema_of schema.entry).table }
+{
+    protocol.serialize_request_cached(alloc, input, schema, endpoint, omit, names)
 }
 
 // The request of an input that is posted whole, as a body of JSON by a codec, or its first fault.

@@ -10,6 +10,7 @@ Usage: smithy_bind request < JOB
        smithy_bind requests < JOB
        smithy_bind rpc < JOB
        smithy_bind response < JOB
+       smithy_bind responses < JOB
        smithy_bind recover < JOB
        smithy_bind route < JOB
        smithy_bind gateway < JOB
@@ -30,6 +31,9 @@ or that the value is no input. The model is read and checked once.
 `response` reads a job with a response, and writes the value of the
 operation's output, or of an error, as one line of JSON. Where the response
 can't be read, it writes one line that says why.
+`responses` reads a job with many responses of one model, and writes one line of
+JSON for each, in order: its value, the line that says why it can't be read, or
+that it is no job alone.
 `recover` reads a job with a request, and writes the input that has it, in
 normal form, as one line of JSON. Where no input has it, as where a text is
 spelled otherwise than `request` does, it writes one line that says so.
@@ -95,6 +99,9 @@ A job of `response` has also:
              errors, in which a code is looked for behind the operation's
   policy     optional, `reject` or `skip`: whether a header that isn't UTF-8
              is refused, or its member left out
+A job of `responses` has also:
+  responses  an array of objects with such keys, and with `operation`; where one
+             lacks a key, it has the job's
 Other keys are passed over.
 
 A value of `input` has the JSON form of its member's shape: a truth value; a

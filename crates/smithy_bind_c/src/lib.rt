@@ -52,6 +52,21 @@ pub extern "C" fn smithy_bind_response(
     answer_into(alloc, Command::Response, job, text, text_len)
 }
 
+/// The values that a job's responses hand out, a line of JSON for each, with the value, the line of the first refusal, or that there is
+/// no job of it alone: the text that the program's command `responses` writes. What it answers and leaves is as `smithy_bind_request`
+/// says. Takes memory.
+#[unsafe(no_mangle)]
+pub extern "C" fn smithy_bind_responses(
+    alloc: Global,
+    job: &[u8],
+    text: &mut [u8],
+    text_len: &mut usize,
+) -> u8
+    ensures { Answers Command.Responses job.now result text_len.new text.old text.new }
+{
+    answer_into(alloc, Command::Responses, job, text, text_len)
+}
+
 /// The `POST` of a job's whole input as a body of JSON, or the line of its first fault: the text that the program's
 /// command `rpc` writes. What it answers and leaves is as `smithy_bind_request` says. Takes memory.
 #[unsafe(no_mangle)]
@@ -192,6 +207,26 @@ pub extern "C" fn smithy_bind_explain_response(
     answer_into(
         alloc,
         Command::Explain(JobKind::Response),
+        job,
+        text,
+        text_len,
+    )
+}
+
+/// The same of the command `responses`: the line that `explain responses` writes. What it answers and leaves is as
+/// `smithy_bind_request` says. Takes memory.
+#[unsafe(no_mangle)]
+pub extern "C" fn smithy_bind_explain_responses(
+    alloc: Global,
+    job: &[u8],
+    text: &mut [u8],
+    text_len: &mut usize,
+) -> u8
+    ensures { Answers (Command.Explain JobKind.Responses) job.now result text_len.new text.old text.new }
+{
+    answer_into(
+        alloc,
+        Command::Explain(JobKind::Responses),
         job,
         text,
         text_len,

@@ -9,6 +9,7 @@ pub mod Gather
 pub mod KeptWrites
 pub mod LabelTexts
 pub mod LeftTemplates
+pub mod Marks
 pub mod NamesAtHand
 pub mod PayloadKinds
 pub mod Placed

@@ -118,6 +118,7 @@ fn unbound_form(has_unbound: bool) -> BodyForm
 
 /// What the body of a message by this schema is. Linear in the number of members; takes no memory.
 #[tactic(auto, using(crate::proofs::PayloadMembers::finding_payload, crate::proofs::UnboundMembers::finding_unbound))]
+#[inline]
 pub fn body_form(schema: DirectedSchema<'_>) -> BodyForm
     ensures { result ≡ form_in (directed_of schema.entry) }
 {

@@ -37,6 +37,7 @@ impl<'t, 'w> BodyWrites<'t, 'w> {
     }
 
     /// Keeps a write of a member with this binding: each of an unbound member, and the first of the payload. Takes memory.
+    #[inline(always)]
     pub fn keep(
         &mut self,
         member: DirectedSchema<'t>,

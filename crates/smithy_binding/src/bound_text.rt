@@ -41,6 +41,7 @@ fn format_at(table: &Schemas, node: SchemaIndex) -> Option<TimestampFormat>
 }
 
 // The text of a scalar. Of the values that a binding takes, only a time may have none.
+#[inline(always)]
 fn text_or_no_year<'w>(
     alloc: Global,
     format: Option<TimestampFormat>,
@@ -61,6 +62,7 @@ fn text_or_no_year<'w>(
 /// The text of a scalar at a place, by the time format and the media type of its member; the value's own text, borrowed,
 /// where it stands ready. `Custom` for a time whose year is not in the calendar of its format. Takes memory for a text
 /// that is made.
+#[inline(always)]
 pub fn text_of<'w>(
     alloc: Global,
     member: SchemaRef<'_>,

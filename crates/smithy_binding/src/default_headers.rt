@@ -66,6 +66,7 @@ fn add_length(
 
 /// Adds the content type where the body is the codec's (RFC 7231, section 3.1.1.5), and the length where it is or has
 /// bytes (RFC 7230, section 3.3.2), each unless it is to be left out or such a name stands. Takes memory.
+#[inline(always)]
 pub fn add_defaults(
     alloc: Global,
     headers: &mut Headers,

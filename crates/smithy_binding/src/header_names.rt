@@ -34,8 +34,12 @@ pub struct LowerHeaderNames {
 }
 
 impl LowerHeaderNames {
-    /// The names are kept in memory of this allocator. Takes none itself.
-    pub fn new(alloc: Global) -> LowerHeaderNames {
+    ghost use Rattle.smithy_binding.specs.HeaderNames.{GivesHeaderNames};
+
+    /// It gives of each node its header's name in lower case, None without one, in memory of this allocator. Takes none itself.
+    pub fn new(alloc: Global) -> LowerHeaderNames
+        ensures { GivesHeaderNames ⟦<LowerHeaderNames as Provider<Option<Text>>>⟧.gives result }
+    {
         LowerHeaderNames { alloc }
     }
 }

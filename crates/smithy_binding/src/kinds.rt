@@ -8,6 +8,7 @@ use crate::direction::DirectedSchema;
 use smithy_serde::ShapeValue;
 
 /// Whether the value may be written to the member: one of its kind, or a null to an unbound one.
+#[inline(always)]
 pub fn fits_member(member: DirectedSchema<'_>, value: &ShapeValue) -> bool
     ensures { (t : Table) → result ≡ fits_member (directed_of member.entry) (value_in t value.now) }
 {

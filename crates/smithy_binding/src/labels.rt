@@ -72,6 +72,7 @@ fn first_text<'l>(labels: &'l [Label<'l, 'l>], name: &str) -> Option<&'l str>
 
 /// The text under a name.
 #[tactic(auto, unfolding(crate::specs::views::LabelTexts::text_in_map))]
+#[inline(always)]
 pub fn text_of_label<'l>(texts: &LabelTexts<'l>, name: &'l str) -> Option<&'l str>
     ensures { option_map (λ t. t.now) result ≡ text_under texts.now name.now }
 {

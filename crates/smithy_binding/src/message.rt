@@ -40,7 +40,7 @@ pub struct Message<'t, 'w> {
 
 /// The message of the writes, whose nodes are those of the table; `serializer` writes the body. Refused with the first
 /// fault of the writes in order, and then of the body's document. Takes memory.
-#[inline]
+#[inline(always)]
 pub fn place_message<'t, 'w, S: FinishSerializer + Drop, N: HeaderNames>(
     alloc: Global,
     names: &mut N,

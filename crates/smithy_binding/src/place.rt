@@ -16,7 +16,7 @@ use crate::refusal::{not_legal, too_long};
 use crate::target::whole_target;
 use crate::template_rest::TemplateRest;
 use crate::uri_template::UriTemplate;
-use smithy_http::{Headers, Request};
+use smithy_http::{Headers, HttpError, Request};
 use smithy_schema::{SchemaRef, Schemas};
 use smithy_serde::{
     FinishSerializer, OmitFlags, SerdeError, SerializableStruct, WriteList, record_members,
@@ -72,6 +72,7 @@ pub fn endpoint_or_slash(endpoint: &str) -> &str
 
 /// The request of these parts. `Custom` where the target is longer than 65,534 bytes, and else where it is not legal (RFC
 /// 7230, section 5.3). Takes memory. Condition: the method is a token.
+#[inline(always)]
 pub fn request_with(
     alloc: Global,
     method: &str,
@@ -85,10 +86,10 @@ pub fn request_with(
     if target.len() > MAX_TARGET_LEN {
         return Err(too_long(alloc));
     }
-    let method = Text::from_str(alloc, method)?;
-    match Request::from_parts(method, Text::from_string(target), headers, body) {
+    match Request::with_method(alloc, method, Text::from_string(target), headers, body) {
         Ok(request) => Ok(request),
-        Err(_) => Err(not_legal(alloc)),
+        Err(HttpError::Target) => Err(not_legal(alloc)),
+        Err(_) => Err(SerdeError::OutOfMemory),
     }
 }
 

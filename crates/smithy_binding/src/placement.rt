@@ -1,11 +1,11 @@
 // What the writes put into a message, one by one.
-ghost use Rattle.std.specs.Prelude.{◌≡◌, IsTrue, IfOk, IfErr, OnOk, None, true, false, slice_index_or, slice_set};
+ghost use Rattle.std.specs.Prelude.{◌≡◌, IsTrue, IfOk, IfErr, OnOk, None};
 ghost use Rattle.smithy_binding.specs.Words.{list_all, Table, members_of, to_header, to_label, binding_of, schema_of, binding_shown, fits_member, value_in, AreDefined, HasNode};
 ghost use Rattle.smithy_binding.specs.Faults.{item_fault, is_placed_at};
 ghost use Rattle.smithy_binding.specs.views.Directed.{directed_of};
 ghost use Rattle.smithy_binding.specs.views.Gather.{nothing_yet};
 ghost use Rattle.smithy_binding.specs.HeaderNames.{HasNameAt};
-ghost use Rattle.smithy_binding.specs.views.NamesAtHand.{HasOwnName, IsMemberAt, SeenHaveNames, WriteHasName, WritesHaveNames};
+ghost use Rattle.smithy_binding.specs.views.NamesAtHand.{HasOwnName, IsMemberAt, MarkedHaveNames, WriteHasName, WritesHaveNames};
 ghost use Rattle.smithy_binding.specs.views.KeptWrites.{IsEmpty, IsKeptDefined, KeepsDefined};
 ghost use Rattle.smithy_binding.specs.views.Placed.{has_placed_kind, is_text_member, is_list_binding, takes_map, first_fault, IsSingle};
 ghost use Rattle.smithy_binding.specs.Refusing.{Reports};
@@ -24,6 +24,7 @@ use crate::header_names::{HeaderNames, put_named};
 use crate::kinds::fits_member;
 use crate::labels::Label;
 use crate::maps::{push_entries, put_entries, test_map};
+use crate::marks::Marks;
 use crate::refusal::{no_status, unknown_member, wrong_kind};
 use crate::resolve::resolve;
 use crate::target::push_pair;
@@ -38,7 +39,7 @@ use std::borrow::CowStr;
 #[derive(Drop)]
 pub struct MessageParts<'t, 'w> {
     /// By position, the members that are written.
-    pub seen: Vec<bool>,
+    pub seen: Marks,
     pub headers: Headers,
     /// Each pair behind a `&`.
     pub query: String,
@@ -52,7 +53,7 @@ impl<'t, 'w> MessageParts<'t, 'w> {
         ensures gathered { IfOk result (λ p. gathered_of p ≡ nothing_yet (schema_of schema.entry)) }
         ensures body { IfOk result (λ p. IsEmpty p.body) }
     {
-        let seen = vec![in alloc; false; schema.members().len()]?;
+        let seen = Marks::new(alloc, schema.members().len())?;
         Ok(MessageParts {
             seen,
             headers: Headers::new(alloc),
@@ -60,20 +61,6 @@ impl<'t, 'w> MessageParts<'t, 'w> {
             labels: Vec::new(alloc),
             body: BodyWrites::new(alloc),
         })
-    }
-}
-
-fn is_seen(seen: &[bool], position: usize) -> bool
-    ensures { result ≡ slice_index_or seen.now position false }
-{
-    seen.get(position).copied().unwrap_or(false)
-}
-
-fn mark(seen: &mut Vec<bool>, position: usize)
-    ensures { seen.new.items ≡ slice_set seen.old.items position true }
-{
-    if position < seen.len() {
-        seen[position] = true;
     }
 }
 
@@ -188,6 +175,7 @@ fn add_list<'t, N: HeaderNames>(
 }
 
 // Puts the first write of a map.
+#[inline(always)]
 fn add_map<'t>(
     alloc: Global,
     schema: DirectedSchema<'_>,
@@ -257,6 +245,7 @@ fn test_status(alloc: Global, value: &ShapeValue) -> Result<(), SerdeError>
 }
 
 // Tests the first write of a member with this binding, where the message is a response: its code is a status.
+#[inline(always)]
 fn test_code(
     alloc: Global,
     way: Direction,
@@ -280,6 +269,7 @@ fn test_code(
 }
 
 // Puts a write of the member at this position.
+#[inline(always)]
 fn add_resolved<'t, 'w, N: HeaderNames>(
     alloc: Global,
     names: &mut N,
@@ -293,13 +283,12 @@ fn add_resolved<'t, 'w, N: HeaderNames>(
     requires kind { IsTrue (has_placed_kind (directed_of member)) }
     requires member { IsMemberAt schema position member }
     requires serves { N.serves names.old (schema_of schema.schema).table }
-    requires seen { SeenHaveNames (N.has names.old) (directed_of schema) parts.old.seen.items }
+    requires seen { MarkedHaveNames (N.has names.old) schema parts.old.seen }
     ensures added { AddsMember
         schema.entry table.now member.entry position value.now parts.old parts.new result }
     ensures defined { OnOk result (KeepsDefined table.now value.now parts.old.body parts.new.body) }
     ensures kept { N.keeps names.old names.new }
-    ensures seen { OnOk result
-        (SeenHaveNames (N.has names.new) (directed_of schema.entry) parts.new.seen.items) }
+    ensures seen { OnOk result (MarkedHaveNames (N.has names.new) schema.entry parts.new.seen) }
     ensures named { OnOk result (HasNameAt (N.has names.new) (directed_of schema.entry) position) }
 {
     if !fits_member(member, value) {
@@ -307,10 +296,10 @@ fn add_resolved<'t, 'w, N: HeaderNames>(
     }
     let binding = binding_of(member);
     parts.body.keep(member, binding, value)?;
-    if is_seen(parts.seen.as_slice(), position) {
+    if parts.seen.is_marked(position) {
         return Ok(());
     }
-    mark(&mut parts.seen, position);
+    parts.seen.mark(position);
     if !is_placed(binding) {
         return Ok(());
     }
@@ -320,6 +309,7 @@ fn add_resolved<'t, 'w, N: HeaderNames>(
 
 // Puts a write of this node.
 #[tactic(auto, unfolding(crate::specs::views::Gather::gather_one))]
+#[inline(always)]
 fn add_write<'t, 'w, N: HeaderNames>(
     alloc: Global,
     names: &mut N,
@@ -332,13 +322,12 @@ fn add_write<'t, 'w, N: HeaderNames>(
     requires kinds { IsTrue (list_all has_placed_kind (members_of (directed_of schema))) }
     requires defined { HasNode table.now node.0 }
     requires serves { N.serves names.old (schema_of schema.schema).table }
-    requires seen { SeenHaveNames (N.has names.old) (directed_of schema) parts.old.seen.items }
+    requires seen { MarkedHaveNames (N.has names.old) schema parts.old.seen }
     ensures added { AddsWrite
         schema.entry table.now node.0 value.now parts.old parts.new result }
     ensures defined { OnOk result (KeepsDefined table.now value.now parts.old.body parts.new.body) }
     ensures kept { N.keeps names.old names.new }
-    ensures seen { OnOk result
-        (SeenHaveNames (N.has names.new) (directed_of schema.entry) parts.new.seen.items) }
+    ensures seen { OnOk result (MarkedHaveNames (N.has names.new) schema.entry parts.new.seen) }
     ensures named { OnOk result (WriteHasName (N.has names.new) schema.entry table.now node.0 value.now) }
 {
     let Some(written) = table.get(node) else {
@@ -351,6 +340,7 @@ fn add_write<'t, 'w, N: HeaderNames>(
 }
 
 /// Puts the writes, whose nodes are those of the table, into the message, in which nothing is yet.
+#[inline(always)]
 pub fn gather_writes<'t, 'w, N: HeaderNames>(
     alloc: Global,
     names: &mut N,

@@ -129,6 +129,7 @@ fn fill_by<'l>(
 }
 
 // The template with the text of each hole, which the labels have by its name.
+#[inline(always)]
 fn fill<'l>(
     alloc: Global,
     template: TemplateRest<'l>,
@@ -143,6 +144,7 @@ fn fill<'l>(
 }
 
 /// Adds a pair behind a `&`, both sides escaped (Smithy, HTTP protocol bindings, httpQuery).
+#[inline(always)]
 pub fn push_pair(query: &mut String, name: &str, text: &str) -> Result<(), OutOfMemory>
     ensures { OnOk result
         (string_bytes query.new ≡ string_bytes query.old ++ one_query name.now text.now) }
@@ -187,6 +189,7 @@ fn push_query(path: &mut String, query: &str) -> Result<(), OutOfMemory>
 ///
 /// `InvalidInput` at the first hole without a non-empty text, and else `Custom` where the template goes past 65,534
 /// bytes by a hole. Takes memory: of labels no more than that and one text.
+#[inline(always)]
 pub fn whole_target<'l>(
     alloc: Global,
     template: UriTemplate<'l>,

@@ -1,12 +1,11 @@
 -- Readers of documents, as they are seen.
 use Rattle.std.specs.Prelude.{option_map}
-use Rattle.smithy_document.proofs.Common.{◌≡◌, Bool, true, false, List, [], ◌∷◌, ◌++◌, map, Option, Some, None, Result, Ok, Err, inl, inr, refl, sym, ap, IfSome, OnErr, is_none, Document, Schema, scalar_of_document, SerdeError, Group, ReadScalar, Held, Answer, IsAnswer, is_null_document, is_null_held, read_scalar, elements, entries, fields, Gives, Answered, NotOpened, Reads, scalar_of_read, read_at, type_of, IsRefusal, only_if, spot_list, seen, refusing, Opened, frame_of, reading, at_path, Coercions, ReadsBy}
+use Rattle.smithy_document.proofs.Common.{◌≡◌, ℕ, Bool, true, false, List, [], ◌∷◌, ◌++◌, map, Option, Some, None, Result, Ok, Err, inl, inr, refl, sym, ap, IfSome, OnErr, is_none, Document, Schema, scalar_of_document, SerdeError, InvalidInput, Group, ReadScalar, Held, Answer, IsAnswer, is_null_document, is_null_held, read_scalar, elements, entries, fields, Gives, Answered, NotOpened, Reads, scalar_of_read, read_at, type_of, IsRefusal, only_if, spot_list, seen, refusing, Opened, frame_of, reading, at_path, Coercions, ReadsBy}
 use Rattle.smithy_serde.specs.declared.scalar.Group.TheVariants as group
 use Rattle.smithy_serde.specs.declared.read_scalar.ScalarKind.{ScalarKind}
 use Rattle.smithy_serde.specs.Held as held
 use Rattle.smithy_serde.specs.ReadCalls.{Frame}
 use Rattle.smithy_document.specs.declared.cursor.Cursor.{Cursor}
-use Rattle.smithy_document.specs.JsonHeld.{not_json}
 use Rattle.smithy_document.specs.views.Paths.{opened_along}
 
 pub read_gives : (k : ScalarKind) (node : Schema) (d : Document) (r : Result ReadScalar SerdeError)
@@ -56,22 +55,22 @@ pub null_told : (tells : Bool) (d : Document) (b : Bool) → b ≡ is_null_docum
 null_told true d b h = h
 null_told false d b h = tt
 
--- ---- over what is no JSON
+-- ---- where each read is refused
 
-pub refused_read : (k : ScalarKind) (node : Schema) (e : SerdeError) → IsRefusal not_json e → Reads {A = ReadScalar} scalar_of_read k node refusing refusing (Err e)
+pub refused_read : (k : ScalarKind) (node : Schema) (text : List ℕ) (e : SerdeError) → IsRefusal (InvalidInput text) e → Reads {A = ReadScalar} scalar_of_read k node (refusing text) (refusing text) (Err e)
 unfolding read_scalar
-refused_read k node e h = record { opened = refl; levels = refl; of_kind = tt; gives = h }
+refused_read k node text e h = record { opened = refl; levels = refl; of_kind = tt; gives = h }
 
-pub refused_open : (g : Group) (node : Schema) (e : SerdeError) → IsRefusal not_json e → NotOpened g node refusing refusing e
+pub refused_open : (g : Group) (node : Schema) (text : List ℕ) (e : SerdeError) → IsRefusal (InvalidInput text) e → NotOpened g node (refusing text) (refusing text) e
 unfolding elements entries fields
-refused_open g node e (inr memory) = record { opened = refl; levels = refl; refused = inl memory }
-refused_open group.List node e (inl is) = record { opened = refl; levels = refl; refused = inr record { none_left = refl; ended = ap (λ (x : SerdeError). Some x) (sym is) } }
-refused_open group.Map node e (inl is) = record { opened = refl; levels = refl; refused = inr record { none_left = refl; ended = ap (λ (x : SerdeError). Some x) (sym is) } }
-refused_open group.Structure node e (inl is) = record { opened = refl; levels = refl; refused = inr record { none_left = refl; ended = ap (λ (x : SerdeError). Some x) (sym is) } }
+refused_open g node text e (inr memory) = record { opened = refl; levels = refl; refused = inl memory }
+refused_open group.List node text e (inl is) = record { opened = refl; levels = refl; refused = inr record { none_left = refl; ended = ap (λ (x : SerdeError). Some x) (sym is) } }
+refused_open group.Map node text e (inl is) = record { opened = refl; levels = refl; refused = inr record { none_left = refl; ended = ap (λ (x : SerdeError). Some x) (sym is) } }
+refused_open group.Structure node text e (inl is) = record { opened = refl; levels = refl; refused = inr record { none_left = refl; ended = ap (λ (x : SerdeError). Some x) (sym is) } }
 
 none_before : (frame : Frame) (below above : List Frame) → [] ≡ above ++ (frame ∷ below) → ⊥
 none_before frame below [] is = cc is
 none_before frame below (f ∷ above) is = cc is
 
-pub refused_answered : (refusal : SerdeError) → Answered refusal refusing refusing refusal
-refused_answered refusal = record { opened = refl; settled = λ above below frame form is. absurd (none_before frame below above is) }
+pub refused_answered : (text : List ℕ) (refusal : SerdeError) → Answered refusal (refusing text) (refusing text) refusal
+refused_answered text refusal = record { opened = refl; settled = λ above below frame form is. absurd (none_before frame below above is) }

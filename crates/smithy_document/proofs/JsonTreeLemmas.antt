@@ -28,13 +28,13 @@ Texts = List (List ℕ)
 abbrev IsNodeOf : JsonValue → Node → Texts → Type 0
 IsNodeOf value n texts = IsFound (of_data (view value)) (λ ts. node_view ts n) texts
 
-node_null : (ts : Texts) → node_view ts Null ≡ doc.null
+pub node_null : (ts : Texts) → node_view ts Null ≡ doc.null
 node_null ts = search (rules, the_lemmas)
 
-node_bool : (ts : Texts) (b : Bool) → node_view ts (TheBool b) ≡ doc.boolean b
+pub node_bool : (ts : Texts) (b : Bool) → node_view ts (TheBool b) ≡ doc.boolean b
 node_bool ts b = search (rules, the_lemmas)
 
-node_number : (ts : Texts) (n : Number) → node_view ts (TheNumber n) ≡ doc.number (number_view n)
+pub node_number : (ts : Texts) (n : Number) → node_view ts (TheNumber n) ≡ doc.number (number_view n)
 node_number ts n = search (rules, the_lemmas)
 
 value_null : view json.Null ≡ parsed.null

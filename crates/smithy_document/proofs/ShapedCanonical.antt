@@ -10,7 +10,7 @@ use Rattle.smithy_document.proofs.OrderedPairs.{Pairs, Beside, Aligned}
 abbrev Canonical : Option Schema → Value → Type 0
 Canonical here v = (d : Document) → is_shaped here v ≡ true → document_of v ≡ Ok d → is_canonical d ≡ true
 
-number_canonical : (z : ℤ) → is_canonical_number (number_of z) ≡ true
+pub number_canonical : (z : ℤ) → is_canonical_number (number_of z) ≡ true
 number_canonical (pos n) = refl
 number_canonical (negsuc n) = refl
 
@@ -42,7 +42,7 @@ elements_canonical element (write l v ws) ds each shaped e =
 abbrev HasCanonical : Beside Value Document
 HasCanonical name s d = is_canonical d ≡ true
 
-put_canonical : (k : List ℕ) (d : Document) (ms : Members) → is_canonical d ≡ true → are_canonical_members ms ≡ true → are_canonical_members (put k d ms) ≡ true
+pub put_canonical : (k : List ℕ) (d : Document) (ms : Members) → is_canonical d ≡ true → are_canonical_members ms ≡ true → are_canonical_members (put k d ms) ≡ true
 put_canonical k d doc.no_members one all = and_from (is_canonical d) true one refl
 put_canonical k d (doc.member l x ms) one all = go (slice_cmp nat_cmp k l) (put_canonical k d ms one parts.1)
   where

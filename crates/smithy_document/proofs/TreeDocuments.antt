@@ -60,7 +60,7 @@ put_all_fields texts done all fs i past h = rw (drop_of_length-le fs past) at h
 
 -- ---- texts that grow
 
-abbrev Texts : Type 0
+abbrev pub Texts : Type 0
 Texts = List (List ℕ)
 
 pub grows_not : (old new : Texts) → new ≡ old → Grows old new

@@ -1,6 +1,7 @@
 pub mod BuildingView
 pub mod CursorView
 pub mod DocumentHand
+pub mod DocumentTree
 pub mod Finished
 pub mod Frames
 pub mod JsonFields

@@ -1,36 +1,86 @@
 // A reader of JSON.
 ghost use Rattle.std.specs.Prelude.{◌≡◌, IfOk, IsTrue};
-ghost use Rattle.smithy_document.specs.Words.{IsRefusal, is_of_kind, scalar_of_read};
+ghost use Rattle.smithy_document.specs.Words.{IsRefusal, InvalidInput, is_of_kind, scalar_of_read};
 ghost use Rattle.smithy_document.specs.InOrder.{is_read};
-ghost use Rattle.smithy_document.specs.views.JsonTree.{is_tree_read};
-ghost use Rattle.smithy_document.specs.JsonHeld.{not_json};
-ghost use Rattle.smithy_document.specs.views.JsonTree.{node_view};
+ghost use Rattle.smithy_document.specs.views.JsonTree.{is_body_read, node_view};
 ghost use Rattle.smithy_document.specs.SettingsReads.{ReadsPlain};
 
+use crate::document_tree::tree_of;
 use crate::json_tree::{JsonTree, Node};
 use crate::json_tree_cursor::TreeCursor;
 use crate::json_tree_documents::document_of;
+use crate::json_tree_reading::read_tree;
 use crate::scalar_reads::read_as;
 use smithy_schema::SchemaRef;
 use smithy_serde::{Group, ReadScalar, ScalarKind, SerdeError, ShapeDeserializer};
-use smithy_types::{NoSettings, Text};
+use smithy_types::{Document, NoSettings, OutOfMemory, Text};
 use std::alloc::Global;
 
-/// Reads a JSON text as `DocumentShapeDeserializer` reads its document. Over what is no JSON, or has a float in it, each
-/// read and each opening is refused with `InvalidInput`. A read leaves the value at hand.
+/// Reads a JSON text as `DocumentShapeDeserializer` reads its document, and owns what it reads. Over what is no JSON, or
+/// has a float in it, each read and each opening is refused with `InvalidInput`. A read leaves the value at hand.
 #[derive(Drop)]
 pub struct JsonDeserializer {
-    pub(crate) tree: Option<JsonTree>,
+    // What is read, or the text of the refusal that each read answers.
+    pub(crate) tree: Result<JsonTree, Text>,
     pub(crate) cursor: TreeCursor,
-    ghost read: { IsTrue (is_tree_read tree) },
+    ghost read: { IsTrue (is_body_read tree) },
 }
 
-// The refusal of what is no JSON.
+impl JsonDeserializer {
+    ghost use Rattle.std.specs.Prelude.{◌≡◌, Some, IfOk, IfErr, IsTrue};
+    ghost use Rattle.smithy_serde.specs.Held as held;
+    ghost use Rattle.smithy_document.specs.Words.{view, is_canonical, Begins, InvalidInput, OutOfMemory as no_memory};
+    ghost use Rattle.smithy_document.specs.JsonHeld.{json_held};
+    ghost use Rattle.smithy_document.specs.views.JsonTree.{is_body_read};
+    ghost use Rattle.smithy_document.specs.views.JsonHand.{body_held, hand};
+
+    // A reader of a tree, or one that refuses, in which nothing is open.
+    fn new(alloc: Global, tree: Result<JsonTree, Text>) -> JsonDeserializer
+        requires { IsTrue (is_body_read tree) }
+        ensures { Begins (Some (body_held tree)) (hand result) }
+    {
+        JsonDeserializer {
+            tree,
+            cursor: TreeCursor::new(alloc),
+        }
+    }
+
+    // A reader of a JSON text.
+    pub(crate) fn of_text(alloc: Global, text: &[u8]) -> Result<JsonDeserializer, SerdeError>
+        ensures begins { IfOk result (λ r. Begins (json_held text.now) (hand r)) }
+        ensures memory { IfErr result (λ e. e ≡ no_memory) }
+    {
+        let tree = match read_tree(alloc, text)? {
+            Some(tree) => Ok(tree),
+            None => Err(Text::from_str(alloc, "body is not JSON")?),
+        };
+        Ok(JsonDeserializer::new(alloc, tree))
+    }
+
+    /// A reader of a document, in which nothing is open. Condition: the document is canonical. Takes memory for a copy of the
+    /// document.
+    pub fn of_document(alloc: Global, document: &Document) -> Result<JsonDeserializer, OutOfMemory>
+        requires { IsTrue (is_canonical (view document.now)) }
+        ensures { IfOk result (λ r. Begins (Some (held.document (view document.now))) (hand r)) }
+    {
+        let tree = tree_of(alloc, document)?;
+        Ok(JsonDeserializer::new(alloc, Ok(tree)))
+    }
+
+    /// A reader of which each read and each opening is refused with `InvalidInput` and this text. Takes no memory.
+    pub fn of_refusal(alloc: Global, text: Text) -> JsonDeserializer
+        ensures { Begins (Some (held.refused (InvalidInput text))) (hand result) }
+    {
+        JsonDeserializer::new(alloc, Err(text))
+    }
+}
+
+// The refusal that is told.
 #[inline(never)]
-fn not_json(alloc: Global) -> SerdeError
-    ensures { IsRefusal not_json result }
+fn refused(alloc: Global, text: &Text) -> SerdeError
+    ensures { IsRefusal (InvalidInput text.now) result }
 {
-    SerdeError::invalid_input(alloc, "body is not JSON")
+    SerdeError::invalid_input(alloc, text.as_str())
 }
 
 // One of the tree's values as a scalar of the kind.
@@ -83,7 +133,7 @@ impl ShapeDeserializer for JsonDeserializer {
     ghost at_hand = { hand };
 
     // How many items an array or an object at hand has, and 10,000 where it has more; none of any other value, and none
-    // over what is no JSON.
+    // where each read is refused.
     ghost has_size = { λ reader size. size ≡ json_size reader };
 
     ghost reads_null = { DoesNothing };
@@ -102,8 +152,8 @@ impl ShapeDeserializer for JsonDeserializer {
         ensures left { self.new ≡ self.old }
     {
         match &self.tree {
-            Some(tree) => read_node(alloc, tree, self.cursor.node(tree), kind),
-            None => Err(not_json(alloc)),
+            Ok(tree) => read_node(alloc, tree, self.cursor.node(tree), kind),
+            Err(text) => Err(refused(alloc, text)),
         }
     }
 
@@ -118,8 +168,8 @@ impl ShapeDeserializer for JsonDeserializer {
         ensures left { OnErr result (hand self.new ≡ hand self.old) }
     {
         match &self.tree {
-            Some(tree) => self.cursor.open(alloc, tree, group),
-            None => Err(not_json(alloc)),
+            Ok(tree) => self.cursor.open(alloc, tree, group),
+            Err(text) => Err(refused(alloc, text)),
         }
     }
 
@@ -130,22 +180,22 @@ impl ShapeDeserializer for JsonDeserializer {
         schema: SchemaRef<'s>,
     ) -> Result<Option<SchemaRef<'s>>, SerdeError> {
         match &self.tree {
-            Some(tree) => Ok(self.cursor.next_member(tree, schema)),
-            None => unreachable!(),
+            Ok(tree) => Ok(self.cursor.next_member(tree, schema)),
+            Err(_) => unreachable!(),
         }
     }
 
     fn next_element(&mut self, _alloc: Global) -> Result<bool, SerdeError> {
         match &self.tree {
-            Some(tree) => Ok(self.cursor.next_element(tree)),
-            None => unreachable!(),
+            Ok(tree) => Ok(self.cursor.next_element(tree)),
+            Err(_) => unreachable!(),
         }
     }
 
     fn next_entry(&mut self, alloc: Global) -> Result<Option<Text>, SerdeError> {
         match &self.tree {
-            Some(tree) => self.cursor.next_entry(alloc, tree),
-            None => unreachable!(),
+            Ok(tree) => self.cursor.next_entry(alloc, tree),
+            Err(_) => unreachable!(),
         }
     }
 
@@ -155,8 +205,8 @@ impl ShapeDeserializer for JsonDeserializer {
 
     fn is_null(&self) -> bool {
         match &self.tree {
-            Some(tree) => self.cursor.node(tree).is_null(),
-            None => false,
+            Ok(tree) => self.cursor.node(tree).is_null(),
+            Err(_) => false,
         }
     }
 
@@ -164,18 +214,18 @@ impl ShapeDeserializer for JsonDeserializer {
         Ok(())
     }
 
-    /// Over what is no JSON it is refused as each read is.
+    /// Where each read is refused, so is this.
     fn skip_value(&mut self, alloc: Global) -> Result<(), SerdeError> {
         match &self.tree {
-            Some(_) => Ok(()),
-            None => Err(not_json(alloc)),
+            Ok(_) => Ok(()),
+            Err(text) => Err(refused(alloc, text)),
         }
     }
 
     fn container_size(&self) -> Option<usize> {
         match &self.tree {
-            Some(tree) => self.cursor.node(tree).container_size(),
-            None => None,
+            Ok(tree) => self.cursor.node(tree).container_size(),
+            Err(_) => None,
         }
     }
 }

@@ -6,4 +6,3 @@ pub mod CallExact
 pub mod CallSteps
 pub mod Sent
 pub mod Kept
-pub mod Found

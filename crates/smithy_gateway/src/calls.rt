@@ -5,8 +5,11 @@ ghost use Rattle.smithy_schema.specs.References.{schema_of};
 ghost use Rattle.smithy_serde.specs.Lawful.{max_nesting};
 ghost use Rattle.smithy_serde.specs.StructValues.{members_of};
 ghost use Rattle.smithy_serde.specs.Values.{structure};
+ghost use Rattle.smithy_binding.specs.Protocols.{protocol_of};
 ghost use Rattle.smithy_recovery.specs.Shallow.{is_shallow_at};
-ghost use Rattle.smithy_gateway.specs.views.Sending.{IsSet, KeepsCall, TellsPosted, FindsCall};
+ghost use Rattle.smithy_recovery.specs.views.Stages.{Tells};
+ghost use Rattle.smithy_gateway.specs.Gateway.{posts_writes};
+ghost use Rattle.smithy_gateway.specs.views.Sending.{IsSet, KeepsCall, FindsForm, FindsCall};
 
 use crate::sending::{placed, posted};
 use crate::setting::Setting;
@@ -64,13 +67,43 @@ fn is_posted<D: Codec>(
     request: &Request,
 ) -> Result<bool, RecoverError>
     requires { D.lawful rpc.now.codec }
-    ensures { TellsPosted D.text rpc.now input.now request.now result }
+    ensures { Tells (posts_writes (protocol_of D.text rpc.now) (members_of input.now) request.now) result }
 {
     if !is_shallow(input) {
         return Ok(false);
     }
     let sent = posted(alloc, rpc, schema, input, "", OmitFlags::KEEP_ALL)?;
     Ok(sent.body().as_slice() == request.body().as_slice())
+}
+
+// The input that is recovered of the request of what was read, where it is posted with the body of a request. `NotPlaced`
+// where there is none.
+fn posted_form<'t, C: Codec, D: Codec>(
+    alloc: Global,
+    rest: &HttpBindingProtocol<C>,
+    rpc: &HttpRpcProtocol<D>,
+    at: Setting<'t, '_>,
+    read: &StructValue<'_>,
+    request: &Request,
+) -> Result<StructValue<'t>, RecoverError>
+    requires set { IsSet at }
+    requires lawful { C.lawful rest.now.codec }
+    requires lawful_rpc { D.lawful rpc.now.codec }
+    ensures { FindsForm C.text C.holds D.text D.holds rest.now rpc.now at.entry read.now request.now result }
+{
+    let Setting {
+        table,
+        place,
+        node,
+        endpoint,
+        omit,
+    } = at;
+    let placed = placed(alloc, rest, node, read, endpoint, omit)?;
+    let input = recover_request(alloc, rest, &placed, table, place, endpoint, omit)?;
+    if !is_posted(alloc, rpc, node, &input, request)? {
+        return Err(RecoverError::NotPlaced);
+    }
+    Ok(input)
 }
 
 /// The input that a request posts: what is read of its body is placed, recovered of the placed request as a typed input in
@@ -90,19 +123,7 @@ pub fn call_input<'t, C: Codec, D: Codec>(
     if !is_post(request) {
         return Err(RecoverError::NotPlaced);
     }
-    let Setting {
-        table,
-        place,
-        node,
-        endpoint,
-        omit,
-    } = at;
-    let writes = read_writes(alloc, rpc, table, node, request)?;
-    let read = StructValue::with_writes(table, place, writes);
-    let placed = placed(alloc, rest, node, &read, endpoint, omit)?;
-    let input = recover_request(alloc, rest, &placed, table, place, endpoint, omit)?;
-    if !is_posted(alloc, rpc, node, &input, request)? {
-        return Err(RecoverError::NotPlaced);
-    }
-    Ok(input)
+    let writes = read_writes(alloc, rpc, at.table, at.node, request)?;
+    let read = StructValue::with_writes(at.table, at.place, writes);
+    posted_form(alloc, rest, rpc, at, &read, request)
 }

@@ -1,11 +1,13 @@
 // The request of an input, by either protocol.
-ghost use Rattle.std.specs.Prelude.{IsTrue};
+ghost use Rattle.std.specs.Prelude.{IsTrue, Result};
+ghost use Rattle.std.specs.Result.{result_ok};
+ghost use Rattle.smithy_http.specs.Requests.{Request as Sent};
 ghost use Rattle.smithy_schema.specs.References.{schema_of};
-ghost use Rattle.smithy_serde.specs.StructValues.{members_of};
 ghost use Rattle.smithy_binding.specs.Checked.{checked_input};
-ghost use Rattle.smithy_binding.specs.Protocols.{AnswersBy, AnswersCall};
-ghost use Rattle.smithy_recovery.specs.views.Stages.{Places};
-ghost use Rattle.smithy_gateway.specs.views.Sending.{Posts};
+ghost use Rattle.smithy_binding.specs.Faults.{Fault};
+ghost use Rattle.smithy_binding.specs.Refusing.{Answers};
+ghost use Rattle.smithy_recovery.specs.Finding.{Finds};
+ghost use Rattle.smithy_gateway.specs.views.Sending.{Places, Posts};
 
 use smithy_binding::{HttpBindingProtocol, HttpRpcProtocol};
 use smithy_http::Request;
@@ -14,20 +16,14 @@ use smithy_schema::SchemaRef;
 use smithy_serde::{Codec, OmitFlags, SerdeError, StructValue};
 use std::alloc::Global;
 
-// The request of an input, placed by its schema, or its first fault.
-fn placed_or_fault<C: Codec>(
-    alloc: Global,
-    rest: &HttpBindingProtocol<C>,
-    schema: SchemaRef<'_>,
-    input: &StructValue<'_>,
-    endpoint: &str,
-    omit: OmitFlags,
-) -> Result<Request, SerdeError>
-    requires checked { IsTrue (checked_input (schema_of schema)) }
-    requires lawful { C.lawful rest.now.codec }
-    ensures { AnswersBy C.text rest.now schema.entry (members_of input.now) endpoint.now omit result }
+// A request that a protocol made. `NotPlaced` where it made none.
+fn found(outcome: Result<Request, SerdeError>) -> Result<Request, RecoverError>
+    ensures { (is : Result Sent Fault) → Answers outcome is → Finds (λ x. x) result (result_ok is) }
 {
-    rest.serialize_request(alloc, input, schema, endpoint, omit)
+    match outcome {
+        Ok(request) => Ok(request),
+        Err(error) => Err(RecoverError::from(error)),
+    }
 }
 
 /// The request of an input, placed by its schema. `NotPlaced` where it has none. Takes memory.
@@ -43,25 +39,7 @@ pub fn placed<C: Codec>(
     requires lawful { C.lawful rest.now.codec }
     ensures { Places C.text rest.now schema.entry input.now endpoint.now omit result }
 {
-    match placed_or_fault(alloc, rest, schema, input, endpoint, omit) {
-        Ok(request) => Ok(request),
-        Err(error) => Err(RecoverError::from(error)),
-    }
-}
-
-// The request that posts an input whole, or its first fault.
-fn posted_or_fault<D: Codec>(
-    alloc: Global,
-    rpc: &HttpRpcProtocol<D>,
-    schema: SchemaRef<'_>,
-    input: &StructValue<'_>,
-    endpoint: &str,
-    omit: OmitFlags,
-) -> Result<Request, SerdeError>
-    requires { D.lawful rpc.now.codec }
-    ensures { AnswersCall D.text rpc.now (members_of input.now) endpoint.now omit result }
-{
-    rpc.serialize_request(alloc, input, schema, endpoint, omit)
+    found(rest.serialize_request(alloc, input, schema, endpoint, omit))
 }
 
 /// The request that posts an input whole. `NotPlaced` where it has none. Takes memory.
@@ -76,8 +54,5 @@ pub fn posted<D: Codec>(
     requires { D.lawful rpc.now.codec }
     ensures { Posts D.text rpc.now input.now endpoint.now omit result }
 {
-    match posted_or_fault(alloc, rpc, schema, input, endpoint, omit) {
-        Ok(request) => Ok(request),
-        Err(error) => Err(RecoverError::from(error)),
-    }
+    found(rpc.serialize_request(alloc, input, schema, endpoint, omit))
 }

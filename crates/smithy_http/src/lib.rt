@@ -8,6 +8,7 @@ mod header_parse;
 mod headers;
 pub mod laws;
 mod list_items;
+mod method;
 mod non_utf8;
 mod pairs;
 mod quote;

@@ -317,6 +317,7 @@ fn keep_places(
 }
 
 // Makes room for one more pair.
+#[inline(always)]
 fn make_room(pairs: &mut Vec<Pair>, places: &mut Option<Places>) -> Result<(), OutOfMemory>
     requires { ForSome places.old (λ m. IsIndex m (map name_of pairs.old.items)) }
     ensures items { pairs.new.items ≡ pairs.old.items }
@@ -347,6 +348,7 @@ fn claim_place(
 }
 
 // The same where places may not be kept.
+#[inline(always)]
 fn claim(
     alloc: Global,
     places: &mut Option<Places>,

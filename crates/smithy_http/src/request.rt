@@ -7,6 +7,7 @@ ghost use Rattle.smithy_http.specs.views.Lends.{LendsHeaders};
 
 use crate::error::HttpError;
 use crate::headers::Headers;
+use crate::method::Method;
 use smithy_types::{Blob, OutOfMemory, Text, legal_target};
 use std::alloc::Global;
 use std::marker::Model;
@@ -14,7 +15,7 @@ use std::marker::Model;
 /// A request, seen as its method, target, headers and body (RFC 7230, section 3).
 #[derive(Drop)]
 pub struct Request {
-    method: Text,
+    method: Method,
     target: Text,
     headers: Headers,
     body: Blob,
@@ -24,12 +25,13 @@ impl Model for Request {
     ghost use Rattle.std.specs.Prelude.{IsTrue};
     ghost use Rattle.smithy_types.specs.Grammars.{is_token, is_legal_target};
     ghost use Rattle.smithy_http.specs.Requests as requests;
+    ghost use Rattle.smithy_http.specs.views.Methods.{method_text};
 
     ghost Value = { requests.Request };
 
-    ghost view = { λ r. record { method = r.method; target = r.target; headers = r.headers; body = r.body } };
+    ghost view = { λ r. record { method = method_text r.method; target = r.target; headers = r.headers; body = r.body } };
 
-    ghost invariant = { λ r. IsTrue (is_token r.method) × IsTrue (is_legal_target r.target) };
+    ghost invariant = { λ r. IsTrue (is_token (method_text r.method)) × IsTrue (is_legal_target r.target) };
 }
 
 impl Request {
@@ -38,7 +40,7 @@ impl Request {
         ensures { IfOk result (λ r. r ≡ request_of (codes "GET") (codes "/") [] body) }
     {
         Ok(Request {
-            method: Text::from_str(alloc, "GET")?,
+            method: Method::Get,
             target: Text::from_str(alloc, "/")?,
             headers: Headers::new(alloc),
             body,
@@ -62,7 +64,33 @@ impl Request {
             return Err(HttpError::Target);
         }
         Ok(Request {
-            method,
+            method: Method::Named(method),
+            target,
+            headers,
+            body,
+        })
+    }
+
+    /// `from_parts` with a method that is lent. Takes memory for one that few requests have: not for `GET`, `PUT`, `POST`,
+    /// `DELETE`, `HEAD` and `PATCH`.
+    #[inline(always)]
+    pub fn with_method(
+        alloc: Global,
+        method: &str,
+        target: Text,
+        headers: Headers,
+        body: Blob,
+    ) -> Result<Request, HttpError>
+        requires { IsTrue (is_token method.now) }
+        ensures ok { IfOk result (λ r. r ≡ request_of method.now target headers body) }
+        ensures target { IsErrOf result HttpError.Target ↔ (is_legal_target target ≡ false) }
+        ensures refusals { IfErr result (λ e. (e ≡ HttpError.Target) ⊎ (e ≡ HttpError.OutOfMemory)) }
+    {
+        if !legal_target(target.as_str()) {
+            return Err(HttpError::Target);
+        }
+        Ok(Request {
+            method: Method::new(alloc, method)?,
             target,
             headers,
             body,
@@ -113,7 +141,7 @@ impl Request {
         ensures ok { OnOk result (self.new ≡ record self.old { method = method.now }) }
         ensures err { OnErr result (self.new ≡ self.old) }
     {
-        self.method = Text::from_str(self.headers.allocator(), method)?;
+        self.method = Method::new(self.headers.allocator(), method)?;
         Ok(())
     }
 

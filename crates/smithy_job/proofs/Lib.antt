@@ -5,6 +5,7 @@ pub mod CycleLemmas
 pub mod GatewayLemmas
 pub mod InputLemmas
 pub mod JobLemmas
+pub mod KeysLemmas
 pub mod PlacesLead
 pub mod ReceivedLemmas
 pub mod RecoveringLemmas

@@ -1,15 +1,11 @@
 -- The job of a response, from its parts.
-use Rattle.std.proofs.Common.{◌≡◌, refl, sym, ap, ◌∙◌, ℕ, ◌+◌, ◌<◌, codes, List, ◌∷◌, [], ◌++◌, length, map, drop, get_or, Option, Some, None, option_map, Result, Ok, Err, Bor}
+use Rattle.std.proofs.Common.{◌≡◌, refl, sym, ap, ◌∙◌, ℕ, ◌+◌, ◌<◌, List, ◌∷◌, [], ◌++◌, length, map, drop, get_or, Option, Some, None, option_map, Result, Ok, Err, Bor}
 use Rattle.base64.specs.Engines.{standard}
 use Rattle.base64.specs.GeneralPurpose.{decode_of, decoded_of}
 use Rattle.base64.specs.declared.decode.DecodeError.{DecodeError}
-use Rattle.serde_json.specs.Data.{Data}
-use Rattle.serde_json.specs.Find.{get}
 use Rattle.smithy_json.specs.views.JsonView.{view}
 use Rattle.smithy_json.specs.declared.value.JsonValue.{JsonValue}
 use Rattle.smithy_types.specs.Results.{each}
-use Rattle.smithy_http.specs.Responses.{Response}
-use Rattle.smithy_http.specs.declared.non_utf8.NonUtf8HeaderHandling.{NonUtf8HeaderHandling}
 use Rattle.smithy_schema.specs.Nodes.{Schema, at_place}
 use Rattle.smithy_model.specs.Nodes.{Errors}
 use Rattle.smithy_model.specs.views.PlacedView.{IsPlacedAt, ArePlacedAt, Places, PlacesErrors}
@@ -21,8 +17,9 @@ use Rattle.smithy_model.specs.declared.table.PlacedErrors.{PlacedErrors}
 use Rattle.smithy_model.proofs.Each.{and_rest, each_item}
 use Rattle.std.proofs.lemmas.List.{drop_more}
 use Rattle.smithy_job.specs.Jobs as jobs
-use Rattle.smithy_job.specs.Jobs.{expected, received}
-use Rattle.smithy_job.specs.Responses.{header_in, response_in, policy_given}
+use Rattle.smithy_job.specs.Jobs.{expected, expected_by_code, message, names_given, received_as, received_by}
+use Rattle.smithy_job.specs.Keys.{Keys}
+use Rattle.smithy_job.specs.Responses.{header_in}
 use Rattle.smithy_job.specs.views.Tables.{Has, ReadsAs}
 use Rattle.smithy_job.specs.views.ReceivedView.{IsExpected, IsExpectedIn, IsReceived}
 use Rattle.smithy_job.specs.declared.received.Expected.TheVariants.{Output, Error, Coded}
@@ -80,19 +77,23 @@ pub errors-refused : (f : Errors → jobs.Expected) (o : Option Errors) (e : Job
 errors-refused f o NoJob r is h = rw is (none-mapped f o h)
 errors-refused f o OutOfMemory r is h = rw is tt
 
--- the whole job
-module _ (d given : Data) (r : Response) (p : NonUtf8HeaderHandling) (a : get (codes "response") d ≡ Some given) (b : response_in given ≡ Some r) (c : policy_given (get (codes "policy") d) ≡ Some p) where
-  by_parts : received d ≡ option_map (λ e. record { response = r; policy = p; expected = e }) (expected d)
-  unfolding received
-  by_parts = rw (a, b, c) refl
+-- what is expected where no error is named
+pub expected-unnamed : (k : Keys) (names : List (List ℕ)) → k.error ≡ None → names_given k.service_errors ≡ Some names → (r : Result ExpectedIn JobError) → ReadsAs IsExpectedIn (expected_by_code names k) r → ReadsAs IsExpectedIn (expected k) r
+expected-unnamed k names none given r h = rw (none, given) h
 
-  pub received-so : (stored : Received) → stored.response ≡ r → stored.policy ≡ p → Has (expected d) (IsExpected stored.table stored.expected) → Has (received d) (IsReceived stored)
-  received-so stored e f h = rw by_parts (go (expected d) h)
+-- the whole job
+module _ (k : Keys) (m : jobs.Message) (a : message k ≡ Some m) where
+  by_parts : received_by k ≡ option_map (received_as m) (expected k)
+  unfolding received_by
+  by_parts = rw a refl
+
+  pub received-so : (stored : Received) → stored.response ≡ m.response → stored.policy ≡ m.policy → Has (expected k) (IsExpected stored.table stored.expected) → Has (received_by k) (IsReceived stored)
+  received-so stored e f h = rw by_parts (go (expected k) h)
     where
-      go : (o : Option jobs.Expected) → Has o (IsExpected stored.table stored.expected) → Has (option_map (λ x. record { response = r; policy = p; expected = x }) o) (IsReceived stored)
+      go : (o : Option jobs.Expected) → Has o (IsExpected stored.table stored.expected) → Has (option_map (received_as m) o) (IsReceived stored)
       go None none = absurd none
       go (Some x) some = record { response = e; policy = f; expected = some }
 
-  pub received-refused : (e : JobError) (s : Result Received JobError) → s ≡ Err e → ReadsAs IsExpectedIn (expected d) (Err e) → ReadsAs IsReceived (received d) s
-  received-refused NoJob s is h = rw (is, by_parts) (none-mapped _ (expected d) h)
+  pub received-refused : (e : JobError) (s : Result Received JobError) → s ≡ Err e → ReadsAs IsExpectedIn (expected k) (Err e) → ReadsAs IsReceived (received_by k) s
+  received-refused NoJob s is h = rw (is, by_parts) (none-mapped _ (expected k) h)
   received-refused OutOfMemory s is h = rw is tt

@@ -8,12 +8,13 @@ use Rattle.smithy_http.specs.declared.non_utf8.NonUtf8HeaderHandling.{NonUtf8Hea
 use Rattle.smithy_schema.specs.Nodes.{Schema}
 use Rattle.smithy_serde.specs.Values.{Write, Writes, list_of}
 use Rattle.smithy_serde.specs.declared.header_omit_settings.OmitFlags.{OmitFlags}
-use Rattle.smithy_model.specs.Json.{items_in, text_at, provided}
+use Rattle.smithy_model.specs.Json.{items_in, provided}
 use Rattle.smithy_model.specs.Names.{is_full_name}
 use Rattle.smithy_model.specs.Nodes.{Errors}
 use Rattle.smithy_model.specs.Models as models
 use Rattle.smithy_model.specs.Models.{Asked, schema_in_model, errors_in_model}
 use Rattle.smithy_job.specs.Inputs.{input}
+use Rattle.smithy_job.specs.Keys.{Keys, keys_of}
 use Rattle.smithy_job.specs.Responses.{response_in, policy_given}
 use Rattle.smithy_job.specs.Settings.{endpoint, omit}
 
@@ -24,21 +25,33 @@ pub record Job : Type 0 where
   pub endpoint : List ℕ
   pub omit : OmitFlags
 
--- the model of a job, and the name of its operation
-abbrev pub operation_in : Data → Option (Data × List ℕ)
-operation_in job = option_and_then (λ model. option_map (λ name. (model, name)) (text_at (codes "operation") job)) (get (codes "model") job)
+-- a model, and the name of an operation
+abbrev pub operation_given : Option Data → Option Data → Option (Data × List ℕ)
+operation_given model operation = option_and_then (λ m. option_map (λ name. (m, name)) (option_and_then as_str operation)) model
 
--- what the model of a job has at the job's operation
+-- those of a job
+abbrev pub operation_in : Data → Option (Data × List ℕ)
+operation_in job = operation_given (get (codes "model") job) (get (codes "operation") job)
+
+-- what a model has at an operation
+abbrev pub at_operation : {A : Type 0} → (Data → List ℕ → Option A) → Option (Data × List ℕ) → Option A
+at_operation part operation = option_and_then (λ o. part o.0 o.1) operation
+
+-- the same of a job
 abbrev pub in_model : {A : Type 0} → (Data → List ℕ → Option A) → Data → Option A
-in_model part job = option_and_then (λ o. part o.0 o.1) (operation_in job)
+in_model part job = at_operation part (operation_in job)
+
+-- the schema of what is asked of an operation
+unfoldable pub schema_at : Asked → Option (Data × List ℕ) → Option Schema
+schema_at asked operation = at_operation (schema_in_model asked) operation
+
+-- the errors of an operation, and these of its service
+unfoldable pub errors_at : List (List ℕ) → Option (Data × List ℕ) → Option Errors
+errors_at service operation = at_operation (errors_in_model service) operation
 
 -- the schema of what is asked of a job's operation
 unfoldable pub schema : Asked → Data → Option Schema
-schema asked job = in_model (schema_in_model asked) job
-
--- the errors of a job's operation, and these of its service
-unfoldable pub errors : List (List ℕ) → Data → Option Errors
-errors service job = in_model (errors_in_model service) job
+schema asked job = schema_at asked (operation_in job)
 
 -- the writes of an input or an output, by its schema
 pub record Written : Type 0 where
@@ -79,34 +92,62 @@ abbrev pub names_given : Option Data → Option (List (List ℕ))
 names_given None = Some []
 names_given (Some d) = option_and_then (each full_name_in) (items_in d)
 
+-- the model and the operation that stand under these keys
+abbrev pub operation_among : Keys → Option (Data × List ℕ)
+operation_among k = operation_given k.model k.operation
+
+abbrev pub schema_among : Asked → Keys → Option Schema
+schema_among asked k = schema_at asked (operation_among k)
+
+abbrev pub errors_among : List (List ℕ) → Keys → Option Errors
+errors_among service k = errors_at service (operation_among k)
+
+-- as the error of this name
+abbrev pub expected_error : List ℕ → Keys → Option Expected
+expected_error name k = option_map error (schema_among (models.error name) k)
+
 -- as the one of these errors that has this code
-abbrev pub expected_coded : List ℕ → List (List ℕ) → Data → Option Expected
-expected_coded code service job = option_map (coded code) (errors service job)
+abbrev pub expected_coded : List ℕ → List (List ℕ) → Keys → Option Expected
+expected_coded code service k = option_map (coded code) (errors_among service k)
 
 -- without an error's name: as the error of the code, where there is one
-abbrev pub by_code : Data → List (List ℕ) → Option Data → Option Expected
-by_code job service None = option_map output (schema models.output job)
-by_code job service (Some code) = option_and_then (λ c. expected_coded c service job) (as_str code)
+abbrev pub by_code : Keys → List (List ℕ) → Option Data → Option Expected
+by_code k service None = option_map output (schema_among models.output k)
+by_code k service (Some code) = option_and_then (λ c. expected_coded c service k) (as_str code)
 
-abbrev pub expected_by_code : List (List ℕ) → Data → Option Expected
-expected_by_code service job = by_code job service (get (codes "code") job)
+abbrev pub expected_by_code : List (List ℕ) → Keys → Option Expected
+expected_by_code service k = by_code k service k.code
 
 -- beside an error's name there is neither a code nor an error of the service
-abbrev pub expected_by : Data → Option Data → Option Data → Option Data → Option Expected
-expected_by job None code service = option_and_then (λ names. by_code job names code) (names_given service)
-expected_by job (Some name) None None = option_and_then (λ e. option_map error (schema (models.error e) job)) (as_str name)
-expected_by job (Some name) _ _ = None
+abbrev pub expected_by : Keys → Option Data → Option Data → Option Data → Option Expected
+expected_by k None code service = option_and_then (λ names. by_code k names code) (names_given service)
+expected_by k (Some name) None None = option_and_then (λ e. expected_error e k) (as_str name)
+expected_by k (Some name) _ _ = None
 
-abbrev pub expected_by_name : Data → Data → Option Expected
-expected_by_name name job = expected_by job (Some name) (get (codes "code") job) (get (codes "serviceErrors") job)
+abbrev pub expected_by_name : Data → Keys → Option Expected
+expected_by_name name k = expected_by k (Some name) k.code k.service_errors
 
-abbrev pub expected : Data → Option Expected
-expected job = expected_by job (get (codes "error") job) (get (codes "code") job) (get (codes "serviceErrors") job)
+-- what a response is read as by these keys
+abbrev pub expected : Keys → Option Expected
+expected k = expected_by k k.error k.code k.service_errors
 
-abbrev pub received_as : Data → Response → NonUtf8HeaderHandling → Option Received
-received_as job r p = option_map (λ e. record { response = r; policy = p; expected = e }) (expected job)
+-- a response, and what is done with a header of it that is not UTF-8
+pub record Message : Type 0 where
+  pub response : Response
+  pub policy : NonUtf8HeaderHandling
+
+abbrev pub message_with : Keys → Response → Option Message
+message_with k r = option_map (λ p. record { response = r; policy = p }) (policy_given k.policy)
+
+unfoldable pub message : Keys → Option Message
+message k = option_and_then (message_with k) (option_and_then response_in k.response)
+
+abbrev pub received_as : Message → Expected → Received
+received_as m e = record { response = m.response; policy = m.policy; expected = e }
+
+unfoldable pub received_by : Keys → Option Received
+received_by k = option_and_then (λ m. option_map (received_as m) (expected k)) (message k)
 
 -- The job of a response that a JSON value is, and none where it has not the form of one.
-unfoldable pub received : Data → Option Received
-received job =
-    option_and_then (λ r. option_and_then (received_as job r) (policy_given (get (codes "policy") job))) (option_and_then response_in (get (codes "response") job))
+abbrev pub received : Data → Option Received
+received job = received_by (keys_of job)

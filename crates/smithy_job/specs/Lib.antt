@@ -3,6 +3,7 @@ pub mod Common
 pub mod Gateway
 pub mod Inputs
 pub mod Jobs
+pub mod Keys
 pub mod Recovering
 pub mod Requests
 pub mod Responses
@@ -17,6 +18,7 @@ pub mod views
 pub use Rattle.smithy_job.specs.views.CommonView
 pub use Rattle.smithy_job.specs.views.GatewayView
 pub use Rattle.smithy_job.specs.views.JobView
+pub use Rattle.smithy_job.specs.views.KeysView
 pub use Rattle.smithy_job.specs.views.ReceivedView
 pub use Rattle.smithy_job.specs.views.RecoveringView
 pub use Rattle.smithy_job.specs.views.RoutingView

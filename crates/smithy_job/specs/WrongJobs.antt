@@ -10,7 +10,8 @@ use Rattle.smithy_model.specs.Wrong.{Wrong, ◌or◌, asked_here, asked_at, in_k
 use Rattle.smithy_model.specs.WrongModels.{is_object, wrong_name, wrong_in_shapes, wrong_in_errors, may_have, may_have_http, shapes_in, wrong_model}
 use Rattle.smithy_job.specs.Answering.{operation_code}
 use Rattle.smithy_job.specs.Gateway.{sending}
-use Rattle.smithy_job.specs.Jobs.{full_name_in, names_given}
+use Rattle.smithy_job.specs.Jobs.{full_name_in, names_given, received_by}
+use Rattle.smithy_job.specs.Keys.{keys_among}
 use Rattle.smithy_job.specs.Responses.{policy_given, status_in}
 use Rattle.smithy_job.specs.Settings.{endpoint, rpc_endpoint, flag_given}
 use Rattle.smithy_job.specs.WrongInputs.{wrong_many, wrong_writes}
@@ -27,6 +28,7 @@ parts_of kind.Requests = part.Object ∷ part.Model ∷ part.Operation ∷ part.
 parts_of kind.Rpc = part.Object ∷ part.Model ∷ part.Operation ∷ part.Input ∷ part.Endpoint ∷ part.Omit ∷ part.InputShapes ∷ []
 parts_of kind.Response =
     part.Object ∷ part.Model ∷ part.Operation ∷ part.Response ∷ part.Error ∷ part.Code ∷ part.ServiceErrors ∷ part.Policy ∷ part.ExpectedShapes ∷ []
+parts_of kind.Responses = part.Object ∷ part.Model ∷ part.Responses ∷ []
 parts_of kind.Recover = part.Object ∷ part.Model ∷ part.Operation ∷ part.Endpoint ∷ part.Omit ∷ part.Request ∷ part.InputShapes ∷ []
 parts_of kind.Route = part.Object ∷ part.AnyModel ∷ part.Omit ∷ part.Request ∷ part.Operations ∷ []
 parts_of kind.Gateway =
@@ -197,6 +199,21 @@ wrong_model_part job = wrong_under wrong_model (codes "model") (codes "an object
 unfoldable pub wrong_written_part : List ℕ → Data → Option Wrong
 wrong_written_part key job = wrong_under wrong_writes key (codes "an object from names to values is asked, or an array of pairs") job
 
+-- an item among many responses: its own response, and then whether it is a job of one
+abbrev pub wrong_item_response : Data → Option Wrong
+wrong_item_response item = in_key (codes "response") (option_and_then wrong_response (get (codes "response") item))
+
+unfoldable pub wrong_item : Data → Data → Option Wrong
+wrong_item job item =
+    wrong_item_response item
+    or unless_here (is_some (received_by (keys_among job item))) (codes "a job of `response` is asked, with the keys of the whole job beside")
+
+abbrev pub wrong_responses : Data → Data → Option Wrong
+wrong_responses job d = option_map_or (first_item (wrong_item job) 0) (items_in d) (Some (asked_here (codes "an array of responses is asked")))
+
+unfoldable pub wrong_responses_part : Data → Option Wrong
+wrong_responses_part job = wrong_under (wrong_responses job) (codes "responses") (codes "an array of responses is asked") job
+
 -- many inputs
 unfoldable pub wrong_inputs_part : Data → Option Wrong
 wrong_inputs_part job = wrong_under wrong_many (codes "inputs") (codes "an array of inputs is asked") job
@@ -238,6 +255,7 @@ wrong_part job part.Status = wrong_status job
 wrong_part job part.Endpoint = wrong_endpoint job
 wrong_part job part.Omit = wrong_omit_of job
 wrong_part job part.Response = wrong_response_part job
+wrong_part job part.Responses = wrong_responses_part job
 wrong_part job part.Error = wrong_error job
 wrong_part job part.Code = wrong_code job
 wrong_part job part.ServiceErrors = wrong_service_errors job

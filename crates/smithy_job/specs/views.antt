@@ -1,6 +1,7 @@
 pub mod CommonView
 pub mod GatewayView
 pub mod JobView
+pub mod KeysView
 pub mod ReadingView
 pub mod ReceivedView
 pub mod RecoveringView

@@ -11,6 +11,8 @@ pub enum JobKind {
     Rpc,
     /// The value of a response.
     Response,
+    /// The values of many responses of one model.
+    Responses,
     /// The input of a request.
     Recover,
     /// The operation of a request, among many.

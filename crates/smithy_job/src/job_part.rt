@@ -21,6 +21,8 @@ pub enum JobPart {
     Endpoint,
     Omit,
     Response,
+    /// Many responses.
+    Responses,
     Error,
     Code,
     ServiceErrors,
@@ -83,6 +85,7 @@ pub fn parts_of(kind: JobKind) -> &'static [JobPart]
             JobPart::Policy,
             JobPart::ExpectedShapes,
         ],
+        JobKind::Responses => &[JobPart::Object, JobPart::Model, JobPart::Responses],
         JobKind::Recover => &[
             JobPart::Object,
             JobPart::Model,

@@ -7,7 +7,9 @@ mod gateway;
 mod input;
 mod job_kind;
 mod job_part;
+mod keys;
 pub mod laws;
+mod named_operations;
 mod node;
 mod operation;
 mod reading;
@@ -25,16 +27,22 @@ mod wrong_job;
 mod wrong_keys;
 mod wrong_message;
 mod wrong_reach;
+mod wrong_responses;
 mod wrong_routing;
 
 pub use answering::{Answering, read_answering};
 pub use common::{Common, Inputs, inputs_of, read_common, read_whole};
 pub use gateway::{Gateway, Sending, read_gateway};
 pub use job_kind::JobKind;
+pub use keys::{Keys, responses_of};
+pub use named_operations::NamedOperations;
 pub use operation::Operation;
 pub use reading::{Job, read_job};
-pub use received::{CodedError, Expected, Received, read_received};
+pub use received::{
+    CodedError, Expected, ExpectedIn, Message, Received, read_expected, read_message,
+    read_received, read_received_by,
+};
 pub use recovering::{Recovering, read_recovering};
-pub use routing::{Routing, read_routing};
+pub use routing::{NamedRouting, Routing, read_named_routing, read_routing};
 pub use written::Written;
 pub use wrong_job::wrong_in_job;

@@ -6,7 +6,8 @@ ghost use Rattle.smithy_model.specs.views.ModelView.{asked_view};
 ghost use Rattle.smithy_model.specs.views.NameView.{texts};
 ghost use Rattle.smithy_model.specs.views.PlacedView.{Places, PlacesErrors};
 ghost use Rattle.smithy_job.specs.Answering.{operation_http};
-ghost use Rattle.smithy_job.specs.Jobs.{job, operation_in, schema, errors};
+ghost use Rattle.smithy_job.specs.Jobs.{job, operation_in, schema, schema_at, errors_at};
+ghost use Rattle.smithy_job.specs.views.KeysView.{operation_at};
 ghost use Rattle.smithy_job.specs.views.Seen.{operation_seen};
 ghost use Rattle.smithy_job.specs.views.Tables.{ReadsAs};
 ghost use Rattle.smithy_job.specs.views.JobView.{IsJob};
@@ -17,7 +18,7 @@ use smithy_ids::HttpTrait;
 use smithy_json::JsonValue;
 use smithy_model::{
     Asked, JobError, ModelTable, PlacedErrors, errors_of_operation, http_of_operation,
-    schema_of_operation, text_of,
+    schema_of_operation,
 };
 use smithy_schema::{SchemaIndex, Schemas};
 use smithy_serde::{OmitFlags, WriteList};
@@ -36,11 +37,36 @@ pub struct Job<'t> {
     pub omit: OmitFlags,
 }
 
-// The model of a job, and the full name of its operation.
+/// A model, and the full name of an operation, of what is to be these. Takes no memory.
+pub fn operation_given<'v, 't>(
+    model: Option<&'v JsonValue<'t>>,
+    operation: Option<&JsonValue<'t>>,
+) -> Option<(&'v JsonValue<'t>, &'t str)>
+    ensures { option_map operation_seen result ≡ operation_at model.entry operation.entry }
+{
+    Some((model?, operation?.as_str()?))
+}
+
+// Those of a job.
 fn operation_of<'v, 't>(job: &'v JsonValue<'t>) -> Option<(&'v JsonValue<'t>, &'t str)>
     ensures { option_map operation_seen result ≡ operation_in (view job.now) }
 {
-    Some((job.get("model")?, text_of(job, "operation")?))
+    operation_given(job.get("model"), job.get("operation"))
+}
+
+/// The schema of what is asked of an operation of a model. Takes memory. No job where the model hasn't the form of one.
+#[tactic(auto, unfolding(crate::specs::Jobs::schema_at))]
+pub fn schema_at<'t>(
+    alloc: Global,
+    operation: Option<(&JsonValue<'t>, &'t str)>,
+    asked: Asked<'t>,
+) -> Result<ModelTable, JobError>
+    ensures { Places (schema_at (asked_view asked.entry) (option_map operation_seen operation.entry)) result }
+{
+    match operation {
+        Some((model, name)) => schema_of_operation(alloc, model, name, asked),
+        None => Err(JobError::NoJob),
+    }
 }
 
 /// The schema of what is asked of a job's operation. Takes memory. No job where its model hasn't the form of one.
@@ -52,22 +78,19 @@ pub fn schema_asked<'t>(
 ) -> Result<ModelTable, JobError>
     ensures { Places (schema (asked_view asked.entry) (view job.now)) result }
 {
-    match operation_of(job) {
-        Some((model, name)) => schema_of_operation(alloc, model, name, asked),
-        None => Err(JobError::NoJob),
-    }
+    schema_at(alloc, operation_of(job), asked)
 }
 
-/// The errors of a job's operation, and these of its service. Takes memory. No job where its model hasn't the form of one.
-#[tactic(auto, unfolding(crate::specs::Jobs::errors))]
-pub fn errors_asked<'t>(
+/// The errors of an operation of a model, and these of its service. Takes memory. No job where the model hasn't the form of one.
+#[tactic(auto, unfolding(crate::specs::Jobs::errors_at))]
+pub fn errors_at<'t>(
     alloc: Global,
-    job: &JsonValue<'t>,
+    operation: Option<(&JsonValue<'t>, &'t str)>,
     service: &[&'t str],
 ) -> Result<PlacedErrors, JobError>
-    ensures { PlacesErrors (errors (texts service.now) (view job.now)) result }
+    ensures { PlacesErrors (errors_at (texts service.now) (option_map operation_seen operation.entry)) result }
 {
-    match operation_of(job) {
+    match operation {
         Some((model, name)) => errors_of_operation(alloc, model, name, service),
         None => Err(JobError::NoJob),
     }

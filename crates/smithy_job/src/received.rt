@@ -1,20 +1,23 @@
 // The job of a response.
-ghost use Rattle.std.specs.Prelude.{◌≡◌, codes, map, option_map};
+ghost use Rattle.std.specs.Prelude.{◌≡◌, map, option_map};
 ghost use Rattle.smithy_json.specs.views.JsonView.{view};
-ghost use Rattle.serde_json.specs.Find.{get};
 ghost use Rattle.smithy_types.specs.Results.{each};
 ghost use Rattle.smithy_model.specs.views.NameView.{texts};
 ghost use Rattle.smithy_model.specs.Reads.{Reads};
+ghost use Rattle.smithy_model.specs.views.ModelView.{asked_view};
+ghost use Rattle.smithy_model.specs.views.PlacedView.{Places, PlacesErrors};
 ghost use Rattle.smithy_model.specs.Models as models;
-ghost use Rattle.smithy_job.specs.Jobs.{output, error, full_name_in, names_given, schema, expected_coded, expected_by_code, expected_by_name, expected, received};
-ghost use Rattle.smithy_job.specs.views.ReceivedView.{IsExpectedIn, IsReceived};
+ghost use Rattle.smithy_job.specs.Jobs.{output, full_name_in, names_given, errors_among, schema_among, expected_coded, expected_error, expected_by_code, expected_by_name, expected, message, received, received_by};
+ghost use Rattle.smithy_job.specs.views.KeysView.{keys_seen, value_seen};
+ghost use Rattle.smithy_job.specs.views.ReceivedView.{message_seen, IsExpectedIn, IsReceived};
 ghost use Rattle.smithy_job.specs.views.Tables.{ReadsAs};
 
-use crate::reading::{errors_asked, schema_asked};
-use crate::response::{policy_of, read_response};
+use crate::keys::Keys;
+use crate::reading::{errors_at, operation_given, schema_at};
+use crate::response::{policy_given, read_response};
 use smithy_http::{NonUtf8HeaderHandling, Response};
 use smithy_json::JsonValue;
-use smithy_model::{Asked, JobError, is_full_name, items_of};
+use smithy_model::{Asked, JobError, ModelTable, PlacedErrors, is_full_name, items_of};
 use smithy_schema::{SchemaIndex, Schemas};
 use std::alloc::Global;
 
@@ -37,6 +40,13 @@ pub enum Expected<'t> {
     Coded(CodedError<'t>),
 }
 
+/// A response, and what is done with a header of it that is not UTF-8.
+#[derive(Drop)]
+pub struct Message {
+    pub response: Response,
+    pub policy: NonUtf8HeaderHandling,
+}
+
 /// What was received: a response, and what it is read as.
 #[derive(Drop)]
 pub struct Received<'t> {
@@ -46,10 +56,11 @@ pub struct Received<'t> {
     pub expected: Expected<'t>,
 }
 
-// What a response is read as, over its table.
-struct ExpectedIn<'t> {
-    table: Schemas,
-    expected: Expected<'t>,
+/// What a response is read as, over its table.
+#[derive(Drop)]
+pub struct ExpectedIn<'t> {
+    pub table: Schemas,
+    pub expected: Expected<'t>,
 }
 
 /// A text that is a full name. Takes no memory.
@@ -73,11 +84,14 @@ fn names_in<'t>(alloc: Global, items: &[JsonValue<'t>]) -> Result<Vec<&'t str>, 
     Ok(names)
 }
 
-/// The full names of the service's errors. Takes memory. No job where they are none.
-pub fn service_errors<'t>(alloc: Global, job: &JsonValue<'t>) -> Result<Vec<&'t str>, JobError>
-    ensures { Reads (λ v. texts v.items) (names_given (get (codes "serviceErrors") (view job.now))) result }
+/// The full names of a service's errors. Takes memory. No job where they are none.
+pub fn service_errors<'t>(
+    alloc: Global,
+    names: Option<&JsonValue<'t>>,
+) -> Result<Vec<&'t str>, JobError>
+    ensures { Reads (λ v. texts v.items) (names_given (value_seen names.entry)) result }
 {
-    let Some(names) = job.get("serviceErrors") else {
+    let Some(names) = names else {
         return Ok(Vec::new(alloc));
     };
     match items_of(names) {
@@ -86,10 +100,32 @@ pub fn service_errors<'t>(alloc: Global, job: &JsonValue<'t>) -> Result<Vec<&'t 
     }
 }
 
-fn expected_output<'t>(alloc: Global, job: &JsonValue<'t>) -> Result<ExpectedIn<'t>, JobError>
-    ensures { ReadsAs IsExpectedIn (option_map output (schema models.output (view job.now))) result }
+// The schema of what is asked of the operation that stands under the keys.
+fn schema_among<'t>(
+    alloc: Global,
+    keys: &Keys<'_, 't>,
+    asked: Asked<'t>,
+) -> Result<ModelTable, JobError>
+    ensures { Places (schema_among (asked_view asked.entry) (keys_seen keys.now)) result }
 {
-    let placed = schema_asked(alloc, job, Asked::Output)?;
+    schema_at(alloc, operation_given(keys.model, keys.operation), asked)
+}
+
+// The errors of the operation that stands under the keys, and these of its service.
+fn errors_among<'t>(
+    alloc: Global,
+    keys: &Keys<'_, 't>,
+    service: &[&'t str],
+) -> Result<PlacedErrors, JobError>
+    ensures { PlacesErrors (errors_among (texts service.now) (keys_seen keys.now)) result }
+{
+    errors_at(alloc, operation_given(keys.model, keys.operation), service)
+}
+
+fn expected_output<'t>(alloc: Global, keys: &Keys<'_, 't>) -> Result<ExpectedIn<'t>, JobError>
+    ensures { ReadsAs IsExpectedIn (option_map output (schema_among models.output (keys_seen keys.now))) result }
+{
+    let placed = schema_among(alloc, keys, Asked::Output)?;
     Ok(ExpectedIn {
         table: placed.table,
         expected: Expected::Output(placed.index),
@@ -98,12 +134,12 @@ fn expected_output<'t>(alloc: Global, job: &JsonValue<'t>) -> Result<ExpectedIn<
 
 fn expected_error<'t>(
     alloc: Global,
-    job: &JsonValue<'t>,
+    keys: &Keys<'_, 't>,
     name: &'t str,
 ) -> Result<ExpectedIn<'t>, JobError>
-    ensures { ReadsAs IsExpectedIn (option_map error (schema (models.error name.now) (view job.now))) result }
+    ensures { ReadsAs IsExpectedIn (expected_error name.now (keys_seen keys.now)) result }
 {
-    let placed = schema_asked(alloc, job, Asked::Error(name))?;
+    let placed = schema_among(alloc, keys, Asked::Error(name))?;
     Ok(ExpectedIn {
         table: placed.table,
         expected: Expected::Error(placed.index),
@@ -112,13 +148,13 @@ fn expected_error<'t>(
 
 fn expected_coded<'t>(
     alloc: Global,
-    job: &JsonValue<'t>,
+    keys: &Keys<'_, 't>,
     code: &'t str,
     service: &[&'t str],
 ) -> Result<ExpectedIn<'t>, JobError>
-    ensures { ReadsAs IsExpectedIn (expected_coded code.now (texts service.now) (view job.now)) result }
+    ensures { ReadsAs IsExpectedIn (expected_coded code.now (texts service.now) (keys_seen keys.now)) result }
 {
-    let placed = errors_asked(alloc, job, service)?;
+    let placed = errors_among(alloc, keys, service)?;
     Ok(ExpectedIn {
         table: placed.table,
         expected: Expected::Coded(CodedError {
@@ -132,16 +168,16 @@ fn expected_coded<'t>(
 // As the error of the code, where there is one, and else as the output.
 fn expected_by_code<'t>(
     alloc: Global,
-    job: &JsonValue<'t>,
+    keys: &Keys<'_, 't>,
     service: &[&'t str],
 ) -> Result<ExpectedIn<'t>, JobError>
-    ensures { ReadsAs IsExpectedIn (expected_by_code (texts service.now) (view job.now)) result }
+    ensures { ReadsAs IsExpectedIn (expected_by_code (texts service.now) (keys_seen keys.now)) result }
 {
-    let Some(code) = job.get("code") else {
-        return expected_output(alloc, job);
+    let Some(code) = keys.code else {
+        return expected_output(alloc, keys);
     };
     match code.as_str() {
-        Some(code) => expected_coded(alloc, job, code, service),
+        Some(code) => expected_coded(alloc, keys, code, service),
         None => Err(JobError::NoJob),
     }
 }
@@ -149,49 +185,68 @@ fn expected_by_code<'t>(
 // As the error of this name, beside which there is neither a code nor an error of the service.
 fn expected_by_name<'t>(
     alloc: Global,
-    job: &JsonValue<'t>,
+    keys: &Keys<'_, 't>,
     name: &JsonValue<'t>,
 ) -> Result<ExpectedIn<'t>, JobError>
-    ensures { ReadsAs IsExpectedIn (expected_by_name (view name.now) (view job.now)) result }
+    ensures { ReadsAs IsExpectedIn (expected_by_name (view name.now) (keys_seen keys.now)) result }
 {
-    match (job.get("code"), job.get("serviceErrors")) {
+    match (keys.code, keys.service_errors) {
         (None, None) => match name.as_str() {
-            Some(name) => expected_error(alloc, job, name),
+            Some(name) => expected_error(alloc, keys, name),
             None => Err(JobError::NoJob),
         },
         _ => Err(JobError::NoJob),
     }
 }
 
-fn expected_of<'t>(alloc: Global, job: &JsonValue<'t>) -> Result<ExpectedIn<'t>, JobError>
-    ensures { ReadsAs IsExpectedIn (expected (view job.now)) result }
+/// What a response is read as, by what stands under the keys. Takes memory. No job where they haven't the form, or the model
+/// hasn't what they ask for.
+pub fn read_expected<'t>(alloc: Global, keys: &Keys<'_, 't>) -> Result<ExpectedIn<'t>, JobError>
+    ensures { ReadsAs IsExpectedIn (expected (keys_seen keys.now)) result }
 {
-    match job.get("error") {
-        Some(name) => expected_by_name(alloc, job, name),
+    match keys.error {
+        Some(name) => expected_by_name(alloc, keys, name),
         None => {
-            let service = service_errors(alloc, job)?;
-            expected_by_code(alloc, job, service.as_slice())
+            let service = service_errors(alloc, keys.service_errors)?;
+            expected_by_code(alloc, keys, service.as_slice())
         }
     }
 }
 
-/// The job of a response that a JSON value is. Takes memory. What hasn't the form of one is no job.
-#[tactic(auto, unfolding(crate::specs::Jobs::received))]
-pub fn read_received<'t>(alloc: Global, job: &JsonValue<'t>) -> Result<Received<'t>, JobError>
-    ensures { ReadsAs IsReceived (received (view job.now)) result }
+/// The response that stands under the keys, with what is done with a header of it that is not UTF-8. Takes memory. No job where
+/// one of these hasn't its form.
+#[tactic(auto, unfolding(crate::specs::Jobs::message))]
+pub fn read_message(alloc: Global, keys: &Keys<'_, '_>) -> Result<Message, JobError>
+    ensures { Reads message_seen (message (keys_seen keys.now)) result }
 {
-    let Some(response) = job.get("response") else {
+    let Some(response) = keys.response else {
         return Err(JobError::NoJob);
     };
     let response = read_response(alloc, response)?;
-    let Some(policy) = policy_of(job) else {
+    let Some(policy) = policy_given(keys.policy) else {
         return Err(JobError::NoJob);
     };
-    let ExpectedIn { table, expected } = expected_of(alloc, job)?;
+    Ok(Message { response, policy })
+}
+
+/// The job of a response that stands under the keys. Takes memory. What hasn't the form of one is no job.
+#[tactic(auto, unfolding(crate::specs::Jobs::received_by))]
+pub fn read_received_by<'t>(alloc: Global, keys: &Keys<'_, 't>) -> Result<Received<'t>, JobError>
+    ensures { ReadsAs IsReceived (received_by (keys_seen keys.now)) result }
+{
+    let Message { response, policy } = read_message(alloc, keys)?;
+    let ExpectedIn { table, expected } = read_expected(alloc, keys)?;
     Ok(Received {
         response,
         policy,
         table,
         expected,
     })
+}
+
+/// The job of a response that a JSON value is. Takes memory. What hasn't the form of one is no job.
+pub fn read_received<'t>(alloc: Global, job: &JsonValue<'t>) -> Result<Received<'t>, JobError>
+    ensures { ReadsAs IsReceived (received (view job.now)) result }
+{
+    read_received_by(alloc, &Keys::of(job))
 }

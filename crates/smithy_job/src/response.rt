@@ -7,6 +7,7 @@ ghost use Rattle.serde_json.specs.Find.{get};
 ghost use Rattle.smithy_types.specs.Results.{each};
 ghost use Rattle.smithy_model.specs.Reads.{Reads};
 ghost use Rattle.smithy_job.specs.Responses.{bytes_in, status_in, header_in, headers_given, body_given, response_in, policy_named, policy_given};
+ghost use Rattle.smithy_job.specs.views.KeysView.{value_seen};
 ghost use Rattle.smithy_job.specs.views.Tables.{ReadsAs};
 
 use crate::input::pair_of;
@@ -133,11 +134,11 @@ fn policy_named(name: &str) -> Option<NonUtf8HeaderHandling>
     None
 }
 
-/// What a job says of header values that aren't UTF-8. None where it hasn't the form. Takes no memory.
-pub fn policy_of(job: &JsonValue<'_>) -> Option<NonUtf8HeaderHandling>
-    ensures { result ≡ policy_given (get (codes "policy") (view job.now)) }
+/// What is said of header values that aren't UTF-8. None where it hasn't the form. Takes no memory.
+pub fn policy_given(policy: Option<&JsonValue<'_>>) -> Option<NonUtf8HeaderHandling>
+    ensures { result ≡ policy_given (value_seen policy.entry) }
 {
-    match job.get("policy") {
+    match policy {
         Some(policy) => policy_named(policy.as_str()?),
         None => Some(NonUtf8HeaderHandling::Reject),
     }

@@ -8,7 +8,7 @@ ghost use Rattle.smithy_job.specs.WrongJobs.{wrong_model_part, wrong_written_par
 use crate::gateway::sending_of;
 use crate::job_kind::JobKind;
 use crate::job_part::{JobPart, parts_of};
-use crate::response::policy_of;
+use crate::response::policy_given;
 use crate::settings::{endpoint_of, rpc_endpoint_of};
 use crate::wrong_input::{wrong_many, wrong_writes};
 use crate::wrong_keys::{
@@ -16,6 +16,7 @@ use crate::wrong_keys::{
 };
 use crate::wrong_message::{wrong_request, wrong_response};
 use crate::wrong_reach::{wrong_expected, wrong_operation_code, wrong_shapes};
+use crate::wrong_responses::wrong_responses_part;
 use crate::wrong_routing::wrong_operations;
 use smithy_json::JsonValue;
 use smithy_model::{
@@ -115,7 +116,7 @@ fn wrong_endpoint(alloc: Global, job: &JsonValue<'_>) -> Result<Option<Wrong>, O
 fn wrong_policy(alloc: Global, job: &JsonValue<'_>) -> Result<Option<Wrong>, OutOfMemory>
     ensures { Finds (wrong_policy (view job.now)) result }
 {
-    let fits = policy_of(job).is_some();
+    let fits = policy_given(job.get("policy")).is_some();
     unless_at(alloc, fits, "policy", "`reject` or `skip` is asked")
 }
 
@@ -160,6 +161,7 @@ fn wrong_part(
         JobPart::Endpoint => wrong_endpoint(alloc, job),
         JobPart::Omit => wrong_omit_of(alloc, job),
         JobPart::Response => wrong_response_part(alloc, job),
+        JobPart::Responses => wrong_responses_part(alloc, job),
         JobPart::Error => wrong_error(alloc, job),
         JobPart::Code => wrong_code(alloc, job),
         JobPart::ServiceErrors => wrong_service_errors(alloc, job),

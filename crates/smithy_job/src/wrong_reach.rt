@@ -137,7 +137,7 @@ fn wrong_coded_by<'t>(
 fn wrong_coded(alloc: Global, job: &JsonValue<'_>) -> Result<Option<Wrong>, OutOfMemory>
     ensures { Finds (wrong_coded (view job.now)) result }
 {
-    match service_errors(alloc, job) {
+    match service_errors(alloc, job.get("serviceErrors")) {
         Ok(names) => wrong_coded_by(alloc, job, names.as_slice()),
         Err(JobError::NoJob) => Ok(None),
         Err(JobError::OutOfMemory) => Err(OutOfMemory),

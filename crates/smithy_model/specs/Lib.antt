@@ -1,3 +1,4 @@
+pub mod Among
 pub mod Further
 pub mod GivenTraits
 pub mod Json

@@ -62,6 +62,7 @@ fn further_traits(alloc: Global, traits: &JsonValue<'_>) -> Result<Option<TraitM
 }
 
 /// A description with these traits. Condition: it has none. Takes memory for those without a field of their own.
+#[inline(always)]
 pub fn with_traits<'t: 'a, 'a>(
     alloc: Global,
     schema: Schema<'a>,

@@ -28,7 +28,7 @@ mod wrong_traits;
 
 pub use error::JobError;
 pub use json_value::{items_of, members_of, text_of};
-pub use model::{errors_of_operation, http_of_operation, schema_of_operation};
+pub use model::{errors_of_operation, http_of_operation, schema_among, schema_of_operation};
 pub use model_shapes::ModelShapes;
 pub use name::is_full_name;
 pub use pointer::{pointer_of, within};

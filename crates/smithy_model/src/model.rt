@@ -1,9 +1,10 @@
 // From a model and the name of an operation to its schemas.
 ghost use Rattle.std.specs.Prelude.{◌≡◌};
 ghost use Rattle.smithy_json.specs.views.JsonView.{view};
+ghost use Rattle.smithy_model.specs.Among.{schema_among};
 ghost use Rattle.smithy_model.specs.Models.{http_asked, http_in_model, schema_in_model, errors_in_model};
 ghost use Rattle.smithy_model.specs.Reads.{Reads};
-ghost use Rattle.smithy_model.specs.views.ModelView.{asked_view, operation_view};
+ghost use Rattle.smithy_model.specs.views.ModelView.{asked_view, operation_view, shapes_view};
 ghost use Rattle.smithy_model.specs.views.NameView.{texts};
 ghost use Rattle.smithy_model.specs.views.PlacedView.{Places, PlacesErrors};
 
@@ -26,12 +27,36 @@ fn http_asked<'t>(operation: Operation<'t>, asked: Asked<'_>) -> Option<HttpTrai
     }
 }
 
-/// The schema of what is asked of an operation of this full name, by the shapes that are reached from it in a model (Smithy,
-/// JSON AST). Each shape is read once, in time linear in the model up to the logarithm of a map. Takes memory.
+/// The schema of what is asked of an operation of this full name, by those of the shapes of a model that are reached from it
+/// (Smithy, JSON AST). Each of these is read once, in time linear in them up to the logarithm of a map. Takes memory.
 ///
-/// No job where the model has no `shapes`, the operation isn't among them, an error isn't one of the operation's, or a shape
-/// that is reached isn't there or hasn't its form.
-#[tactic(auto, unfolding(crate::specs::Models::schema_in_model))]
+/// No job where the operation isn't among the shapes, an error isn't one of the operation's, or a shape that is reached isn't
+/// there or hasn't its form.
+#[tactic(auto, unfolding(crate::specs::Among::schema_among))]
+pub fn schema_among(
+    alloc: Global,
+    shapes: &ModelShapes<'_, '_>,
+    name: &str,
+    asked: Asked<'_>,
+) -> Result<ModelTable, JobError>
+    ensures { Places (schema_among (asked_view asked.entry) (shapes_view shapes.now) name.now) result }
+{
+    let operation = operation_at(alloc, shapes, name)?;
+    let Some(root) = name_asked(&operation, asked) else {
+        return Err(JobError::NoJob);
+    };
+    let reached = shapes_from(alloc, shapes, &[root])?;
+    table_of(
+        alloc,
+        &with_http(reached, http_asked(operation, asked)),
+        root,
+    )
+}
+
+/// The same of a model, whose shapes' names are gone over once. Takes memory.
+///
+/// No job where the model has no `shapes`, and else as for `schema_among`.
+#[tactic(auto, unfolding(crate::specs::Among::schema_among, crate::specs::Models::schema_in_model))]
 pub fn schema_of_operation(
     alloc: Global,
     model: &JsonValue<'_>,
@@ -46,16 +71,7 @@ pub fn schema_of_operation(
     let Some(shapes) = ModelShapes::of(object) else {
         return Err(JobError::NoJob);
     };
-    let operation = operation_at(alloc, &shapes, name)?;
-    let Some(root) = name_asked(&operation, asked) else {
-        return Err(JobError::NoJob);
-    };
-    let reached = shapes_from(alloc, &shapes, &[root])?;
-    table_of(
-        alloc,
-        &with_http(reached, http_asked(operation, asked)),
-        root,
-    )
+    schema_among(alloc, &shapes, name, asked)
 }
 
 /// `@http` of an operation of this full name, where it has one. Of the shapes the operation alone is looked at. Takes memory.

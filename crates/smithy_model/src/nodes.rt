@@ -1,5 +1,5 @@
 // The nodes of members and shapes.
-ghost use Rattle.std.specs.Prelude.{◌≡◌, [], true, false, None, Some, string_bytes, IfOk};
+ghost use Rattle.std.specs.Prelude.{◌≡◌, [], true, false, None, Some, string_bytes, IfOk, OnOk};
 ghost use Rattle.std.specs.List.{range_with_len};
 ghost use Rattle.smithy_ids.specs.ShapeIds.{has_hash};
 ghost use Rattle.smithy_ids.specs.ShapeIdParts.{parts_of};
@@ -40,6 +40,7 @@ fn define(table: &mut Schemas, index: usize, schema: Schema<'_>) -> Result<(), O
 }
 
 // The same, citing what a shape of this kind holds, whose first member has this index. Condition: it cites nothing of that.
+#[inline(always)]
 fn holding<'a>(schema: Schema<'a>, kind: ShapeType, first: usize) -> Result<Schema<'a>, OutOfMemory>
     requires { schema ≡ record schema { members = []; element = None; key = None; value = None } }
     ensures { IfOk result (λ s. s ≡ defined.holding kind first schema.entry) }
@@ -55,6 +56,7 @@ fn holding<'a>(schema: Schema<'a>, kind: ShapeType, first: usize) -> Result<Sche
 }
 
 // A member's node without its traits, of the shape at a spot.
+#[inline(always)]
 fn member_schema<'a>(
     id: ShapeId<'a>,
     spot: Spot<'_, '_, '_>,
@@ -69,21 +71,23 @@ fn member_schema<'a>(
     holding(schema, spot.shape.kind, spot.first)
 }
 
-// The full name of a member of the shape of this name (Smithy, shape identifiers).
-fn member_id(alloc: Global, shape: &str, name: &str) -> Result<String, OutOfMemory>
-    ensures { IfOk result (λ t. string_bytes t ≡ defined.member_id shape.now name.now) }
+// Puts the full name of a member of the shape of this name in the place of a text (Smithy, shape identifiers).
+fn put_member_id(id: &mut String, shape: &str, name: &str) -> Result<(), OutOfMemory>
+    ensures { OnOk result (string_bytes id.new ≡ defined.member_id shape.now name.now) }
 {
-    let mut id = String::with_capacity(alloc, shape.len() + name.len() + 1)?;
+    id.clear();
     id.push_str(shape)?;
     id.push_str("$")?;
     id.push_str(name)?;
-    Ok(id)
+    Ok(())
 }
 
-/// Gives a index the node of a member of the shape of this name, of the shape at a spot. Takes memory.
+/// Gives a index the node of a member of the shape of this name, of the shape at a spot. Takes memory. The full name stands in
+/// a text that other members can have after it.
 pub fn define_member<'v, 't, 's>(
     alloc: Global,
     table: &mut Schemas,
+    full_name: &mut String,
     spots: &SpotMap<'v, 't, 's>,
     index: usize,
     shape: &str,
@@ -96,7 +100,7 @@ pub fn define_member<'v, 't, 's>(
 {
     let traits = passed_traits(spots, &member.traits, spot.shape);
     let name = member.name;
-    let full_name = member_id(alloc, shape, name)?;
+    put_member_id(full_name, shape, name)?;
     let schema = member_schema(shape_id(full_name.as_str()), spot, name, position)?;
     define(table, index, with_traits(alloc, schema, traits)?)
 }

@@ -44,6 +44,7 @@ fn copied_namespace<'t>(namespace: &Option<XmlNamespaceTrait<'t>>) -> Option<Xml
 }
 
 /// The same traits. Takes no memory.
+#[inline(always)]
 pub fn copied<'v, 't>(traits: &ShapeTraits<'v, 't>) -> ShapeTraits<'v, 't>
     ensures { traits_view result ≡ traits_view traits.now }
 {

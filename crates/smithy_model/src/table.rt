@@ -65,12 +65,15 @@ fn define_members<'v, 't>(
     requires { has_hash shape.now ≡ true }
     ensures { Fills first table.old table.new (nodes_of_members spots.now shape.now members.now) result }
 {
+    let mut name = String::new(alloc);
     for (position, member) in members.iter().enumerate() {
         let Some(spot) = spot_named(spots, member.target) else {
             return Err(JobError::NoJob);
         };
         let index = index_behind(first, position)?;
-        define_member(alloc, table, spots, index, shape, position, member, spot)?;
+        define_member(
+            alloc, table, &mut name, spots, index, shape, position, member, spot,
+        )?;
     }
     Ok(())
 }

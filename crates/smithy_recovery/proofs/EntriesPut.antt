@@ -1,6 +1,5 @@
 -- Entries that are put one after another.
-use Rattle.std.proofs.Common.{◌≡◌, refl, sym, ◌∙◌, ap, subst, cond, arith, ℕ, Bool, true, false, ◌&&◌, List, [], ◌∷◌, length, map, Option, Some, None, String, Global, option_map, option_and_then, unwrap_or, is_some, string_bytes, string_cmp}
-use Rattle.std.specs.Borrow.{Bor}
+use Rattle.std.proofs.Common.{◌≡◌, refl, sym, ◌∙◌, ap, subst, cond, arith, ℕ, ◌+◌, ◌<◌, ◌==◌, Bool, true, false, ◌&&◌, List, [], ◌∷◌, ◌++◌, length, map, drop, get_or, Option, Some, None, String, Global, option_map, option_and_then, unwrap_or, is_some, string_bytes, string_cmp, append_assoc}
 use Rattle.std.specs.BTreeMap.{BTreeMap, insert_entry, get_by_text}
 use Rattle.std.specs.Cmp.Lexicographic.{slice_cmp}
 use Rattle.std.specs.List.{list_all, cons_option}
@@ -8,7 +7,8 @@ use Rattle.std.specs.Ordering.{nat_cmp, match_ordering}
 use Rattle.std.specs.declared.cmp.Ordering.{Ordering}
 use Rattle.std.specs.declared.cmp.Ordering.TheVariants.{Less, Equal, Greater}
 use Rattle.std.specs.Str.{is_utf8, str_to_ascii_lowercase}
-use Rattle.std.proofs.lemmas.Bool.{and_parts}
+use Rattle.std.proofs.lemmas.Bool.{and_parts, eqb-true}
+use Rattle.std.proofs.lemmas.List.{append-nil, drop_more}
 use Rattle.smithy_http.specs.HeaderValues.{text_of}
 use Rattle.smithy_schema.specs.Nodes.{Schema, Node, Table, node_at, at_place, key_of, value_of}
 use Rattle.smithy_types.specs.Maps.{with_value, all_put}
@@ -21,85 +21,125 @@ use Rattle.smithy_serde.specs.Values.{Label, Value, Writes, label_of}
 use Rattle.smithy_serde.specs.declared.value.ShapeValue.{ShapeValue}
 use Rattle.smithy_serde.proofs.WritesLemmas.{appended-no_writes, appended_assoc}
 use Rattle.smithy_binding.specs.NormalForm.{unless_empty}
-use Rattle.smithy_recovery.specs.views.KeptEntries.{shown_entries, text_put, part_put, headers_put, ArePlaces, has_entry_nodes}
+use Rattle.smithy_recovery.specs.views.KeptEntries.{is_again, last_entry, last_entries, map_seen, text_put, part_put, headers_put, ArePlaces, has_entry_nodes}
 use Rattle.smithy_recovery.specs.views.KeptQueries.{shown_values, entries_in, has_key, AreValuesDefined}
+use Rattle.smithy_recovery.specs.views.NameOrder.{text_seen, IsInOrder}
+use Rattle.smithy_recovery.specs.declared.named_texts.NamedText.{NamedText}
 use Rattle.smithy_recovery.specs.MapParts.{as_text, entry_behind, entries_behind, text_entries, prefix_part}
+use Rattle.smithy_recovery.proofs.LastEntries.{with_text, last_in_order}
 
 abbrev Entries : Type 0
 Entries = List (List ℕ × Value)
 
-abbrev order : Bor (List ℕ) → Bor (List ℕ) → Ordering
-order a b = slice_cmp nat_cmp a.now b.now
-
--- an insertion into the map
-pub shown_put : (es : List (Bor (List ℕ) × Bor (List ℕ))) (k v : Bor (List ℕ)) → shown_entries (insert_entry order es k v) ≡ with_value k.now (as_text v.now) (shown_entries es)
-shown_put [] k v = refl
-shown_put (e ∷ es) k v = go (slice_cmp nat_cmp k.now e.0.now) (shown_put es k v)
-  where
-    go : (o : Ordering) → shown_entries (insert_entry order es k v) ≡ with_value k.now (as_text v.now) (shown_entries es)
-        → shown_entries (match_ordering o ((k, v) ∷ e ∷ es) ((e.0, v) ∷ es) (e ∷ insert_entry order es k v))
-        ≡ match_ordering o ((k.now, as_text v.now) ∷ shown_entries (e ∷ es)) ((e.0.now, as_text v.now) ∷ shown_entries es) ((e.0.now, as_text e.1.now) ∷ with_value k.now (as_text v.now) (shown_entries es))
-    go Less rest = refl
-    go Equal rest = refl
-    go Greater rest = ap (λ xs. (e.0.now, as_text e.1.now) ∷ xs) rest
+abbrev Pairs : Type 0
+Pairs = List (List ℕ × List ℕ)
 
 -- all headers are put as the texts behind the prefix are
-abbrev with_text : List ℕ × List ℕ → List ℕ × Value
-with_text e = (e.0, as_text e.1)
-
-abbrev all_utf8 : List (List ℕ × List ℕ) → Bool
+abbrev all_utf8 : Pairs → Bool
 all_utf8 es = list_all (λ (e : List ℕ × List ℕ). is_utf8 e.1) es
 
-pub put_behind : (prefix : List ℕ) (hs : List (List ℕ × List ℕ)) (es : Entries)
-    → headers_put prefix hs es ≡ cond (all_utf8 (entries_behind prefix hs)) (Some (all_put (map with_text (entries_behind prefix hs)) es)) None
-put_behind prefix [] es = refl
+put_behind : (prefix : List ℕ) (hs es : Pairs) → headers_put prefix hs es ≡ cond (all_utf8 (entries_behind prefix hs)) (Some (es ++ entries_behind prefix hs)) None
+put_behind prefix [] es = ap Some (sym (append-nil es))
 put_behind prefix (h ∷ hs) es = go (entry_behind prefix h) (put_behind prefix hs)
   where
-    later : List (List ℕ × List ℕ)
+    later : Pairs
     later = entries_behind prefix hs
 
-    by : (e : List ℕ × List ℕ) (t : Bool) → ((es : Entries) → headers_put prefix hs es ≡ cond (all_utf8 later) (Some (all_put (map with_text later) es)) None)
-        → option_and_then (headers_put prefix hs) (cond t (Some (with_value e.0 (as_text e.1) es)) None) ≡ cond (t && all_utf8 later) (Some (all_put (map with_text later) (with_value e.0 (as_text e.1) es))) None
-    by e true rest = rest (with_value e.0 (as_text e.1) es)
+    by : (e : List ℕ × List ℕ) (t : Bool) → ((es : Pairs) → headers_put prefix hs es ≡ cond (all_utf8 later) (Some (es ++ later)) None)
+        → option_and_then (headers_put prefix hs) (cond t (Some (es ++ e ∷ [])) None) ≡ cond (t && all_utf8 later) (Some (es ++ e ∷ later)) None
+    by e true rest = rest (es ++ e ∷ []) ∙ ap (λ ps. cond (all_utf8 later) (Some ps) None) (append_assoc es (e ∷ []) later)
     by e false rest = refl
 
-    go : (o : Option (List ℕ × List ℕ)) → ((es : Entries) → headers_put prefix hs es ≡ cond (all_utf8 later) (Some (all_put (map with_text later) es)) None)
-        → option_and_then (headers_put prefix hs) (part_put o es) ≡ cond (all_utf8 (cons_option o later)) (Some (all_put (map with_text (cons_option o later)) es)) None
+    go : (o : Option (List ℕ × List ℕ)) → ((es : Pairs) → headers_put prefix hs es ≡ cond (all_utf8 later) (Some (es ++ later)) None)
+        → option_and_then (headers_put prefix hs) (part_put o es) ≡ cond (all_utf8 (cons_option o later)) (Some (es ++ cons_option o later)) None
     go None rest = rest es
     go (Some e) rest = by e (is_utf8 e.1) rest
 
--- the part of a prefix, by what was put
+-- the part of entries, if there are any
 abbrev pub part_of : Schema → Option Entries → Option (Option Value)
 part_of m o = option_map (λ es. unless_empty (map_value (Some m) es)) o
 
-pub prefix_put : (m : Schema) (prefix : List ℕ) (hs : List (List ℕ × List ℕ)) → part_of m (headers_put (str_to_ascii_lowercase prefix) hs []) ≡ prefix_part m prefix hs
+-- the part of a prefix, by the texts that were put
+abbrev pub texts_part : Schema → Option Pairs → Option (Option Value)
+texts_part m o = option_map (λ ps. unless_empty (map_value (Some m) (text_entries ps))) o
+
+pub prefix_put : (m : Schema) (prefix : List ℕ) (hs : Pairs) → texts_part m (headers_put (str_to_ascii_lowercase prefix) hs []) ≡ prefix_part m prefix hs
 prefix_put m prefix hs =
     let low = str_to_ascii_lowercase prefix in
-    ap (part_of m) (put_behind low hs []) ∙ go (all_utf8 (entries_behind low hs)) (text_entries (entries_behind low hs))
+    ap (texts_part m) (put_behind low hs []) ∙ go (all_utf8 (entries_behind low hs)) (entries_behind low hs)
   where
-    go : (t : Bool) (es : Entries) → part_of m (cond t (Some es) None) ≡ cond t (Some (unless_empty (map_value (Some m) es))) None
-    go true es = refl
-    go false es = refl
+    go : (t : Bool) (ps : Pairs) → texts_part m (cond t (Some ps) None) ≡ cond t (Some (unless_empty (map_value (Some m) (text_entries ps)))) None
+    go true ps = refl
+    go false ps = refl
 
 -- no entries leave nothing, and some leave the map
 pub part_none : (m : Schema) (o : Option Entries) → o ≡ Some [] → part_of m o ≡ Some None
 part_none m o e = ap (part_of m) e
 
-pub part_some : (m : Schema) (o : Option Entries) (es : List (Bor (List ℕ) × Bor (List ℕ))) → o ≡ Some (shown_entries es) → (length es ≡ 0 → ⊥) → part_of m o ≡ Some (Some (map_value (Some m) (shown_entries es)))
-part_some m o [] e some = absurd (some refl)
-part_some m o (x ∷ es) e some = ap (part_of m) e
+pub texts_none : (m : Schema) (o : Option Pairs) (ts : List NamedText) → o ≡ Some (map text_seen ts) → (length ts == 0) ≡ true → texts_part m o ≡ Some None
+texts_none m o [] e none = ap (texts_part m) e
+texts_none m o (t ∷ ts) e none = let zero : length (t ∷ ts) ≡ 0 = eqb-true (length (t ∷ ts)) 0 none in absurd (omega (arith, zero))
 
-pub none_shown : (es : List (Bor (List ℕ) × Bor (List ℕ))) → length es ≡ 0 → shown_entries es ≡ []
-none_shown [] e = refl
-none_shown (x ∷ es) e = absurd (omega (arith, e))
+abbrev has_entries : Entries → Bool
+has_entries [] = false
+has_entries (e ∷ es) = true
+
+put_some : (key : List ℕ) (v : Value) (es : Entries) → has_entries (with_value key v es) ≡ true
+put_some key v [] = refl
+put_some key v (e ∷ es) = go (slice_cmp nat_cmp key e.0)
+  where
+    go : (o : Ordering) → has_entries (match_ordering o ((key, v) ∷ e ∷ es) ((e.0, v) ∷ es) (e ∷ with_value key v es)) ≡ true
+    go Less = refl
+    go Equal = refl
+    go Greater = refl
+
+all_some : (es sorted : Entries) → has_entries sorted ≡ true → has_entries (all_put es sorted) ≡ true
+all_some [] sorted some = some
+all_some (e ∷ es) sorted some = all_some es (with_value e.0 e.1 sorted) (put_some e.0 e.1 sorted)
+
+kept_some : (m : Schema) (es : Entries) → has_entries es ≡ true → Some (unless_empty (map_value (Some m) es)) ≡ Some (Some (map_value (Some m) es))
+kept_some m [] some = let bad : false ≡ true = some in absurd (cc bad)
+kept_some m (e ∷ es) some = refl
+
+pub texts_some : (m : Schema) (o : Option Pairs) (ts us : List NamedText) → o ≡ Some (map text_seen ts) → (length ts == 0) ≡ false → IsInOrder (map text_seen ts) (map text_seen us) → texts_part m o ≡ Some (map_seen us m)
+texts_some m o [] us e some ordered = absurd (cc some)
+texts_some m o (t ∷ ts) us e some ordered =
+    let all = map with_text (map text_seen ts) in
+    let put : text_entries (map text_seen (t ∷ ts)) ≡ last_entries (map text_seen us) = sym (last_in_order (map text_seen (t ∷ ts)) (map text_seen us) ordered) in
+    ap (texts_part m) e ∙ kept_some m (text_entries (map text_seen (t ∷ ts))) (all_some all ((t.name.now, as_text t.text.now) ∷ []) refl)
+    ∙ ap (λ es. Some (Some (map_value (Some m) es))) put
 
 -- an entry is put where it is a text
-pub text_put_some : (key bytes text : List ℕ) (es : Entries) → Some text ≡ text_of bytes → text_put (key, bytes) es ≡ Some (with_value key (as_text text) es)
+pub text_put_some : (key bytes text : List ℕ) (es : Pairs) → Some text ≡ text_of bytes → text_put (key, bytes) es ≡ Some (es ++ (key, text) ∷ [])
 text_put_some key bytes text es e = go (is_utf8 bytes) e
   where
-    go : (t : Bool) → Some text ≡ cond t (Some bytes) None → cond t (Some (with_value key (as_text bytes) es)) None ≡ Some (with_value key (as_text text) es)
-    go true h = let same : text ≡ bytes = cc h in ap (λ x. Some (with_value key (as_text x) es)) (sym same)
+    go : (t : Bool) → Some text ≡ cond t (Some bytes) None → cond t (Some (es ++ (key, bytes) ∷ [])) None ≡ Some (es ++ (key, text) ∷ [])
+    go true h = let same : text ≡ bytes = cc h in ap (λ x. Some (es ++ (key, x) ∷ [])) (sym same)
     go false h = absurd (cc h)
+
+-- the last entry of a key is written, and others are not
+pub again_adds : (k v : Label) (ws : Writes) (e : List ℕ × List ℕ) (es : Pairs) → is_again e.0 es ≡ true → ws ≡ appended ws (entry_writes k v (last_entry e es))
+again_adds k v ws e es again = sym (appended-no_writes ws) ∙ ap (λ t. appended ws (entry_writes k v (cond t [] (with_text e ∷ [])))) (sym again)
+
+pub last_adds : (k v : Label) (ws ns : Writes) (e : List ℕ × List ℕ) (es : Pairs) → is_again e.0 es ≡ false → ns ≡ appended ws (entry_writes k v (with_text e ∷ [])) → ns ≡ appended ws (entry_writes k v (last_entry e es))
+last_adds k v ws ns e es last adds = adds ∙ ap (λ t. appended ws (entry_writes k v (cond t [] (with_text e ∷ [])))) (sym last)
+
+-- so the writes of all entries go on
+pub last_further : (k v : Label) (ws ns : Writes) (ts behind : List NamedText) (i : ℕ) (d : NamedText) → i < length ts → behind ≡ drop (i + 1) ts
+    → ns ≡ appended ws (entry_writes k v (last_entry (text_seen (get_or ts i d)) (map text_seen behind)))
+    → appended ns (entry_writes k v (last_entries (map text_seen (drop (i + 1) ts)))) ≡ appended ws (entry_writes k v (last_entries (map text_seen (drop i ts))))
+last_further k v ws ns ts behind i d within rest adds =
+    let e = text_seen (get_or ts i d) in
+    let es = map text_seen (drop (i + 1) ts) in
+    ap (λ w. appended w (entry_writes k v (last_entries es))) (adds ∙ ap (λ bs. appended ws (entry_writes k v (last_entry e (map text_seen bs)))) rest)
+    ∙ go (is_again e.0 es) (last_entries es)
+    ∙ ap (λ us. appended ws (entry_writes k v (last_entries (map text_seen us)))) (sym (drop_more ts i d within))
+  where
+    go : (t : Bool) (later : Entries)
+        → appended (appended ws (entry_writes k v (cond t [] (with_text (text_seen (get_or ts i d)) ∷ [])))) (entry_writes k v later)
+        ≡ appended ws (entry_writes k v (cond t [] (with_text (text_seen (get_or ts i d)) ∷ []) ++ later))
+    go true later = ap (λ w. appended w (entry_writes k v later)) (appended-no_writes ws)
+    go false later = appended_assoc ws (entry_writes k v (with_text (text_seen (get_or ts i d)) ∷ [])) (entry_writes k v later)
 
 -- two writes are an entry
 pub two_writes : (k v : Label) (old mid new : Writes) (a b : Value) (x : List ℕ) → a ≡ as_text x → mid ≡ appended old (one_write k a) → new ≡ appended mid (one_write v b)

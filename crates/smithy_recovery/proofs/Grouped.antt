@@ -9,7 +9,7 @@ use Rattle.std.specs.Str.{bytes_eq}
 use Rattle.std.proofs.lemmas.List.{append-nil, map-append}
 use Rattle.smithy_types.specs.Texts.{same_text, found}
 use Rattle.smithy_http.specs.Facts.{values_at}
-use Rattle.smithy_recovery.specs.views.Kept.{text_under, label_seen}
+use Rattle.smithy_recovery.specs.views.Kept.{text_in_map, label_seen}
 use Rattle.smithy_recovery.specs.views.Pieces.{pieces_under}
 use Rattle.smithy_recovery.specs.declared.path_texts.LabelText.{LabelText}
 
@@ -58,8 +58,8 @@ text_at m name = get_by (λ k. slice_cmp nat_cmp name k.now) m
 -- a label whose name is new
 pub label_put : (old new : Named) (l : LabelText) (text : Bor (List ℕ)) (rest : List (List ℕ × List ℕ)) → text.now ≡ l.text → text_at old l.name.now ≡ None
     → ((q : List ℕ) → text_at new q ≡ cond (bytes_eq l.name.now q) (Some text) (text_at old q))
-    → (q : List ℕ) → option_or (text_under new q) (found q rest) ≡ option_or (text_under old q) (found q (label_seen l ∷ rest))
-unfolding text_under
+    → (q : List ℕ) → option_or (text_in_map new q) (found q rest) ≡ option_or (text_in_map old q) (found q (label_seen l ∷ rest))
+unfolding text_in_map
 label_put old new l text rest is free put q =
     ap (λ o. option_or (option_map (λ t. t.now) o) (found q rest)) (put q) ∙ go (bytes_eq l.name.now q) refl
   where
@@ -73,8 +73,8 @@ label_put old new l text rest is free put q =
 
 -- a label whose name was met
 pub label_skip : (old : Named) (l : LabelText) (text : Bor (List ℕ)) (rest : List (List ℕ × List ℕ)) → text_at old l.name.now ≡ Some text
-    → (q : List ℕ) → option_or (text_under old q) (found q rest) ≡ option_or (text_under old q) (found q (label_seen l ∷ rest))
-unfolding text_under
+    → (q : List ℕ) → option_or (text_in_map old q) (found q rest) ≡ option_or (text_in_map old q) (found q (label_seen l ∷ rest))
+unfolding text_in_map
 label_skip old l text rest met q = go (bytes_eq l.name.now q) refl
   where
     go : (t : Bool) → bytes_eq l.name.now q ≡ t
@@ -87,8 +87,8 @@ label_skip old l text rest met q = go (bytes_eq l.name.now q) refl
         ∙ sym (ap (λ o. option_or (option_map (λ (t : Bor (List ℕ)). t.now) o) (Some l.text)) here)
     go false e = refl
 
-pub no_text : (m : Named) → ((q : List ℕ) → text_at m q ≡ None) → (q : List ℕ) → text_under m q ≡ None
-unfolding text_under
+pub no_text : (m : Named) → ((q : List ℕ) → text_at m q ≡ None) → (q : List ℕ) → text_in_map m q ≡ None
+unfolding text_in_map
 no_text m empty q = ap (option_map (λ t. t.now)) (empty q)
 
 -- what a test of a look-up says

@@ -15,6 +15,7 @@ pub mod TypedSteps
 pub mod Deciding
 pub mod FactsTested
 pub mod Ordered
+pub mod LastEntries
 pub mod Exact
 pub mod LabelsBack
 pub mod ReadingBack

@@ -5,7 +5,6 @@ use Rattle.std.specs.Option.{option_map_or}
 use Rattle.std.proofs.lemmas.Bool.{and_parts}
 use Rattle.std.proofs.lemmas.List.{append-nil, drop_more}
 use Rattle.smithy_types.specs.Grammars.{before_query}
-use Rattle.smithy_types.specs.Texts.{is_one_of}
 use Rattle.smithy_http.specs.Facts.{query_pieces}
 use Rattle.smithy_http.specs.Requests.{Request}
 use Rattle.smithy_schema.specs.Nodes.{Schema, Table, at_place, members_of}
@@ -19,7 +18,6 @@ use Rattle.smithy_serde.specs.StoredValues.{writes_in, AreDefined}
 use Rattle.smithy_serde.specs.Values.{Value, Write, list_of}
 use Rattle.smithy_serde.specs.ValueRead.{write_by}
 use Rattle.smithy_serde.specs.declared.value.WriteList.{WriteList}
-use Rattle.smithy_binding.specs.Bindings.{query_names}
 use Rattle.smithy_schema.specs.declared.first_hole.CutHole.{CutHole}
 use Rattle.smithy_binding.specs.views.CutTemplate.{behind_holes, literal_alone}
 use Rattle.smithy_recovery.specs.BodyParts.{body_part, is_asked, reads_body, is_told}
@@ -28,7 +26,6 @@ use Rattle.smithy_recovery.specs.views.Keeping.{KeepsWrites}
 use Rattle.smithy_recovery.specs.views.Kept.{HasTexts}
 use Rattle.smithy_recovery.specs.views.KeptBodies.{KeepsWritesTold, KeepsBody}
 use Rattle.smithy_recovery.specs.views.KeptMembers.{IsCutBy, AddsTold, write_read, is_told_at, part_of, AddsMember, parts_read, members_at, AddsMembers, KeepsCut, KeepsLabelled, ReadsTold}
-use Rattle.smithy_recovery.specs.views.KeptQueries.{HasNames}
 use Rattle.smithy_recovery.specs.MemberParts.{part_writes, with_body}
 use Rattle.smithy_recovery.specs.PathParts.{path_texts}
 use Rattle.smithy_recovery.specs.views.Pieces.{HasPieces}
@@ -278,16 +275,16 @@ own_of_holes holes last t is = ap query_pieces (sym (last_of_holes holes last)) 
 
 pub labelled_kept : (holds : List ℕ → Option Held) (q : Request) (schema : SchemaRef) (last : List ℕ) (texts : List (List ℕ × List ℕ)) (cut : CutRequest) (result : Result WriteList RecoverError) → KeepsCut holds cut (schema_of schema) result
     → cut.request.now ≡ q → cut.table.now ≡ (schema_of schema).table → HasTexts texts cut.labels.now → HasPieces (query_pieces last) cut.own.now → HasPieces (query_pieces q.target) cut.pieces.now
-    → HasNames (query_names (schema_of schema)) cut.names.now → KeepsLabelled holds q schema last texts result
+    → cut.schema ≡ schema → KeepsLabelled holds q schema last texts result
 unfolding KeepsCut KeepsLabelled
-labelled_kept holds q schema last texts cut result kept request table labels own pieces names = λ r by is same.
+labelled_kept holds q schema last texts cut result kept request table labels own pieces members = λ r by is same.
     let s = schema_of schema in
     let cuts : IsCutBy r texts cut =
     record {
       labels = labels;
       own = λ name. own name ∙ ap (pieces_named name) same;
       pieces = λ name. pieces name ∙ ap (λ (p : Request). pieces_named name (query_pieces p.target)) (sym request);
-      names = λ name. names name ∙ ap (λ (x : Schema). is_one_of name (query_names x)) (sym is);
+      schema = is ∙ ap schema_of (sym members);
     } in
     let here = kept r texts by cuts in
     subst (λ (t : Table). KeepsWritesTold (is_told (reads_body s q.body) (holds q.body)) t (with_body (parts_read r q texts (members_of s)) (body_part holds s q.body)) result) table

@@ -26,9 +26,8 @@ use Rattle.smithy_recovery.specs.views.Keeping.{KeepsPart}
 use Rattle.smithy_recovery.specs.views.KeptBodies.{KeepsPartTold, KeepsPayload}
 use Rattle.smithy_recovery.specs.views.KeptEntries.{has_entry_nodes}
 use Rattle.smithy_recovery.specs.views.KeptLabels.{KeepsLabel}
-use Rattle.smithy_recovery.specs.views.KeptMembers.{query_read, KeepsMemberAt, KeepsMember, AddsPart, StaysDefinedBy, AddsTold, write_read, is_told_at, part_of, AddsMember}
-use Rattle.smithy_recovery.specs.views.KeptQueries.{KeepsQueryMap}
-use Rattle.smithy_recovery.specs.MapParts.{prefix_part}
+use Rattle.smithy_recovery.specs.views.KeptMembers.{query_read, KeepsQueryMap, KeepsMemberAt, KeepsMember, AddsPart, StaysDefinedBy, AddsTold, write_read, is_told_at, part_of, AddsMember}
+use Rattle.smithy_recovery.specs.MapParts.{prefix_part, query_map_part}
 use Rattle.smithy_recovery.specs.QueryParts.{piece_text, pieces_named, query_texts, query_part}
 use Rattle.smithy_recovery.specs.Recovered.{template}
 use Rattle.smithy_recovery.specs.declared.error.RecoverError.{RecoverError}
@@ -105,12 +104,13 @@ query_kept holds cut m name result is kept =
     λ i. option_and_then (query_part m) (each piece_text (drop (length (cuts.own (escape name) i)) (cuts.pieces (escape name) i))) in
     part_told _ m.table (option_and_then (query_part m) (query_texts (template r) (pieces_named (escape name) (query_pieces cut.request.now.target)) name)) result (subst (λ part. KeepsPart m.table part result) same kept))
 
-pub query_map_kept : (holds : List ℕ → Option Held) (cut : CutRequest) (m : Schema) (target : List ℕ) (result : Part) → binding_of m ≡ to_query_map → target ≡ cut.request.now.target
-    → KeepsQueryMap m cut.own.now cut.pieces.now cut.names.now target result → KeepsMember holds cut m result
+pub query_map_kept : (holds : List ℕ → Option Held) (cut : CutRequest) (m : Schema) (result : Part) → binding_of m ≡ to_query_map → KeepsQueryMap cut m result → KeepsMember holds cut m result
 unfolding KeepsMemberAt
-query_map_kept holds cut m target result is same kept =
-    let here = subst (λ t. KeepsQueryMap m cut.own.now cut.pieces.now cut.names.now t result) same kept in
-    by_binding holds cut m to_query_map result is (λ r texts _ cuts. part_told _ m.table _ result (here (template r) (query_names r.schema) cuts.own cuts.pieces cuts.names))
+query_map_kept holds cut m result is kept =
+    by_binding holds cut m to_query_map result is
+    (λ r texts _ cuts.
+    part_told _ m.table _ result
+    (subst (λ (s : Schema). KeepsPart m.table (query_map_part (template r) (query_names s) m (query_pieces cut.request.now.target)) result) (sym cuts.schema) (kept (template r) cuts.own cuts.pieces)))
 
 pub label_kept : (holds : List ℕ → Option Held) (cut : CutRequest) (m : Schema) (result : Part) → binding_of m ≡ to_label → KeepsLabel m cut.labels.now result → KeepsMember holds cut m result
 unfolding KeepsMemberAt

@@ -1,7 +1,8 @@
 -- Pairs in order of their names are known by the values of each name.
-use Rattle.std.proofs.Common.{◌≡◌, refl, sym, ◌∙◌, ap, ap₂, cond, ℕ, zero, suc, ◌+◌, ◌<◌, ◌≤◌, Bool, true, false, not, ◌&&◌, ◌||◌, arith, List, [], ◌∷◌, length, get_or, drop, map, filter}
+use Rattle.std.proofs.Common.{◌≡◌, refl, sym, ◌∙◌, ap, ap₂, subst, cond, ℕ, zero, suc, ◌+◌, ◌<◌, ◌≤◌, Bool, true, false, not, ◌&&◌, ◌||◌, arith, List, [], ◌∷◌, ◌++◌, length, get_or, drop, map, filter, Option, Some, None, option_map}
 use Rattle.std.specs.Borrow.{Bor}
 use Rattle.std.specs.Cmp.Lexicographic.{slice_cmp, same_text as same_from_test}
+use Rattle.std.specs.List.{cons_option}
 use Rattle.std.specs.List.Sorted.{IsSortedByKey, IsStableByKey}
 use Rattle.std.specs.Ordering.{nat_cmp, is_lt, is_eq, ordering_reverse}
 use Rattle.std.specs.declared.cmp.Ordering.{Ordering}
@@ -16,7 +17,9 @@ use Rattle.std.proofs.lemmas.Map.Text.{is_eq-slice_cmp}
 use Rattle.smithy_types.specs.Texts.{same_text, is_one_of, are_distinct}
 use Rattle.smithy_http.specs.Facts.{values_at}
 use Rattle.smithy_strings.proofs.UnescapeLaws.{same_self}
-use Rattle.smithy_recovery.specs.views.NameOrder.{named_seen, IsLow, Rises, IsInOrder, same_pairs, first_below, rise}
+use Rattle.smithy_recovery.specs.views.NameOrder.{named_seen, text_seen, header_seen, left_seen, has_same_first, IsLow, Rises, IsInOrder, same_pairs, first_below, rise}
+use Rattle.smithy_recovery.specs.declared.named_texts.NamedText.{NamedText}
+use Rattle.smithy_recovery.specs.declared.same_facts.Left.{Left}
 use Rattle.smithy_recovery.specs.declared.same_facts.Named.{Named}
 use Rattle.smithy_recovery.specs.SameFacts.{has_same_values}
 use Rattle.smithy_recovery.proofs.FactsTested.{values_from_test, test_from_values}
@@ -24,10 +27,10 @@ use Rattle.smithy_recovery.proofs.FactsTested.{values_from_test, test_from_value
 abbrev Pairs : Type 0
 Pairs = List (List ℕ × List ℕ)
 
-abbrev order : List ℕ → List ℕ → Ordering
+abbrev pub order : List ℕ → List ℕ → Ordering
 order a b = slice_cmp nat_cmp a b
 
-turned : (a b : List ℕ) → order b a ≡ ordering_reverse (order a b)
+pub turned : (a b : List ℕ) → order b a ≡ ordering_reverse (order a b)
 turned a b = nat_list_cmp_total.antisymm b a
 
 -- neither is less: the same name
@@ -60,7 +63,7 @@ less_apart a b less = go (order a b) refl less
     go Equal is e = absurd (cc e)
     go Greater is e = absurd (cc e)
 
-not_same : (a b : List ℕ) → is_lt (order a b) ≡ true → same_text a b ≡ false
+pub not_same : (a b : List ℕ) → is_lt (order a b) ≡ true → same_text a b ≡ false
 not_same a b less = go (same_text a b) refl
   where
     go : (t : Bool) → same_text a b ≡ t → same_text a b ≡ false
@@ -71,7 +74,7 @@ not_same a b less = go (same_text a b) refl
         absurd (cc bad)
 
 -- a name below all of these stands nowhere
-absent : (k m : List ℕ) (ps : Pairs) → is_lt (order k m) ≡ true → IsLow m ps → values_at k ps ≡ []
+pub absent : (k m : List ℕ) (ps : Pairs) → is_lt (order k m) ≡ true → IsLow m ps → values_at k ps ≡ []
 absent k m [] less low = refl
 absent k m (p ∷ ps) less low = go (same_text p.0 k) refl (absent k m ps less low.1)
   where
@@ -91,7 +94,7 @@ rest_same : (b : Bool) (x : List ℕ) (xs ys : List (List ℕ)) → cond b (x �
 rest_same true x xs ys e = cc e
 rest_same false x xs ys e = e
 
-values_cons : (k : List ℕ) (p : List ℕ × List ℕ) (ps : Pairs) → values_at k (p ∷ ps) ≡ cond (same_text p.0 k) (p.1 ∷ values_at k ps) (values_at k ps)
+pub values_cons : (k : List ℕ) (p : List ℕ × List ℕ) (ps : Pairs) → values_at k (p ∷ ps) ≡ cond (same_text p.0 k) (p.1 ∷ values_at k ps) (values_at k ps)
 values_cons k p ps = go (same_text p.0 k)
   where
     go : (t : Bool) → map (λ (q : List ℕ × List ℕ). q.1) (cond t (p ∷ filter (λ q. same_text q.0 k) ps) (filter (λ q. same_text q.0 k) ps)) ≡ cond t (p.1 ∷ values_at k ps) (values_at k ps)
@@ -165,9 +168,40 @@ ordered_same ps qs us vs a b = go (same_pairs us vs) refl (has_same_values ps qs
         let test : same_pairs us vs ≡ true = ap (same_pairs us) (sym pairs) ∙ same_pairs_self us in
         let bad : false ≡ true = sym e ∙ test in absurd (cc bad)
 
--- pairs that are the same in turn
-pub same_in_turn : (ps qs : Pairs) → true ≡ same_pairs ps qs → true ≡ has_same_values ps qs
-same_in_turn ps qs e = sym (test_from_values ps qs (λ k. ap (values_at k) (pairs_from_test ps qs (sym e))))
+-- what both begin with is left out
+
+one_same : (p : List ℕ × List ℕ) (ps qs : Pairs) → has_same_values ps qs ≡ has_same_values (p ∷ ps) (p ∷ qs)
+one_same p ps qs = go (has_same_values ps qs) refl (has_same_values (p ∷ ps) (p ∷ qs)) refl
+  where
+    further : ((k : List ℕ) → values_at k ps ≡ values_at k qs) → (k : List ℕ) → values_at k (p ∷ ps) ≡ values_at k (p ∷ qs)
+    further same k = values_cons k p ps ∙ ap (λ vs. cond (same_text p.0 k) (p.1 ∷ vs) vs) (same k) ∙ sym (values_cons k p qs)
+
+    behind : ((k : List ℕ) → values_at k (p ∷ ps) ≡ values_at k (p ∷ qs)) → (k : List ℕ) → values_at k ps ≡ values_at k qs
+    behind same k = rest_same (same_text p.0 k) p.1 (values_at k ps) (values_at k qs) (sym (values_cons k p ps) ∙ same k ∙ values_cons k p qs)
+
+    go : (s : Bool) → has_same_values ps qs ≡ s → (t : Bool) → has_same_values (p ∷ ps) (p ∷ qs) ≡ t → s ≡ t
+    go true e true f = refl
+    go false e false f = refl
+    go true e false f =
+        let bad : true ≡ false = sym (test_from_values (p ∷ ps) (p ∷ qs) (further (values_from_test ps qs e))) ∙ f in absurd (cc bad)
+    go false e true f =
+        let bad : false ≡ true = sym e ∙ test_from_values ps qs (behind (values_from_test (p ∷ ps) (p ∷ qs) f)) in absurd (cc bad)
+
+pub first_same : (l o : Left) → has_same_first l.first o.first ≡ true → has_same_values l.behind o.behind ≡ has_same_values (left_seen l) (left_seen o)
+first_same l o e = go l.first o.first e
+  where
+    go : (f g : Option (Bor (List ℕ) × Bor (List ℕ))) → has_same_first f g ≡ true
+        → has_same_values l.behind o.behind ≡ has_same_values (cons_option (option_map header_seen f) l.behind) (cons_option (option_map header_seen g) o.behind)
+    go None g e = absurd (cc e)
+    go (Some f) None e = absurd (cc e)
+    go (Some f) (Some g) e =
+        let parts = and_parts (same_text f.0.now g.0.now) (same_text f.1.now g.1.now) e in
+        one_same (header_seen f) l.behind o.behind
+        ∙ (λ i. has_same_values (header_seen f ∷ l.behind) ((same_from_test f.0.now g.0.now (sym parts.0) i, same_from_test f.1.now g.1.now (sym parts.1) i) ∷ o.behind))
+
+pub first_left : (o : Option (List ℕ × List ℕ)) (ps : Pairs) → cons_option o [] ++ ps ≡ cons_option o ps
+first_left None ps = refl
+first_left (Some p) ps = refl
 
 -- Two lists of pairs, item by item.
 
@@ -178,62 +212,80 @@ no_named = record { name = record { ref_ptr = (0, 0); now = [] }; value = record
 pub pairs_short : (xs ys : List Named) (i : ℕ) → i < length xs → length ys ≤ i → false ≡ same_pairs (map named_seen (drop i xs)) (map named_seen (drop i ys))
 pairs_short xs ys i l le = sym (λ j. same_pairs (map named_seen (drop_more xs i no_named l j)) (map named_seen (drop_of_length-le ys le j)))
 
--- What a stable sort gives.
+-- those that tie with a name have it
+tie_is : (a b : List ℕ) → (not (is_lt (order a b)) && not (is_lt (order b a))) ≡ same_text b a
+tie_is a b = go (is_lt (order a b)) refl (is_lt (order b a)) refl
+  where
+    go : (s : Bool) → is_lt (order a b) ≡ s → (t : Bool) → is_lt (order b a) ≡ t → (not s && not t) ≡ same_text b a
+    go true e t f = sym (less_apart a b e)
+    go false e true f = sym (not_same b a f)
+    go false e false f = sym (same_of b a f e)
 
-abbrev pub name_in : Named → Bor (List ℕ)
-name_in n = n.name
+-- What a stable sort gives, of elements with a name and a value. There is one of each name.
 
 abbrev pub name_order : Bor (List ℕ) → Bor (List ℕ) → Ordering
 name_order a b = slice_cmp nat_cmp a.now b.now
 
-low_of : (name : List ℕ) (ys : List Named) → ((j : ℕ) (d : Named) → j < length ys → is_lt (order (get_or ys j d).name.now name) ≡ false) → IsLow name (map named_seen ys)
-low_of name [] h = tt
-low_of name (y ∷ ys) h = (h zero y (omega arith), low_of name ys (λ j d lt. h (suc j) d (omega (arith, lt))))
+abbrev pub name_in : Named → Bor (List ℕ)
+name_in n = n.name
 
-rises_of : (ys : List Named) → ((i j : ℕ) (d : Named) → i ≤ j → j < length ys → is_lt (order (get_or ys j d).name.now (get_or ys i d).name.now) ≡ false) → Rises (map named_seen ys)
-rises_of [] h = tt
-rises_of (y ∷ ys) h = (low_of y.name.now ys (λ j d lt. h zero (suc j) d (omega arith) (omega (arith, lt))), rises_of ys (λ i j d le lt. h (suc i) (suc j) d (omega (arith, le)) (omega (arith, lt))))
+abbrev pub text_name : NamedText → Bor (List ℕ)
+text_name t = t.name
 
--- those that tie with a name have it
-tie_is : (x y : Named) → (not (is_lt (name_order x.name y.name)) && not (is_lt (name_order y.name x.name))) ≡ same_text y.name.now x.name.now
-tie_is x y = go (is_lt (order x.name.now y.name.now)) refl (is_lt (order y.name.now x.name.now)) refl
-  where
-    go : (a : Bool) → is_lt (order x.name.now y.name.now) ≡ a → (b : Bool) → is_lt (order y.name.now x.name.now) ≡ b → (not a && not b) ≡ same_text y.name.now x.name.now
-    go true e b f = sym (less_apart x.name.now y.name.now e)
-    go false e true f = let other = less_apart y.name.now x.name.now f in sym (swapped other)
-      where
-        swapped : same_text x.name.now y.name.now ≡ false → same_text y.name.now x.name.now ≡ false
-        swapped o = back (same_text y.name.now x.name.now) refl
-          where
-            back : (t : Bool) → same_text y.name.now x.name.now ≡ t → same_text y.name.now x.name.now ≡ false
-            back false s = s
-            back true s = let same = same_from_test y.name.now x.name.now (sym s) in let bad : true ≡ false = sym (same_self x.name.now) ∙ ap (same_text x.name.now) (sym same) ∙ o in absurd (cc bad)
-    go false e false f = sym (same_of y.name.now x.name.now f e)
+abbrev lent : List ℕ → Bor (List ℕ)
+lent text = record { ref_ptr = (0, 0); now = text }
 
-values_of_ties : (x : Named) (ys : List Named) → map (λ (n : Named). n.value.now) (filter (λ y. not (is_lt (name_order x.name y.name)) && not (is_lt (name_order y.name x.name))) ys) ≡ values_at x.name.now (map named_seen ys)
-values_of_ties x [] = refl
-values_of_ties x (y ∷ ys) =
-    ap (λ t. map (λ (n : Named). n.value.now) (cond t (y ∷ filter (λ z. not (is_lt (name_order x.name z.name)) && not (is_lt (name_order z.name x.name))) ys) (filter (λ z. not (is_lt (name_order x.name z.name)) && not (is_lt (name_order z.name x.name))) ys))) (tie_is x y)
-    ∙ go (same_text y.name.now x.name.now) (values_of_ties x ys)
-  where
-    go : (t : Bool) → map (λ (n : Named). n.value.now) (filter (λ z. not (is_lt (name_order x.name z.name)) && not (is_lt (name_order z.name x.name))) ys) ≡ values_at x.name.now (map named_seen ys)
-        → map (λ (n : Named). n.value.now) (cond t (y ∷ filter (λ z. not (is_lt (name_order x.name z.name)) && not (is_lt (name_order z.name x.name))) ys) (filter (λ z. not (is_lt (name_order x.name z.name)) && not (is_lt (name_order z.name x.name))) ys))
-        ≡ map (λ (q : List ℕ × List ℕ). q.1) (cond t (named_seen y ∷ filter (λ q. same_text q.0 x.name.now) (map named_seen ys)) (filter (λ q. same_text q.0 x.name.now) (map named_seen ys)))
-    go true rest = ap (λ vs. y.value.now ∷ vs) rest
-    go false rest = rest
+module _ {A : Type 0} (name_of : A → Bor (List ℕ)) (value_of : A → List ℕ) (with_name : List ℕ → A) (is_named : (name : List ℕ) → (name_of (with_name name)).now ≡ name) where
+  abbrev seen_by : A → List ℕ × List ℕ
+  seen_by x = ((name_of x).now, value_of x)
 
-pub sorted_up : (ys : List Named) → IsSortedByKey name_in name_order ys → (i j : ℕ) (d : Named) → i ≤ j → j < length ys → is_lt (name_order (get_or ys j d).name (get_or ys i d).name) ≡ false
-sorted_up ys up = sorted_far (λ (x y : Named). is_lt (name_order x.name y.name)) (ranks_by nat_list_cmp_total (λ (n : Named). n.name.now)) ys up
+  low_of : (name : List ℕ) (ys : List A) → ((j : ℕ) (d : A) → j < length ys → is_lt (order (name_of (get_or ys j d)).now name) ≡ false) → IsLow name (map seen_by ys)
+  low_of name [] h = tt
+  low_of name (y ∷ ys) h = (h zero y (omega arith), low_of name ys (λ j d lt. h (suc j) d (omega (arith, lt))))
 
-pub is_in_order : (xs ys : List Named) → ((i j : ℕ) (d : Named) → i ≤ j → j < length ys → is_lt (name_order (get_or ys j d).name (get_or ys i d).name) ≡ false) → IsStableByKey name_in name_order xs ys
-    → IsInOrder (map named_seen xs) (map named_seen ys)
-is_in_order xs ys up stable =
-    record {
-      rises = rises_of ys up;
-      same = λ name.
-          let x : Named = record { name = record { ref_ptr = (0, 0); now = name }; value = record { ref_ptr = (0, 0); now = [] } } in
-          sym (values_of_ties x ys) ∙ ap (map (λ (n : Named). n.value.now)) (stable x) ∙ values_of_ties x xs;
-    }
+  rises_of : (ys : List A) → ((i j : ℕ) (d : A) → i ≤ j → j < length ys → is_lt (order (name_of (get_or ys j d)).now (name_of (get_or ys i d)).now) ≡ false) → Rises (map seen_by ys)
+  rises_of [] h = tt
+  rises_of (y ∷ ys) h = (low_of (name_of y).now ys (λ j d lt. h zero (suc j) d (omega arith) (omega (arith, lt))), rises_of ys (λ i j d le lt. h (suc i) (suc j) d (omega (arith, le)) (omega (arith, lt))))
+
+  abbrev ties : A → A → Bool
+  ties x y = not (is_lt (name_order (name_of x) (name_of y))) && not (is_lt (name_order (name_of y) (name_of x)))
+
+  values_of_ties : (x : A) (ys : List A) → map value_of (filter (ties x) ys) ≡ values_at (name_of x).now (map seen_by ys)
+  values_of_ties x [] = refl
+  values_of_ties x (y ∷ ys) =
+      ap (λ t. map value_of (cond t (y ∷ filter (ties x) ys) (filter (ties x) ys))) (tie_is (name_of x).now (name_of y).now)
+      ∙ go (same_text (name_of y).now (name_of x).now) (values_of_ties x ys)
+    where
+      go : (t : Bool) → map value_of (filter (ties x) ys) ≡ values_at (name_of x).now (map seen_by ys)
+          → map value_of (cond t (y ∷ filter (ties x) ys) (filter (ties x) ys))
+          ≡ map (λ (q : List ℕ × List ℕ). q.1) (cond t (seen_by y ∷ filter (λ q. same_text q.0 (name_of x).now) (map seen_by ys)) (filter (λ q. same_text q.0 (name_of x).now) (map seen_by ys)))
+      go true rest = ap (λ vs. value_of y ∷ vs) rest
+      go false rest = rest
+
+  pub sorted_up : (ys : List A) → IsSortedByKey name_of name_order ys → (i j : ℕ) (d : A) → i ≤ j → j < length ys → is_lt (name_order (name_of (get_or ys j d)) (name_of (get_or ys i d))) ≡ false
+  sorted_up ys up = sorted_far (λ (x y : A). is_lt (name_order (name_of x) (name_of y))) (ranks_by nat_list_cmp_total (λ (x : A). (name_of x).now)) ys up
+
+  pub is_in_order : (xs ys : List A) → ((i j : ℕ) (d : A) → i ≤ j → j < length ys → is_lt (name_order (name_of (get_or ys j d)) (name_of (get_or ys i d))) ≡ false) → IsStableByKey name_of name_order xs ys
+      → IsInOrder (map seen_by xs) (map seen_by ys)
+  is_in_order xs ys up stable =
+      record {
+        rises = rises_of ys up;
+        same = λ name.
+            let x = with_name name in
+            let stays : values_at (name_of x).now (map seen_by ys) ≡ values_at (name_of x).now (map seen_by xs) = sym (values_of_ties x ys) ∙ ap (map value_of) (stable x) ∙ values_of_ties x xs in
+            subst (λ n. values_at n (map seen_by ys) ≡ values_at n (map seen_by xs)) (is_named name) stays;
+      }
+
+-- of the two kinds of elements that are sorted
+pub pairs_ordered : (xs ys : List Named) → IsSortedByKey name_in name_order ys → IsStableByKey name_in name_order xs ys → IsInOrder (map named_seen xs) (map named_seen ys)
+pairs_ordered xs ys up stable =
+    let with_name : List ℕ → Named = λ name. record { name = lent name; value = lent [] } in
+    is_in_order name_in (λ (n : Named). n.value.now) with_name (λ name. refl) xs ys (sorted_up name_in (λ (n : Named). n.value.now) with_name (λ name. refl) ys up) stable
+
+pub texts_ordered : (xs ys : List NamedText) → IsSortedByKey text_name name_order ys → IsStableByKey text_name name_order xs ys → IsInOrder (map text_seen xs) (map text_seen ys)
+texts_ordered xs ys up stable =
+    let with_name : List ℕ → NamedText = λ name. record { name = lent name; text = lent [] } in
+    is_in_order text_name (λ (t : NamedText). t.text.now) with_name (λ name. refl) xs ys (sorted_up text_name (λ (t : NamedText). t.text.now) with_name (λ name. refl) ys up) stable
 
 -- ---- names that rise
 

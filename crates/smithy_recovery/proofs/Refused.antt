@@ -39,3 +39,7 @@ text_passed t read whole OutOfMemory h told = tt
 pub text_refused : {A : Type 0} (t : Table) (read : Option A) (whole : Option Value) (e : RecoverError) (r : Result ShapeValue RecoverError) → r ≡ Err e → (read ≡ None → whole ≡ None)
     → Finds {A = A} (λ x. x) (Err e) read → Keeps t whole r
 text_refused t read whole e r is h told = rw is (text_passed t read whole e h told)
+
+-- want of memory is free
+pub part_without_memory : (t : Table) (part : Option (Option Value)) (r : Result (Option ShapeValue) RecoverError) → r ≡ Err OutOfMemory → KeepsPart t part r
+part_without_memory t part r is = rw is tt

@@ -3,6 +3,7 @@ pub mod Kept
 pub mod Keeping
 pub mod KeptBodies
 pub mod KeptEntries
+pub mod KeptHeaders
 pub mod KeptLabels
 pub mod KeptMembers
 pub mod KeptQueries

@@ -1,6 +1,8 @@
 // The value of a header member (Smithy, HTTP protocol bindings, httpHeader).
 ghost use Rattle.std.specs.Prelude.{◌≡◌, option_map};
 ghost use Rattle.std.specs.Result.{result_ok};
+ghost use Rattle.std.specs.Str.{str_to_ascii_lowercase};
+ghost use Rattle.smithy_types.specs.Texts.{same_text};
 ghost use Rattle.smithy_http.specs.DateLists.{dates_of};
 ghost use Rattle.smithy_http.specs.Facts.{values_of_name};
 ghost use Rattle.smithy_http.specs.HeaderValues.{tokens_of, text_of};
@@ -11,10 +13,11 @@ ghost use Rattle.smithy_serde.specs.ValueRead.{IsPlaced};
 ghost use Rattle.smithy_recovery.specs.Finding.{Finds};
 ghost use Rattle.smithy_recovery.specs.HeaderParts.{only_of, header_list, list_of_header, scalar_of_header, header_value, named_header};
 ghost use Rattle.smithy_recovery.specs.views.Keeping.{Keeps, KeepsOnly, KeepsText, KeepsPartOf};
+ghost use Rattle.smithy_recovery.specs.views.KeptHeaders.{values_taken};
 
 use crate::error::RecoverError;
 use crate::values::{is_list, scalar_list, scalar_value, time_list, written};
-use smithy_http::{GetAllBytes, Headers, HttpError, dates, tokens};
+use smithy_http::{GetAllBytes, HeaderPairs, Headers, HttpError, dates, tokens};
 use smithy_ids::{ShapeType, TimestampFormat};
 use smithy_schema::SchemaRef;
 use smithy_serde::ShapeValue;
@@ -22,10 +25,10 @@ use smithy_strings::{Place, format_in};
 use smithy_types::{Format, Longs, Words};
 use std::alloc::Global;
 
-// So many headers are searched through by a name in any case: that costs less than a copy of the name in lower case.
+// So many headers are gone through for a name in any case: that costs less than a copy of the name in lower case.
 const FEW_HEADERS: usize = 16;
 
-/// Whether the headers are so few that a name is found as it stands.
+/// Whether the headers are so few that they are gone through for each name.
 pub fn are_few(headers: &Headers) -> bool {
     let mut pairs = headers.iter_bytes();
     for _ in 0..FEW_HEADERS {
@@ -120,6 +123,62 @@ fn only_value<'h>(mut values: GetAllBytes<'h>) -> Result<Option<&'h [u8]>, Recov
     }
 }
 
+// Whether a name in lower case is this name, which may be in any case.
+fn is_lower_of(lower: &str, name: &str) -> bool
+    ensures { result ≡ same_text lower.now (str_to_ascii_lowercase name.now) }
+{
+    let (lower, name) = (lower.as_bytes(), name.as_bytes());
+    if lower.len() != name.len() {
+        return false;
+    }
+    for (place, b) in name.iter().enumerate() {
+        if lower[place] != b.to_ascii_lowercase() {
+            return false;
+        }
+    }
+    true
+}
+
+// The first value of a name among headers, and the headers behind it.
+fn next_named<'h>(mut headers: HeaderPairs<'h>, name: &str) -> Option<(&'h [u8], HeaderPairs<'h>)>
+    ensures { values_of_name name.now headers.entry ≡ values_taken name.now result }
+{
+    while let Some((own, value)) = headers.next() {
+        if is_lower_of(own, name) {
+            return Some((value, headers));
+        }
+    }
+    None
+}
+
+// The one value of a name among headers, if it has one. `NotPlaced` where it has several.
+fn only_among<'h>(headers: HeaderPairs<'h>, name: &str) -> Result<Option<&'h [u8]>, RecoverError>
+    ensures { Finds (option_map (λ v. v.now)) result (only_of (values_of_name name.now headers.entry)) }
+{
+    let Some((value, behind)) = next_named(headers, name) else {
+        return Ok(None);
+    };
+    match next_named(behind, name) {
+        Some(_) => Err(RecoverError::NotPlaced),
+        None => Ok(Some(value)),
+    }
+}
+
+// The same of all headers, which are gone through where they are few.
+fn only_named<'h>(
+    headers: &'h Headers,
+    few: bool,
+    name: &'h str,
+) -> Result<Option<&'h [u8]>, RecoverError>
+    ensures { Finds (option_map (λ v. v.now)) result (only_of (values_of_name name.now headers.now)) }
+{
+    if few {
+        only_among(headers.iter_bytes(), name)
+    } else {
+        only_value(headers.get_all_bytes(name))
+    }
+}
+
 // The scalar of a header's text.
 fn header_scalar(
     alloc: Global,
@@ -170,12 +229,13 @@ fn header_value(
 fn named_value(
     alloc: Global,
     headers: &Headers,
+    few: bool,
     name: &str,
     member: SchemaRef<'_>,
 ) -> Result<Option<ShapeValue>, RecoverError>
     ensures { KeepsPartOf (schema_of member.entry) (named_header name.now headers.now) result }
 {
-    match only_value(headers.get_all_bytes(name))? {
+    match only_named(headers, few, name)? {
         Some(value) => written(header_value(alloc, headers, name, member, value)),
         None => Ok(None),
     }
@@ -191,11 +251,11 @@ fn lowered_value(
     ensures { KeepsPartOf (schema_of member.entry) (named_header name.now headers.now) result }
 {
     let lower = name.to_ascii_lowercase(alloc)?;
-    named_value(alloc, headers, lower.as_str(), member)
+    named_value(alloc, headers, false, lower.as_str(), member)
 }
 
 /// The value of a header member: none where no header of its name stands. `NotPlaced` where there are several, or where
-/// the text is none of a value. Where the headers are few, the name is looked up as it stands. Takes memory.
+/// the text is none of a value. Where the headers are few, they are gone through for the name. Takes memory.
 pub fn header_part(
     alloc: Global,
     headers: &Headers,
@@ -206,7 +266,7 @@ pub fn header_part(
     ensures { KeepsPartOf (schema_of member.entry) (named_header name.now headers.now) result }
 {
     if few {
-        named_value(alloc, headers, name, member)
+        named_value(alloc, headers, true, name, member)
     } else {
         lowered_value(alloc, headers, name, member)
     }

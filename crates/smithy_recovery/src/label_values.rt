@@ -1,12 +1,11 @@
 // The value of a label member (Smithy, HTTP protocol bindings, httpLabel).
-ghost use Rattle.std.specs.Prelude.{◌≡◌, option_map};
+ghost use Rattle.std.specs.Prelude.{◌≡◌};
 ghost use Rattle.smithy_schema.specs.Nodes.{name_of};
 ghost use Rattle.smithy_schema.specs.References.{schema_of};
-ghost use Rattle.smithy_recovery.specs.views.Kept.{text_under};
 ghost use Rattle.smithy_recovery.specs.views.KeptLabels.{KeepsLabel};
 
 use crate::error::RecoverError;
-use crate::path_texts::NamedTexts;
+use crate::path_texts::{LabelTexts, text_under};
 use crate::values::{scalar_value, written};
 use smithy_schema::SchemaRef;
 use smithy_serde::ShapeValue;
@@ -20,24 +19,16 @@ fn name_of<'t>(member: SchemaRef<'t>) -> &'t str
     member.member_name().unwrap_or("")
 }
 
-// The text of a name.
-#[tactic(auto, unfolding(crate::specs::views::Kept::text_under))]
-fn text_of<'l>(texts: &NamedTexts<'l>, name: &'l str) -> Option<&'l str>
-    ensures { option_map (λ t. t.now) result ≡ text_under texts.now name.now }
-{
-    texts.get(&name).copied()
-}
-
 /// The value of a label member, by the texts of the labels. `NotPlaced` where it has none, or one that is no value's. Takes
 /// memory.
 pub fn label_part<'t>(
     alloc: Global,
     member: SchemaRef<'t>,
-    texts: &NamedTexts<'t>,
+    texts: &LabelTexts<'t>,
 ) -> Result<Option<ShapeValue>, RecoverError>
     ensures { KeepsLabel (schema_of member.entry) texts.now result }
 {
-    match text_of(texts, name_of(member)) {
+    match text_under(texts, name_of(member)) {
         Some(text) => written(scalar_value(alloc, member, Place::Label, text)),
         None => Err(RecoverError::NotPlaced),
     }

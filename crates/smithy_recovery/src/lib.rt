@@ -12,6 +12,7 @@ mod label_values;
 pub mod laws;
 mod map_writes;
 mod member_values;
+mod named_texts;
 mod path_texts;
 mod pieces;
 mod prefix_entries;

@@ -7,16 +7,17 @@ ghost use Rattle.smithy_schema.specs.References.{schema_of};
 ghost use Rattle.smithy_serde.specs.StoredValues.{AreDefined};
 ghost use Rattle.smithy_serde.specs.ValueRead.{IsPlaced};
 ghost use Rattle.smithy_binding.specs.Checked.{has_map_kind, checked_input};
+ghost use Rattle.smithy_recovery.specs.views.KeptEntries.{has_entry_nodes};
 ghost use Rattle.smithy_recovery.specs.views.Keeping.{KeepsPartOf};
-ghost use Rattle.smithy_recovery.specs.views.KeptMembers.{query_read, KeepsMember, AddsPart, StaysDefinedBy, is_sound_at, AddsMember, AddsMembers, KeepsCut, KeepsTexts, ReadsRequest};
+ghost use Rattle.smithy_recovery.specs.views.KeptMembers.{query_read, KeepsQueryMap, KeepsMember, AddsPart, StaysDefinedBy, is_sound_at, AddsMember, AddsMembers, KeepsCut, KeepsTexts, ReadsRequest};
 
 use crate::body_writes::{body_writes, payload_part};
 use crate::error::RecoverError;
 use crate::header_values::{are_few, header_part};
 use crate::label_values::label_part;
-use crate::path_texts::{LabelText, NamedTexts, by_name, path_texts};
+use crate::path_texts::{LabelText, LabelTexts, by_name, path_texts};
 use crate::prefix_entries::prefix_part;
-use crate::query_entries::{QueryNames, query_map_part, query_names};
+use crate::query_entries::{query_map_part, query_names};
 use crate::query_texts::{NamedPieces, named_pieces, texts_named};
 use crate::query_values::query_part;
 use smithy_binding::{HttpBindingProtocol, cut, template_of};
@@ -34,12 +35,12 @@ struct CutRequest<'c, 's> {
     // Whether the request has so few headers that a name is looked up as it stands.
     few_headers: bool,
     // The texts of the labels.
-    labels: &'c NamedTexts<'s>,
+    labels: &'c LabelTexts<'s>,
     // The pieces of the template's own query, and those of the request's.
     own: &'c NamedPieces<'s>,
     pieces: &'c NamedPieces<'s>,
-    // The names of the query members.
-    names: &'c QueryNames,
+    // The structure whose members are read.
+    schema: SchemaRef<'s>,
 }
 
 // The value of a query member, by the texts that stand under its name.
@@ -53,6 +54,26 @@ fn query_member(
 {
     let texts = texts_named(alloc, cut.own, cut.pieces, name)?;
     query_part(alloc, member, texts.as_slice())
+}
+
+// The map of the query beside the query members, whose names are listed for it: no other member wants them.
+fn query_map_member(
+    alloc: Global,
+    cut: &CutRequest<'_, '_>,
+    member: SchemaRef<'_>,
+) -> Result<Option<ShapeValue>, RecoverError>
+    requires { IsTrue (has_entry_nodes (schema_of member)) }
+    ensures { KeepsQueryMap cut.now (schema_of member.entry) result }
+{
+    let names = query_names(alloc, cut.schema)?;
+    query_map_part(
+        alloc,
+        cut.own,
+        cut.pieces,
+        cut.request.uri(),
+        &names,
+        member,
+    )
 }
 
 // What the request has of a member: nothing of an unbound one.
@@ -73,9 +94,7 @@ fn bound_part<'s, C: Codec>(
         Binding::Header(name) => header_part(alloc, headers, cut.few_headers, name, member),
         Binding::Prefix(prefix) => prefix_part(alloc, headers, member, prefix),
         Binding::Query(name) => query_member(alloc, cut, name, member),
-        Binding::QueryMap => {
-            query_map_part(alloc, cut.own, cut.pieces, request.uri(), cut.names, member)
-        }
+        Binding::QueryMap => query_map_member(alloc, cut, member),
         Binding::Label => label_part(alloc, member, cut.labels),
         Binding::Payload => {
             payload_part(alloc, codec, cut.table, member, request.body().as_slice())
@@ -169,7 +188,6 @@ fn labelled_writes<'s, C: Codec>(
     let labels = by_name(alloc, texts)?;
     let own = named_pieces(alloc, last)?;
     let pieces = named_pieces(alloc, request.uri())?;
-    let names = query_names(alloc, schema)?;
     let parts = CutRequest {
         request,
         table,
@@ -177,7 +195,7 @@ fn labelled_writes<'s, C: Codec>(
         labels: &labels,
         own: &own,
         pieces: &pieces,
-        names: &names,
+        schema,
     };
     cut_writes(alloc, codec, &parts, schema)
 }

@@ -1,9 +1,10 @@
 // The texts of the labels, cut out of a path by its template (Smithy, HTTP protocol bindings, httpLabel).
 ghost use Rattle.std.specs.Prelude.{◌≡◌, IfOk, map, option_map};
+ghost use Rattle.smithy_types.specs.Texts.{found};
 ghost use Rattle.smithy_binding.specs.views.CutTemplate.{behind_holes, literal_alone};
 ghost use Rattle.smithy_recovery.specs.Finding.{Finds};
 ghost use Rattle.smithy_recovery.specs.PathParts.{behind_front, before_end, segment, part_by};
-ghost use Rattle.smithy_recovery.specs.views.Kept.{label_seen, labels_seen, texts_cut, HasTexts, part_behind, text_of_hole};
+ghost use Rattle.smithy_recovery.specs.views.Kept.{label_seen, labels_seen, texts_cut, text_in_map, text_under, IsMapOf, HasTexts, part_behind, text_of_hole};
 
 use crate::error::RecoverError;
 use smithy_binding::CutHole;
@@ -19,8 +20,15 @@ pub struct LabelText<'t> {
     text: Text,
 }
 
-/// Texts by their names.
-pub type NamedTexts<'t> = BTreeMap<&'t str, &'t str>;
+// So many labels are gone through where they stand: that costs less than a map.
+const FEW_LABELS: usize = 8;
+
+/// The texts of labels by their names: the labels, and where there are many a map of their texts.
+#[derive(Drop)]
+pub struct LabelTexts<'t> {
+    labels: &'t [LabelText<'t>],
+    texts: Option<BTreeMap<&'t str, &'t str>>,
+}
 
 /// What stands behind a front.
 pub fn behind<'p>(text: &'p str, front: &str) -> Option<&'p str>
@@ -119,13 +127,13 @@ pub fn path_texts<'t>(
     Ok(texts)
 }
 
-/// The texts by their names, of each name the first one. Takes memory.
-#[tactic(auto, unfolding(crate::specs::views::Kept::text_under))]
-pub fn by_name<'t>(
+// A map of the texts by their names, of each name the first one.
+#[tactic(auto, unfolding(crate::specs::views::Kept::text_in_map))]
+fn texts_in_map<'t>(
     alloc: Global,
     labels: &'t [LabelText<'t>],
-) -> Result<NamedTexts<'t>, OutOfMemory>
-    ensures { IfOk result (HasTexts (map label_seen labels.now)) }
+) -> Result<BTreeMap<&'t str, &'t str>, OutOfMemory>
+    ensures { IfOk result (IsMapOf (map label_seen labels.now)) }
 {
     let mut texts = BTreeMap::new(alloc);
     for label in labels {
@@ -134,4 +142,44 @@ pub fn by_name<'t>(
         }
     }
     Ok(texts)
+}
+
+/// The texts by their names, of each name the first one. Takes memory for more than eight.
+pub fn by_name<'t>(
+    alloc: Global,
+    labels: &'t [LabelText<'t>],
+) -> Result<LabelTexts<'t>, OutOfMemory>
+    ensures { IfOk result (HasTexts (map label_seen labels.now)) }
+{
+    if labels.len() > FEW_LABELS {
+        let texts = Some(texts_in_map(alloc, labels)?);
+        return Ok(LabelTexts { labels, texts });
+    }
+    Ok(LabelTexts {
+        labels,
+        texts: None,
+    })
+}
+
+// The text of the first label of a name.
+fn first_text<'l>(labels: &'l [LabelText<'l>], name: &str) -> Option<&'l str>
+    ensures { option_map (λ t. t.now) result ≡ found name.now (map label_seen labels.now) }
+{
+    for label in labels {
+        if label.name == name {
+            return Some(label.text.as_str());
+        }
+    }
+    None
+}
+
+/// The text under a name.
+#[tactic(auto, unfolding(crate::specs::views::Kept::text_in_map))]
+pub fn text_under<'l>(texts: &LabelTexts<'l>, name: &'l str) -> Option<&'l str>
+    ensures { option_map (λ t. t.now) result ≡ text_under texts.now name.now }
+{
+    match &texts.texts {
+        Some(texts) => texts.get(&name).copied(),
+        None => first_text(texts.labels, name),
+    }
 }

@@ -6,7 +6,7 @@ ghost use Rattle.smithy_binding.specs.Bindings.{query_names};
 ghost use Rattle.smithy_binding.specs.views.Entries.{query_name_at};
 ghost use Rattle.smithy_recovery.specs.views.Keeping.{KeepsOf};
 ghost use Rattle.smithy_recovery.specs.views.KeptEntries.{HasEntries, has_entry_nodes};
-ghost use Rattle.smithy_recovery.specs.views.KeptQueries.{is_named, HasNames, entries_in, AreKeptDefined, AreEntriesDefined, has_key, is_to_come, TellsKey, value_under, PutsValue, PutsUnder, PutsLeft, StaysKept, StaysKeptWith, KeepsQuery, KeepsQueryMap, map_kept};
+ghost use Rattle.smithy_recovery.specs.views.KeptQueries.{is_named, HasNames, entries_in, AreKeptDefined, AreEntriesDefined, has_key, is_to_come, TellsKey, value_under, PutsValue, PutsUnder, PutsLeft, StaysKept, StaysKeptWith, KeepsQuery, KeepsQueryBeside, map_kept};
 
 use crate::entry_values::entry_value;
 use crate::error::RecoverError;
@@ -231,7 +231,7 @@ pub fn query_map_part(
     member: SchemaRef<'_>,
 ) -> Result<Option<ShapeValue>, RecoverError>
     requires { IsTrue (has_entry_nodes (node member)) }
-    ensures { KeepsQueryMap (node member.entry) own.now pieces.now names.now target.now result }
+    ensures { KeepsQueryBeside (node member.entry) own.now pieces.now names.now target.now result }
 {
     let Some(node) = member.value() else {
         unreachable!()

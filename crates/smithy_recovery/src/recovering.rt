@@ -4,11 +4,10 @@ ghost use Rattle.smithy_schema.specs.Nodes.{at_place};
 ghost use Rattle.smithy_schema.specs.References.{schema_of};
 ghost use Rattle.smithy_schema.specs.WellMade.{is_well_made};
 ghost use Rattle.smithy_serde.specs.StoredValues.{HasNode, AreDefined};
-ghost use Rattle.smithy_serde.specs.StructValues.{table_of, node_of, members_of};
+ghost use Rattle.smithy_serde.specs.StructValues.{table_of, node_of};
 ghost use Rattle.smithy_binding.specs.Checked.{checked_input};
-ghost use Rattle.smithy_binding.specs.Protocols.{AnswersBy};
 ghost use Rattle.smithy_recovery.specs.Recovering.{IsCheckedAt, Recovers, IsInputOf, Lacks};
-ghost use Rattle.smithy_recovery.specs.views.Stages.{TellsTyped, Places, TellsSame, RecoversNode};
+ghost use Rattle.smithy_recovery.specs.views.Stages.{TellsTyped, Answers, Places, TellsSame, RecoversNode};
 
 use crate::error::RecoverError;
 use crate::laws::recovered_is_exact;
@@ -22,6 +21,16 @@ use smithy_serde::{Codec, OmitFlags, SerdeError, StructValue, WriteList};
 use smithy_types::OutOfMemory;
 use smithy_unambiguity::laws::{facts_decide_view, view_settles};
 use std::alloc::Global;
+
+// By what an input is recovered and placed: a node of a table with its place, an endpoint, and the default headers to leave out.
+#[derive(Clone, Copy, Drop)]
+struct Setting<'t, 'e> {
+    table: &'t Schemas,
+    place: SchemaIndex,
+    schema: SchemaRef<'t>,
+    endpoint: &'e str,
+    omit: OmitFlags,
+}
 
 /// The input of a request: the one typed input that is its own normal form and whose request, placed by `protocol` with
 /// the default headers that `omit` leaves, has the facts of this one: its method, its path, under each name of a header
@@ -62,36 +71,38 @@ pub fn recover_request<'t, C: Codec>(
     let Some(node) = table.get(schema) else {
         unreachable!()
     };
-    recover_input(
-        alloc, protocol, request, table, schema, node, endpoint, omit,
-    )
+    let setting = Setting {
+        table,
+        place: schema,
+        schema: node,
+        endpoint,
+        omit,
+    };
+    recover_input(alloc, protocol, request, setting)
 }
 
-// The input of a request by a schema that stands at a place of the table.
+// The input of a request by a schema that stands at its place of the table.
 fn recover_input<'t, C: Codec>(
     alloc: Global,
     protocol: &HttpBindingProtocol<C>,
     request: &Request,
-    table: &'t Schemas,
-    place: SchemaIndex,
-    schema: SchemaRef<'_>,
-    endpoint: &str,
-    omit: OmitFlags,
+    setting: Setting<'t, '_>,
 ) -> Result<StructValue<'t>, RecoverError>
-    requires node { at_place table.now place.0 ≡ Some (schema_of schema) }
-    requires checked { IsTrue (checked_input (schema_of schema)) }
-    requires well_made { IsTrue (is_well_made (schema_of schema)) }
+    requires node { at_place setting.table.now setting.place.0 ≡ Some (schema_of setting.schema) }
+    requires checked { IsTrue (checked_input (schema_of setting.schema)) }
+    requires well_made { IsTrue (is_well_made (schema_of setting.schema)) }
     requires lawful { C.lawful protocol.now.codec }
-    ensures table { IfOk result (λ v. table_of v ≡ table.now) }
-    ensures node { IfOk result (λ v. Some (node_of v) ≡ at_place table.now place.0) }
-    ensures value { RecoversNode C.text C.holds protocol.now schema.entry endpoint.now omit request.now result }
+    ensures table { IfOk result (λ v. table_of v ≡ setting.entry.table.now) }
+    ensures node { IfOk result (λ v. Some (node_of v) ≡ at_place setting.entry.table.now setting.entry.place.0) }
+    ensures value { RecoversNode C.text C.holds protocol.now setting.entry request.now result }
 {
+    let (table, schema, endpoint) = (setting.table, setting.schema, setting.endpoint);
     let writes = read_writes(alloc, protocol, request, table, schema, endpoint)?;
     if !are_typed(alloc, table, schema, &writes, endpoint)? {
         return Err(RecoverError::NotPlaced);
     }
-    let input = StructValue::with_writes(table, place, writes);
-    if !is_placed_so(alloc, protocol, request, schema, &input, endpoint, omit)? {
+    let input = StructValue::with_writes(table, setting.place, writes);
+    if !is_placed_so(alloc, protocol, request, setting, &input)? {
         return Err(RecoverError::NotPlaced);
     }
     Ok(input)
@@ -120,32 +131,28 @@ fn are_typed(
 fn serialized<C: Codec>(
     alloc: Global,
     protocol: &HttpBindingProtocol<C>,
-    schema: SchemaRef<'_>,
+    setting: Setting<'_, '_>,
     input: &StructValue<'_>,
-    endpoint: &str,
-    omit: OmitFlags,
 ) -> Result<Request, SerdeError>
-    requires checked { IsTrue (checked_input (schema_of schema)) }
+    requires checked { IsTrue (checked_input (schema_of setting.schema)) }
     requires lawful { C.lawful protocol.now.codec }
-    ensures { AnswersBy C.text protocol.now schema.entry (members_of input.now) endpoint.now omit result }
+    ensures { Answers C.text protocol.now setting.entry input.now result }
 {
-    protocol.serialize_request(alloc, input, schema, endpoint, omit)
+    protocol.serialize_request(alloc, input, setting.schema, setting.endpoint, setting.omit)
 }
 
 // The request of an input. `NotPlaced` where it has none.
 fn placed<C: Codec>(
     alloc: Global,
     protocol: &HttpBindingProtocol<C>,
-    schema: SchemaRef<'_>,
+    setting: Setting<'_, '_>,
     input: &StructValue<'_>,
-    endpoint: &str,
-    omit: OmitFlags,
 ) -> Result<Request, RecoverError>
-    requires checked { IsTrue (checked_input (schema_of schema)) }
+    requires checked { IsTrue (checked_input (schema_of setting.schema)) }
     requires lawful { C.lawful protocol.now.codec }
-    ensures { Places C.text protocol.now schema.entry input.now endpoint.now omit result }
+    ensures { Places C.text protocol.now setting.entry input.now result }
 {
-    match serialized(alloc, protocol, schema, input, endpoint, omit) {
+    match serialized(alloc, protocol, setting, input) {
         Ok(request) => Ok(request),
         Err(error) => Err(RecoverError::from(error)),
     }
@@ -156,15 +163,13 @@ fn is_placed_so<C: Codec>(
     alloc: Global,
     protocol: &HttpBindingProtocol<C>,
     request: &Request,
-    schema: SchemaRef<'_>,
+    setting: Setting<'_, '_>,
     input: &StructValue<'_>,
-    endpoint: &str,
-    omit: OmitFlags,
 ) -> Result<bool, RecoverError>
-    requires checked { IsTrue (checked_input (schema_of schema)) }
+    requires checked { IsTrue (checked_input (schema_of setting.schema)) }
     requires lawful { C.lawful protocol.now.codec }
-    ensures { TellsSame C.text C.holds protocol.now schema.entry input.now endpoint.now omit request.now result }
+    ensures { TellsSame C.text C.holds protocol.now setting.entry input.now request.now result }
 {
-    let placed = placed(alloc, protocol, schema, input, endpoint, omit)?;
+    let placed = placed(alloc, protocol, setting, input)?;
     Ok(has_same_facts(alloc, &placed, request)?)
 }

@@ -1,10 +1,11 @@
 // Whether two requests have the same facts.
-ghost use Rattle.std.specs.Prelude.{◌≡◌, ◌&&◌, IfOk, map};
+ghost use Rattle.std.specs.Prelude.{◌≡◌, ◌&&◌, [], IfOk, map, option_map};
+ghost use Rattle.std.specs.List.{cons_option};
 ghost use Rattle.smithy_types.specs.Grammars.{before_query};
 ghost use Rattle.smithy_types.specs.Texts.{same_text};
 ghost use Rattle.smithy_http.specs.Facts.{named_piece};
 ghost use Rattle.smithy_recovery.specs.SameFacts.{has_same_values, query_pairs, has_same_facts};
-ghost use Rattle.smithy_recovery.specs.views.NameOrder.{named_seen, pairs_seen, IsInOrder, same_pairs};
+ghost use Rattle.smithy_recovery.specs.views.NameOrder.{named_seen, pairs_seen, header_seen, left_seen, same_left, has_same_first, IsInOrder, same_pairs};
 
 use crate::pieces::{name_of, next_piece, query_of};
 use smithy_http::{HeaderPairs, Request};
@@ -69,42 +70,61 @@ fn has_same_body(request: &Request, other: &Request) -> bool
     request.body().as_slice() == other.body().as_slice()
 }
 
-// Whether headers have the same names and values, in turn.
-fn are_same_headers(headers: HeaderPairs<'_>, mut others: HeaderPairs<'_>) -> bool
-    ensures { result ≡ same_pairs headers.entry others.entry }
+// What is left of headers: the first of them, if there is one, and those behind it.
+#[derive(Drop)]
+struct Left<'h> {
+    first: Option<(&'h str, &'h [u8])>,
+    behind: HeaderPairs<'h>,
+}
+
+fn left_of<'h>(mut headers: HeaderPairs<'h>) -> Left<'h>
+    ensures { left_seen result ≡ headers.entry }
 {
-    for (name, value) in headers {
-        let Some((other_name, other_value)) = others.next() else {
-            return false;
-        };
-        if name != other_name {
-            return false;
-        }
-        if value != other_value {
-            return false;
-        }
-    }
-    match others.next() {
-        Some(_) => false,
-        None => true,
+    let first = headers.next();
+    Left {
+        first,
+        behind: headers,
     }
 }
 
-fn has_headers_in_turn(request: &Request, other: &Request) -> bool
-    ensures { result ≡ same_pairs request.now.headers other.now.headers }
+// Whether both begin with the same header.
+fn has_same_first(headers: &Left<'_>, others: &Left<'_>) -> bool
+    ensures { result ≡ has_same_first headers.now.first others.now.first }
 {
-    are_same_headers(request.headers().iter_bytes(), other.headers().iter_bytes())
+    let Some((name, value)) = headers.first else {
+        return false;
+    };
+    let Some((other_name, other_value)) = others.first else {
+        return false;
+    };
+    name == other_name && value == other_value
 }
 
-// Headers that are the same in turn, as those of a request that was placed mostly are, aren't put in order.
+// What is left behind the headers that both begin with.
+fn behind_front<'h, 'o>(headers: HeaderPairs<'h>, others: HeaderPairs<'o>) -> (Left<'h>, Left<'o>)
+    ensures { same_left result.0 result.1 ≡ has_same_values headers.entry others.entry }
+{
+    let mut here = left_of(headers);
+    let mut there = left_of(others);
+    while has_same_first(&here, &there) {
+        let next = left_of(here.behind);
+        let other = left_of(there.behind);
+        here = next;
+        there = other;
+    }
+    (here, there)
+}
+
+// Only what stands behind a common front, which is all of most requests that were placed, is put in order.
 fn has_same_headers(alloc: Global, request: &Request, other: &Request) -> Result<bool, OutOfMemory>
     ensures { IfOk result (λ b. b ≡ has_same_values request.now.headers other.now.headers) }
 {
-    if has_headers_in_turn(request, other) {
-        return Ok(true);
-    }
-    let pairs = header_pairs(alloc, request.headers().iter_bytes())?;
-    let others = header_pairs(alloc, other.headers().iter_bytes())?;
+    let (headers, others) = behind_front(
+        request.headers().iter_bytes(),
+        other.headers().iter_bytes(),
+    );
+    let pairs = header_pairs(alloc, headers)?;
+    let others = header_pairs(alloc, others)?;
     has_same_values(pairs, others)
 }
 
@@ -119,11 +139,28 @@ fn has_same_queries(alloc: Global, target: &str, other: &str) -> Result<bool, Ou
     has_same_values(pieces, others)
 }
 
-fn header_pairs<'h>(alloc: Global, headers: HeaderPairs<'h>) -> Result<Vec<Named<'h>>, OutOfMemory>
-    ensures { IfOk result (λ v. pairs_seen v ≡ headers.entry) }
+// The first header, if there is one.
+fn first_pair<'h>(
+    alloc: Global,
+    first: Option<(&'h str, &'h [u8])>,
+) -> Result<Vec<Named<'h>>, OutOfMemory>
+    ensures { IfOk result (λ v. pairs_seen v ≡ cons_option (option_map header_seen first.entry) []) }
 {
     let mut pairs = Vec::new(alloc);
-    for (name, value) in headers {
+    match first {
+        Some((name, value)) => {
+            pairs.push(Named { name, value })?;
+            Ok(pairs)
+        }
+        None => Ok(pairs),
+    }
+}
+
+fn header_pairs<'h>(alloc: Global, headers: Left<'h>) -> Result<Vec<Named<'h>>, OutOfMemory>
+    ensures { IfOk result (λ v. pairs_seen v ≡ left_seen headers.entry) }
+{
+    let mut pairs = first_pair(alloc, headers.first)?;
+    for (name, value) in headers.behind {
         pairs.push(Named { name, value })?;
     }
     Ok(pairs)

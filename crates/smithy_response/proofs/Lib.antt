@@ -7,6 +7,7 @@ pub mod HandedItems
 pub mod KnownKeys
 pub mod Members
 pub mod Passing
+pub mod Payloads
 pub mod Presenting
 pub mod Readings
 pub mod Refusing

@@ -2,7 +2,7 @@
 ghost use Rattle.std.specs.Prelude.{◌≡◌};
 ghost use Rattle.smithy_response.specs.Words.{list_any, is_response_bound, members_of, schema_of};
 ghost use Rattle.smithy_response.specs.Handed.{has_payload, has_unbound};
-ghost use Rattle.smithy_response.specs.views.BoundPositions.{HasNext, IsNextSet, IsNextBound};
+ghost use Rattle.smithy_response.specs.views.BoundPositions.{HasNext, IsNextSet, IsNextBound, is_payload_position};
 
 use smithy_schema::SchemaRef;
 
@@ -27,24 +27,26 @@ pub(crate) fn has_bound(schema: SchemaRef<'_>) -> bool
     word >= BEHIND || word % IN_BODY != 0
 }
 
-fn is_payload(member: SchemaRef<'_>) -> bool
-    ensures { result ≡ (schema_of member.entry).node.traits.http_payload }
+// Whether the value of the member at a position is the body's.
+fn is_payload_at(schema: SchemaRef<'_>, position: usize) -> bool
+    ensures { result ≡ is_payload_position (schema_of schema.entry) position }
 {
-    member.http_payload().is_some()
+    match schema.member_schema_by_index(position) {
+        Some(member) => member.http_payload().is_some(),
+        None => false,
+    }
 }
 
 /// Whether the value of some member is the body's.
 pub(crate) fn has_payload(schema: SchemaRef<'_>) -> bool
     ensures { result ≡ has_payload (schema_of schema.entry) }
 {
-    let mut position: usize = 0;
-    while position < schema.members().len() {
-        if let Some(member) = schema.member_schema_by_index(position) {
-            if is_payload(member) {
-                return true;
-            }
+    let mut from = 0;
+    while let Some(position) = next_bound(schema, from) {
+        if is_payload_at(schema, position) {
+            return true;
         }
-        position += 1;
+        from = position + 1;
     }
     false
 }

@@ -1,13 +1,5 @@
 -- A route that is added keeps the list without conflicts.
-use Rattle.std.proofs.Common.{◌≡◌, refl, sym, ◌∙◌, ap, subst, ℕ, Bool, true, false, cond, List, [], ◌∷◌, ◌++◌, Option, Some, None, Result, Err, find}
-use Rattle.std.specs.List.{AllByRecursion}
-use Rattle.smithy_router.specs.Routes.{Route, IsRoute}
-use Rattle.smithy_router.specs.Ranking.{Conflicts}
-use Rattle.smithy_router.specs.Deciding.{conflicts}
-use Rattle.smithy_router.specs.Tables.{Entry, IsApartFrom, AreApart}
-use Rattle.smithy_router.specs.Adding.{ConflictsFirst, IsConflict, TellsConflict, AddsRoute, AddsTemplate, with_last}
-use Rattle.smithy_router.specs.Gives.{Gives}
-use Rattle.smithy_router.specs.declared.error.RouteError.{RouteError}
+use Rattle.smithy_router.proofs.Common.{◌≡◌, refl, sym, ◌∙◌, ap, subst, ℕ, Bool, true, false, cond, List, [], ◌∷◌, ◌++◌, Option, Some, None, Result, Err, find, AllByRecursion, Route, IsRoute, Conflicts, conflicts, Entry, IsApartFrom, AreApart, ConflictsFirst, IsConflict, TellsConflict, AddsRoute, AddsTemplate, with_last, Gives, RouteError}
 use Rattle.smithy_router.specs.declared.error.RouteError.TheVariants as fault
 use Rattle.smithy_router.proofs.Ranks.{conflicts_holds, conflicts_found}
 use Rattle.smithy_router.proofs.Best.{all_append}

@@ -1,10 +1,5 @@
 -- Of a list, at most one entry beats each other one that matches.
-use Rattle.std.proofs.Common.{◌≡◌, refl, sym, ◌∙◌, subst, ℕ, List, [], ◌∷◌, ◌++◌, IsTrue}
-use Rattle.std.specs.List.{AllByRecursion}
-use Rattle.smithy_router.specs.Routes.{matches}
-use Rattle.smithy_router.specs.Ranking.{Beats}
-use Rattle.smithy_router.specs.Tables.{Entry}
-use Rattle.smithy_router.specs.Laws.{BestIsOne}
+use Rattle.smithy_router.proofs.Common.{◌≡◌, refl, sym, ◌∙◌, subst, ℕ, List, [], ◌∷◌, ◌++◌, IsTrue, AllByRecursion, matches, Beats, Entry, BestIsOne}
 
 pub all_append : {X : Type 0} (P : X → Type 0) (xs ys : List X) → AllByRecursion P xs → AllByRecursion P ys → AllByRecursion P (xs ++ ys)
 all_append P [] ys hx hy = hy

@@ -1,9 +1,5 @@
 -- The example paths are made of segments.
-use Rattle.std.proofs.Common.{◌≡◌, ◌≢◌, refl, ℕ, Bool, true, false, List, [], ◌∷◌, if◌then◌else◌, arith}
-use Rattle.std.specs.List.{AllByRecursion}
-use Rattle.smithy_router.specs.Segments.{Segment, Literal, Hole, fits_path}
-use Rattle.smithy_router.specs.Routes.{IsSegment, IsPath}
-use Rattle.smithy_router.specs.Deciding.{segment_covers}
+use Rattle.smithy_router.proofs.Common.{◌≡◌, ◌≢◌, refl, ℕ, Bool, true, false, List, [], ◌∷◌, if◌then◌else◌, arith, AllByRecursion, Segment, Literal, Hole, fits_path, IsSegment, IsPath, segment_covers}
 use Rattle.smithy_router.proofs.Examples.{letter, segment_example, path_example, common_segment, common_path, other_segment, other_length, other_rest, other_path}
 use Rattle.smithy_router.proofs.Targets.{IsClean, HasNo-append}
 

@@ -1,13 +1,5 @@
 -- Texts that are cut at the first `/`, `&`, `?` or `=`.
-use Rattle.std.proofs.Common.{◌≡◌, refl, ap, sym, ◌∙◌, ◌&&◌, take, nat_eq, codes, ℕ, ◌+◌, ◌<◌, suc, arith, Bool, true, false, not, cond, ◌==◌, ◌||◌, List, [], ◌∷◌, length, Option, Some, None, MatchOption, lit<}
-use Rattle.std.specs.Borrow.{Bor}
-use Rattle.std.specs.List.{slice_split, onto_first, position_or_len, before_first, after_first, starts_with}
-use Rattle.std.proofs.lemmas.Bool.{eqb-true}
-use Rattle.std.proofs.lemmas.List.Splits.{slice_split_first}
-use Rattle.std.proofs.lemmas.Str.Pattern.{IsSplitOnceResult, split_once_first}
-use Rattle.smithy_types.specs.Texts.{has_byte}
-use Rattle.smithy_router.specs.Routes.{Route, fits_target}
-use Rattle.smithy_router.specs.Seen.{CutsAt, CutsTarget}
+use Rattle.smithy_router.proofs.Common.{◌≡◌, refl, ap, sym, ◌∙◌, ◌&&◌, take, nat_eq, codes, ℕ, ◌+◌, ◌<◌, suc, arith, Bool, true, false, not, cond, ◌==◌, ◌||◌, List, [], ◌∷◌, length, Option, Some, None, MatchOption, lit<, Bor, slice_split, onto_first, position_or_len, before_first, after_first, starts_with, eqb-true, slice_split_first, IsSplitOnceResult, split_once_first, has_byte, Route, fits_target, CutsAt, CutsTarget}
 
 split_none : (c : ℕ) (xs : List ℕ) → position_or_len (λ b. b == c) xs ≡ length xs → slice_split (λ b. b == c) xs ≡ xs ∷ []
 split_none c [] e = refl

@@ -1,24 +1,7 @@
 -- The best one of the entries that a target leads to is the best one of the list.
-use Rattle.std.proofs.Common.{◌≡◌, refl, sym, ◌∙◌, ap, subst, ℕ, suc, arith, Bool, true, false, List, [], ◌∷◌, ◌++◌, ◌&&◌, ◌==◌, Option, Some, None, slice_get, map, option_map, option_and_then, length, ◌<◌, ◌⊎◌, inl, inr, IsTrue, if◌then◌else◌, nat_eq, codes}
 use Prim.Native.Nat.{zero}
-use Rattle.std.specs.Option.{option_map_or}
-use Rattle.std.proofs.lemmas.Option.{slice_get-map, slice_get_within}
+use Rattle.smithy_router.proofs.Common.{◌≡◌, refl, sym, ◌∙◌, ap, subst, ℕ, suc, arith, Bool, true, false, List, [], ◌∷◌, ◌++◌, ◌&&◌, ◌==◌, Option, Some, None, slice_get, map, option_map, option_and_then, length, ◌<◌, ◌⊎◌, inl, inr, IsTrue, if◌then◌else◌, nat_eq, codes, option_map_or, slice_get-map, slice_get_within, AllByRecursion, Contains, starts_with, slice_split, before_first, range_with_len, and_parts, same_text, is_question_mark, query_pieces, Literal, Hole, segments_of, fits_path, fits_query, Route, IsRoute, matches, fits_target, Beats, Conflicts, beats, Entry, AreApart, NoneMatches, IsBest, IsBestOf, preferred, better, SomeIsBest, better_of, best_of, entry_seen, child_of, ends_of, child_at, led_to, EndsAt, IsIndexed, Node}
 use Rattle.std.proofs.lemmas.List.FromFn.{length-range_with_len, get_or-range_with_len}
-use Rattle.std.specs.List.{AllByRecursion, Contains, starts_with, slice_split, before_first, range_with_len}
-use Rattle.std.proofs.lemmas.Bool.{and_parts}
-use Rattle.smithy_types.specs.Texts.{same_text}
-use Rattle.smithy_http.specs.Facts.{is_question_mark, query_pieces}
-use Rattle.smithy_router.specs.Segments.{Literal, Hole, segments_of, fits_path}
-use Rattle.smithy_router.specs.QueryPieces.{fits_query}
-use Rattle.smithy_router.specs.Routes.{Route, IsRoute, matches, fits_target}
-use Rattle.smithy_router.specs.Ranking.{Beats, Conflicts}
-use Rattle.smithy_router.specs.Deciding.{beats}
-use Rattle.smithy_router.specs.Tables.{Entry, AreApart, NoneMatches, IsBest, IsBestOf, preferred, better}
-use Rattle.smithy_router.specs.Laws.{SomeIsBest}
-use Rattle.smithy_router.specs.Search.{better_of, best_of}
-use Rattle.smithy_router.specs.Seen.{entry_seen}
-use Rattle.smithy_router.specs.Tree.{child_of, ends_of, child_at, led_to, EndsAt, IsIndexed}
-use Rattle.smithy_router.specs.declared.node.Node.{Node}
 use Rattle.smithy_router.specs.declared.route.StoredEntry.{StoredEntry}
 use Rattle.smithy_router.proofs.Tests.{same_text_is}
 use Rattle.smithy_router.proofs.Ranks.{beats_holds, beats_found}

@@ -1,23 +1,13 @@
 -- Nodes that grow keep what stands in them.
-use Rattle.std.proofs.Common.{◌≤◌, ◌≡◌, refl, sym, ◌∙◌, ap, subst, ℕ, suc, ◌+◌, ◌<◌, arith, Bool, true, false, cond, List, [], ◌∷◌, ◌++◌, length, map, get_or, take, drop, Option, Some, None, Result, Ok, Err, IfOk, OnOk, OnErr, ◌⊎◌, inl, inr, slice_get, option_and_then, String, string_bytes}
+use Rattle.std.proofs.Common.{string_bytes}
 use Prim.Native.Nat.{zero}
-use Rattle.std.specs.Option.{option_map_or}
-use Rattle.std.specs.List.{Contains, slice_set}
+use Rattle.smithy_router.proofs.Common.{◌≤◌, ◌≡◌, refl, sym, ◌∙◌, ap, subst, ℕ, suc, ◌+◌, ◌<◌, arith, Bool, true, false, cond, List, [], ◌∷◌, ◌++◌, length, map, get_or, take, drop, Option, Some, None, Result, Ok, Err, IfOk, OnOk, OnErr, ◌⊎◌, inl, inr, slice_get, option_and_then, String, option_map_or, Contains, slice_set, length-append, length-set, length-map, drop_more, Contains-append_left, Contains-push, slice_get_within, slice_get_read, Segment, Literal, Hole, Route, IsRoute, segment_seen, entry_seen, EntryAdded, Entry, AreApart, IsApartFrom, child_of, ends_of, child_at, ends_at, ends_behind, first_segments, has_more, way_of, goes_on, EndsAt, IsIndexed, IsWithin, Grows, HasChild, HasEnd, IsAs, IsLeaf, HasChildAt, Leads, IsBehind, IsSound, entries_of, Node}
 use Rattle.std.specs.BTreeMap.{BTreeMap, get_by_text, Updates}
 use Rattle.std.specs.String.{string_cmp}
 use Rattle.std.specs.Str.{bytes_eq}
 use Rattle.std.specs.Global.{Global}
-use Rattle.std.proofs.lemmas.List.{length-append, length-set, length-map, drop_more}
-use Rattle.std.proofs.lemmas.List.Elements.{Contains-append_left, Contains-push}
 use Rattle.std.proofs.lemmas.Map.Text.{btree_map_updates_text}
-use Rattle.std.proofs.lemmas.Option.{slice_get_within, slice_get_read}
 use Rattle.std.proofs.lemmas.Slice.Eq.{bytes_eq-Decides}
-use Rattle.smithy_router.specs.Segments.{Segment, Literal, Hole}
-use Rattle.smithy_router.specs.Routes.{Route, IsRoute}
-use Rattle.smithy_router.specs.Seen.{segment_seen, entry_seen, EntryAdded}
-use Rattle.smithy_router.specs.Tables.{Entry, AreApart, IsApartFrom}
-use Rattle.smithy_router.specs.Tree.{child_of, ends_of, child_at, ends_at, ends_behind, first_segments, has_more, way_of, goes_on, EndsAt, IsIndexed, IsWithin, Grows, HasChild, HasEnd, IsAs, IsLeaf, HasChildAt, Leads, IsBehind, IsSound, entries_of}
-use Rattle.smithy_router.specs.declared.node.Node.{Node}
 use Rattle.smithy_router.specs.declared.segment.PathSegment.{PathSegment}
 use Rattle.smithy_router.specs.declared.tree.RouteTree.{RouteTree}
 use Rattle.smithy_router.proofs.Adding.{added}

@@ -1,13 +1,6 @@
 -- An entry whose path fits a target stands at a node that the target leads to.
 use Prim.Native.Nat.{zero, suc}
-use Rattle.std.proofs.Common.{◌≡◌, subst, ℕ, Bool, true, false, List, [], ◌∷◌, ◌++◌, ◌||◌, Option, Some, None}
-use Rattle.std.specs.List.{Contains}
-use Rattle.std.proofs.lemmas.Bool.{and_parts}
-use Rattle.std.proofs.lemmas.List.Elements.{Contains-append_left, Contains-append_right}
-use Rattle.smithy_types.specs.Texts.{same_text}
-use Rattle.smithy_router.specs.Segments.{Segment, Literal, Hole, fits_segment, fits_path}
-use Rattle.smithy_router.specs.Tree.{child_at, ends_at, ends_behind, first_segments, has_more, led_to}
-use Rattle.smithy_router.specs.declared.node.Node.{Node}
+use Rattle.smithy_router.proofs.Common.{◌≡◌, subst, ℕ, Bool, true, false, List, [], ◌∷◌, ◌++◌, ◌||◌, Option, Some, None, Contains, and_parts, Contains-append_left, Contains-append_right, same_text, Segment, Literal, Hole, fits_segment, fits_path, child_at, ends_at, ends_behind, first_segments, has_more, led_to, Node}
 use Rattle.smithy_router.proofs.Tests.{same_text_is}
 use Rattle.smithy_router.proofs.Growing.{contains_none}
 

@@ -1,13 +1,5 @@
 -- The route of a template is a route.
-use Rattle.std.proofs.Common.{◌≡◌, ◌≢◌, refl, sym, ◌∙◌, subst, ℕ, suc, ◌+◌, arith, Bool, true, false, not, cond, ◌==◌, List, [], ◌∷◌, take, drop, Option, Some, None, option_map, option_and_then, ◌||◌, if◌then◌else◌, eq-eqb, nat_eq, codes}
-use Rattle.std.specs.List.{AllByRecursion, slice_split, onto_first, before_first, after_first, position_or_len, starts_with}
-use Rattle.smithy_types.specs.Texts.{has_byte}
-use Rattle.smithy_types.specs.Results.{each}
-use Rattle.smithy_schema.specs.Templates.{hole_of}
-use Rattle.smithy_http.specs.Facts.{is_question_mark, query_pieces}
-use Rattle.smithy_router.specs.Segments.{Hole as AnyText, segments_of}
-use Rattle.smithy_router.specs.Routes.{Route, IsRoute, IsSegment, IsPath, HasNo}
-use Rattle.smithy_router.specs.Templates.{Part, Fixed, Bound, bound_part, inside_braces, part_of, is_sound, sound_parts, routable_parts, segments_in, has_greedy, query_of, route_with, route_of}
+use Rattle.smithy_router.proofs.Common.{◌≡◌, ◌≢◌, refl, sym, ◌∙◌, subst, ℕ, suc, ◌+◌, arith, Bool, true, false, not, cond, ◌==◌, List, [], ◌∷◌, take, drop, Option, Some, None, option_map, option_and_then, ◌||◌, if◌then◌else◌, eq-eqb, nat_eq, codes, AllByRecursion, slice_split, onto_first, before_first, after_first, position_or_len, starts_with, has_byte, each, hole_of, is_question_mark, query_pieces, Hole as AnyText, segments_of, Route, IsRoute, IsSegment, IsPath, HasNo, Part, Fixed, Bound, bound_part, inside_braces, part_of, is_sound, sound_parts, routable_parts, segments_in, has_greedy, query_of, route_with, route_of}
 use Rattle.smithy_router.proofs.Targets.{IsClean, split_some}
 
 -- bytes that a test tells apart

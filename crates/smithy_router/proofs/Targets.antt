@@ -1,14 +1,5 @@
 -- The target that has given segments and given pieces.
-use Rattle.std.proofs.Common.{◌≡◌, ◌≢◌, refl, ◌∙◌, ap, ℕ, suc, ◌+◌, arith, Bool, true, false, not, cond, ◌==◌, ◌&&◌, ◌||◌, List, [], ◌∷◌, ◌++◌, take, drop, eq-eqb, ne_eqb, All}
-use Rattle.std.specs.List.{AllByRecursion, slice_split, onto_first, join_with_byte, before_first, after_first, position_or_len}
-use Rattle.std.proofs.lemmas.List.{append-nil}
-use Rattle.std.proofs.lemmas.List.Elements.{All-from_recursion}
-use Rattle.std.proofs.lemmas.List.Splits.{slice_split_none, slice_split_at}
-use Rattle.smithy_types.specs.Texts.{has_byte}
-use Rattle.smithy_http.specs.Facts.{is_question_mark, query_pieces}
-use Rattle.smithy_router.specs.Segments.{segments_of, fits_path}
-use Rattle.smithy_router.specs.QueryPieces.{fits_query}
-use Rattle.smithy_router.specs.Routes.{Route, fits_target, HasNo}
+use Rattle.smithy_router.proofs.Common.{◌≡◌, ◌≢◌, refl, ◌∙◌, ap, ℕ, suc, ◌+◌, arith, Bool, true, false, not, cond, ◌==◌, ◌&&◌, ◌||◌, List, [], ◌∷◌, ◌++◌, take, drop, eq-eqb, ne_eqb, All, AllByRecursion, slice_split, onto_first, join_with_byte, before_first, after_first, position_or_len, append-nil, All-from_recursion, slice_split_none, slice_split_at, has_byte, is_question_mark, query_pieces, segments_of, fits_path, fits_query, Route, fits_target, HasNo}
 
 -- a segment of a path
 pub record IsClean (segment : List ℕ) : Type 0 where

@@ -1,17 +1,7 @@
 -- Parts of templates, cut one by one.
-use Rattle.std.proofs.Common.{◌≡◌, ◌≢◌, refl, sym, ◌∙◌, ap, subst, Result, ℕ, ◌-◌, ◌+◌, arith, Bool, true, false, ◌==◌, List, [], ◌∷◌, ◌++◌, length, eq-eqb, take, drop, Option, Some, None, MatchOption, option_map, option_and_then, if◌then◌else◌, nat_eq, codes}
-use Rattle.std.specs.Borrow.{Bor}
-use Rattle.std.specs.List.{ends_with, starts_with, before_first, slice_split}
+use Rattle.smithy_router.proofs.Common.{◌≡◌, ◌≢◌, refl, sym, ◌∙◌, ap, subst, Result, ℕ, ◌-◌, ◌+◌, arith, Bool, true, false, ◌==◌, List, [], ◌∷◌, ◌++◌, length, eq-eqb, take, drop, Option, Some, None, MatchOption, option_map, option_and_then, if◌then◌else◌, nat_eq, codes, Bor, ends_with, starts_with, before_first, slice_split, append_assoc, append-nil, take-append-drop, length-append, each, hole_of, Segment, Literal, Hole as AnyText, segments_of, Part, Fixed, Bound, before_close, part_of, segments_in, query_of, sound_parts, path_parts, routable_parts, text_seen, Gives, RouteError}
 use Rattle.std.specs.Cmp.Lexicographic.{same_text as same_from_test}
-use Rattle.std.proofs.lemmas.List.{append_assoc, append-nil, take-append-drop, length-append}
 use Rattle.std.proofs.Math.Seq.{drop-append_seam, take-append_seam}
-use Rattle.smithy_types.specs.Results.{each}
-use Rattle.smithy_schema.specs.Templates.{hole_of}
-use Rattle.smithy_router.specs.Segments.{Segment, Literal, Hole as AnyText, segments_of}
-use Rattle.smithy_router.specs.Templates.{Part, Fixed, Bound, before_close, part_of, segments_in, query_of, sound_parts, path_parts, routable_parts}
-use Rattle.smithy_router.specs.Seen.{text_seen}
-use Rattle.smithy_router.specs.Gives.{Gives}
-use Rattle.smithy_router.specs.declared.error.RouteError.{RouteError}
 use Rattle.smithy_router.proofs.Cuts.{is_path_of}
 
 -- a text with the byte at its end

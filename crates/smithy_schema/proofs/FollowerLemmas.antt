@@ -1,5 +1,5 @@
 -- The followers: each is the first position of its member's name.
-use Rattle.std.proofs.Common.{◌≡◌, refl, sym, ap, subst, ◌∙◌, ℕ, true, false, List, ◌∷◌, arith, string_bytes, String, option_map, Option, Some, None}
+use Rattle.std.proofs.Common.{◌≡◌, refl, sym, ap, subst, ◌∙◌, ℕ, ◌<◌, length, true, false, List, ◌∷◌, arith, string_bytes, String, option_map, Option, Some, None}
 use Rattle.std.specs.Global.{Global}
 use Rattle.std.specs.BTreeMap.{BTreeMap, IsOrdered, get_by_text, keys, values}
 use Rattle.std.specs.Cmp.{eq_by_cmp_equiv}
@@ -17,14 +17,17 @@ use Rattle.smithy_types.specs.Texts.{same_text}
 use Rattle.smithy_schema.specs.declared.parts.SchemaIndex.{SchemaIndex}
 use Rattle.smithy_schema.specs.declared.stored.FullDetails.{FullDetails}
 use Rattle.smithy_schema.specs.declared.stored.StoredNode.{StoredNode}
+use Rattle.smithy_schema.specs.declared.member_names.MemberNames.{MemberNames}
+use Rattle.smithy_schema.specs.declared.member_names.MemberNames.TheVariants.{Ascending, Mapped}
 use Rattle.smithy_schema.specs.declared.schema_ref.SchemaRef.{SchemaRef}
 use Rattle.smithy_schema.specs.views.References.{schema_of}
 use Rattle.smithy_schema.specs.Nodes.{Node, Table, Schema, at_place, has_name}
 use Rattle.smithy_schema.specs.views.Places.{places_of}
 use Rattle.smithy_schema.specs.views.Details.{Details}
 use Rattle.smithy_schema.specs.views.Stored.{node_stored, details_full, details_stored}
-use Rattle.smithy_schema.specs.views.MemberNames.{is_named_at, IsOfName, AreOfNames, IsFirstOfName}
+use Rattle.smithy_schema.specs.views.MemberNames.{is_named_at, IsOfName, AreOfNames, IsFirstOfName, FindsNames, IsLead}
 use Rattle.smithy_schema.specs.views.Kept.{KeepsMembers, IsFollower}
+use Rattle.smithy_schema.proofs.AscendLemmas.{first_of_its_name}
 
 -- each value of the map is some name's
 pub values_of_names : (m : BTreeMap (String Global) ℕ) → IsOrdered string_cmp m → AreOfNames m (values m)
@@ -61,15 +64,22 @@ one_name a b member has_a has_b = go member.node.member_name has_a has_b
     go None x y = absurd (cc x)
     go (Some t) x y = (bytes_eq-Decides a t).0 x ∙ sym ((bytes_eq-Decides b t).0 y)
 
--- the member at a follower is the first one of its name
+-- a position that a name is looked for at first is the first one of some name
+first_of_some : (table : Table) (xs : List SchemaIndex) (names : MemberNames) (p : ℕ) → FindsNames table (places_of xs) names → IsLead names p → p < length xs → (name : List ℕ) × (position (is_named_at table name) (places_of xs) ≡ Some p)
+first_of_some table xs Ascending p up lead within = (_, first_of_its_name table xs p up within)
+first_of_some table xs (Mapped m) p has lead within =
+    let known : IsOfName m.value.positions p = followed m.value.positions m.value.followers.items lead.0 p lead.1 has.followers in
+    (known.0, sym (has.positions.at known.0) ∙ known.1)
+
+-- the member at such a position is the first one of its name
 pub first_kept : (table : Table) (n : StoredNode) (full : FullDetails) (node : Node) (place : SchemaIndex) (member : Schema) → details_stored n.details ≡ details_full full → KeepsMembers table full → node_stored n ≡ node → IsFollower full place → at_place table place.0 ≡ Some member
     → IsFirstOfName (record { table = table; node = node }) member
 first_kept table n full node place member is has same follower at name named =
-    let p = follower.1 in
+    let p = follower.0 in
     let places = places_of full.members.items in
-    let known : IsOfName full.positions p = followed full.positions full.followers.items follower.0 p follower.2 has.followers in
-    let here : slice_get places p ≡ Some place.0 = slice_get-map (λ (i : SchemaIndex). i.0) full.members.items p ∙ ap (option_map (λ (i : SchemaIndex). i.0)) follower.3 in
-    let first : position (is_named_at table known.0) places ≡ Some p = sym (has.positions.at known.0) ∙ known.1 in
+    let here : slice_get places p ≡ Some place.0 = slice_get-map (λ (i : SchemaIndex). i.0) full.members.items p ∙ ap (option_map (λ (i : SchemaIndex). i.0)) follower.2 in
+    let known = first_of_some table full.members.items full.names p has.names follower.1 (slice_get_within full.members.items p place follower.2) in
+    let first : position (is_named_at table known.0) places ≡ Some p = known.1 in
     let own : has_name known.0 member ≡ true = named_there table known.0 places p place.0 member first here at in
     let one : known.0 ≡ name = one_name known.0 name member own named in
     let members : node.members ≡ places = ap (λ (m : Node). m.members) (sym same) ∙ ap (λ (d : Details). d.members) is in

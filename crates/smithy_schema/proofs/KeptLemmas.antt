@@ -1,7 +1,6 @@
 -- The faults of a table and what it keeps, over the nodes that it keeps.
 use Rattle.std.proofs.Common.{◌≡◌, refl, sym, ap, subst, ◌∙◌, ℕ, ◌+◌, ◌<◌, ◌≤◌, ◌==◌, Bool, true, false, List, [], ◌∷◌, ◌++◌, length, set, option_map, Option, Some, None}
 use Rattle.std.proofs.lemmas.Bool.{eqb-true, eqb-false}
-use Rattle.std.specs.BTreeMap.{get_by_text}
 use Rattle.std.specs.List.{position, slice_get}
 use Rattle.std.proofs.lemmas.List.{map-set}
 use Rattle.std.proofs.Math.Seq.{set-append_seam}
@@ -9,6 +8,8 @@ use Rattle.smithy_schema.specs.declared.stored.StoredDetails.{StoredDetails}
 use Rattle.smithy_schema.specs.declared.stored.StoredDetails.TheVariants.{Outline, Full}
 use Rattle.smithy_schema.specs.declared.stored.FullDetails.{FullDetails}
 use Rattle.smithy_schema.specs.declared.stored.StoredNode.{StoredNode}
+use Rattle.smithy_schema.specs.declared.member_names.MemberNames.{MemberNames}
+use Rattle.smithy_schema.specs.declared.member_names.MemberNames.TheVariants.{Ascending, Mapped}
 use Rattle.smithy_ids.specs.declared.traits.TimestampFormat.{TimestampFormat}
 use Rattle.smithy_schema.specs.declared.error.SchemaError.{SchemaError}
 use Rattle.smithy_schema.specs.declared.error.SchemaError.TheVariants as refusal
@@ -16,12 +17,13 @@ use Rattle.smithy_schema.specs.Nodes.{Node, Table, node_at, position_of_name}
 use Rattle.smithy_schema.specs.views.Places.{places_of}
 use Rattle.smithy_schema.specs.Outlines.{outline_of}
 use Rattle.smithy_schema.specs.views.Details.{Details}
-use Rattle.smithy_schema.specs.views.MemberNames.{is_named_at, HasPositions}
+use Rattle.smithy_schema.specs.views.MemberNames.{ascend, is_named_at, FindsNames}
 use Rattle.smithy_schema.specs.views.Stored.{node_stored, details_full, details_stored, table_stored}
 use Rattle.smithy_schema.specs.Defining.{citing_fault, define_fault, declared_more}
 use Rattle.smithy_schema.specs.Routing.{bound_among, routing, word_of}
 use Rattle.smithy_schema.specs.WellMade.{is_whole}
 use Rattle.smithy_schema.specs.views.Kept.{IsKept, HasMembers, kept_at}
+use Rattle.smithy_schema.proofs.AscendLemmas.{names_in-same}
 use Rattle.smithy_schema.proofs.NamedLemmas.{HasPositions-same}
 use Rattle.smithy_schema.proofs.RoutingLemmas.{bound_among-same}
 use Rattle.smithy_schema.proofs.TableLemmas.{length-table_stored, node_at-table_stored, table_stored-push}
@@ -60,12 +62,19 @@ node_at-kept nodes place n at = node_at-table_stored nodes place ∙ ap (λ (o :
 pub members_at : (nodes seen : List (Option StoredNode)) (place : ℕ) (n : StoredNode) → IsKept nodes → seen ≡ nodes → Some n ≡ kept_at seen place → HasMembers (table_stored nodes) n.details
 members_at nodes seen place n kept same at = kept.members place n (rw (← same) (sym at))
 
--- it stays where the table keeps what stands at the members' places
+-- the members are found by their names where the table keeps what stands at their places
+FindsNames-same : (old new : Table) (places : List ℕ) (names : MemberNames) → ((position member : ℕ) → slice_get places position ≡ Some member → node_at new member ≡ node_at old member) → FindsNames old places names → FindsNames new places names
+FindsNames-same old new places Ascending same up = ap (ascend None) (sym (names_in-same old new places same)) ∙ up
+FindsNames-same old new places (Mapped m) same has = record {
+  positions = HasPositions-same old new places m.value.positions same has.positions;
+  followers = has.followers;
+}
+
+-- so is what is kept of them
 HasMembers-same : (old new : Table) (d : StoredDetails) → ((position member : ℕ) → slice_get (details_stored d).members position ≡ Some member → node_at new member ≡ node_at old member) → HasMembers old d → HasMembers new d
 HasMembers-same old new (Outline format) same has = has
 HasMembers-same old new (Full d) same has = record {
-  positions = HasPositions-same old new (places_of d.value.members.items) d.value.positions same has.positions;
-  followers = has.followers;
+  names = FindsNames-same old new (places_of d.value.members.items) d.value.names same has.names;
   routing = has.routing ∙ ap word_of (bound_among-same old new (places_of d.value.members.items) same);
 }
 
@@ -129,10 +138,10 @@ pub IsKept-outlined : (nodes : List (Option StoredNode)) (n : StoredNode) (node 
 IsKept-outlined nodes n node format kept same whole is =
     IsKept-pushed nodes n (outline_of node) kept (outline-no_fault (table_stored nodes) node) same whole (rw is tt)
 
--- what is kept of a node with members finds the first position of a name
-pub position_kept : (table : Table) (n : StoredNode) (full : FullDetails) (node : Node) (name : List ℕ) → details_stored n.details ≡ details_full full → HasPositions table (places_of full.members.items) full.positions → node_stored n ≡ node → get_by_text full.positions name ≡ position_of_name (record { table = table; node = node }) name
-position_kept table n full node name is has same =
-    has.at name ∙ ap (λ (d : Details). position (is_named_at table name) d.members) (sym is) ∙ ap (λ (m : Node). position (is_named_at table name) m.members) same
+-- the position of a name among the members that are kept is that among the node's
+pub position_kept : (table : Table) (n : StoredNode) (full : FullDetails) (node : Node) (name : List ℕ) (found : Option ℕ) → details_stored n.details ≡ details_full full → found ≡ position (is_named_at table name) (places_of full.members.items) → node_stored n ≡ node → found ≡ position_of_name (record { table = table; node = node }) name
+position_kept table n full node name found is has same =
+    has ∙ ap (λ (d : Details). position (is_named_at table name) d.members) (sym is) ∙ ap (λ (m : Node). position (is_named_at table name) m.members) same
 
 -- so is the routing word
 pub routing_kept : (table : Table) (n : StoredNode) (full : FullDetails) (node : Node) → details_stored n.details ≡ details_full full → full.routing ≡ word_of (bound_among table (places_of full.members.items)) → node_stored n ≡ node → full.routing ≡ routing (record { table = table; node = node })

@@ -1,3 +1,4 @@
+pub mod AscendLemmas
 pub mod ColumnLemmas
 pub mod CutLemmas
 pub mod FollowerLemmas

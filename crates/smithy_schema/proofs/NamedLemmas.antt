@@ -46,7 +46,7 @@ position-same p q (x ∷ xs) same =
     ∙ sym (position-cons q x xs)
 
 -- a place is named as the node there is
-named_as_held : (table : Table) (name : List ℕ) (place : ℕ) → is_named_at table name place ≡ option_map_or (same_text name) (name_held (node_at table place)) false
+pub named_as_held : (table : Table) (name : List ℕ) (place : ℕ) → is_named_at table name place ≡ option_map_or (same_text name) (name_held (node_at table place)) false
 named_as_held table name place = go (node_at table place)
   where
     go : (o : Option Node) → option_map_or (has_name name) (option_map (λ n. record { table = table; node = n }) o) false ≡ option_map_or (same_text name) (name_held o) false

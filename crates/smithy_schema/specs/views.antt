@@ -5,6 +5,7 @@ pub mod Details
 pub mod Kept
 pub mod MarksOf
 pub mod MemberNames
+pub mod NamePositions
 pub mod OwnedTraits
 pub mod Pieces
 pub mod Places
@@ -13,4 +14,5 @@ pub mod References
 pub mod Routed
 pub mod ShownBindings
 pub mod Stored
+pub mod StoredTraits
 pub mod TraitMaps

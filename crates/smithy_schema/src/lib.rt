@@ -23,6 +23,7 @@ mod schemas;
 mod shape_id_buf;
 mod stored;
 mod stored_http;
+mod stored_traits;
 mod trait_getters;
 mod trait_map;
 mod traits;

@@ -2,11 +2,11 @@
 ghost use Rattle.std.specs.Prelude.{◌≡◌};
 ghost use Rattle.smithy_schema.specs.Nodes.{binding_of};
 ghost use Rattle.smithy_schema.specs.views.References.{schema_of};
-ghost use Rattle.smithy_schema.specs.views.Stored.{traits_stored};
+ghost use Rattle.smithy_schema.specs.views.StoredTraits.{traits_stored};
 ghost use Rattle.smithy_schema.specs.views.ShownBindings.{binding_by, binding_shown};
 
 use crate::schema_ref::SchemaRef;
-use crate::stored::StoredTraits;
+use crate::stored_traits::StoredTraits;
 
 /// Where a member of a request stands, with the name or prefix of its trait.
 #[derive(Clone, Copy, Drop)]
@@ -24,14 +24,14 @@ pub enum Binding<'t> {
 fn bound_by<'t>(traits: &'t StoredTraits) -> Binding<'t>
     ensures { binding_shown result ≡ binding_by (traits_stored traits.now) }
 {
-    if let Some(name) = &traits.http_header {
-        return Binding::Header(name.as_str());
+    if let Some(name) = traits.http_header() {
+        return Binding::Header(name);
     }
-    if let Some(prefix) = &traits.http_prefix_headers {
-        return Binding::Prefix(prefix.as_str());
+    if let Some(prefix) = traits.http_prefix_headers() {
+        return Binding::Prefix(prefix);
     }
-    if let Some(name) = &traits.http_query {
-        return Binding::Query(name.as_str());
+    if let Some(name) = traits.http_query() {
+        return Binding::Query(name);
     }
     if traits.marks.http_query_params {
         return Binding::QueryMap;

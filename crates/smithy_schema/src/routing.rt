@@ -3,14 +3,16 @@ ghost use Rattle.std.specs.Prelude.{◌≡◌, ◌≤◌, length, if◌then◌el
 ghost use Rattle.std.specs.List.{list_any};
 ghost use Rattle.std.specs.Simd.Lanes.{mask_l};
 ghost use Rattle.smithy_schema.specs.views.Places.{places_of};
-ghost use Rattle.smithy_schema.specs.views.Stored.{table_stored, traits_stored};
+ghost use Rattle.smithy_schema.specs.views.Stored.{table_stored};
+ghost use Rattle.smithy_schema.specs.views.StoredTraits.{traits_stored};
 ghost use Rattle.smithy_schema.specs.views.ShownBindings.{is_bound_by};
 ghost use Rattle.smithy_schema.specs.views.Routed.{is_as};
 ghost use Rattle.smithy_schema.specs.Routing.{is_bound_at, bound_among, word_of};
 
 use crate::defining::stored_at;
 use crate::parts::SchemaIndex;
-use crate::stored::{StoredDetails, StoredNode, StoredTraits};
+use crate::stored::{StoredDetails, StoredNode};
+use crate::stored_traits::StoredTraits;
 
 // How many members have a bit of their own.
 const OWN_BITS: usize = 62;
@@ -25,8 +27,8 @@ const BEHIND: u64 = 1 << 63;
 pub(crate) fn is_bound_by(traits: &StoredTraits) -> bool
     ensures { result ≡ is_bound_by (traits_stored traits.now) }
 {
-    traits.http_header.is_some()
-        || traits.http_prefix_headers.is_some()
+    traits.http_header().is_some()
+        || traits.http_prefix_headers().is_some()
         || traits.marks.http_response_code
         || traits.marks.http_payload
 }

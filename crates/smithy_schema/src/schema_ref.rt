@@ -10,8 +10,8 @@ use crate::defining::stored_at;
 use crate::parts::SchemaIndex;
 use crate::schemas::Schemas;
 use crate::stored::{FullDetails, StoredDetails, StoredMember, StoredNode};
+use crate::stored_traits::as_str;
 use smithy_ids::{PayloadHint, ShapeId, ShapeType};
-use smithy_types::Text;
 
 // A defined place of a table.
 #[derive(Clone, Copy)]
@@ -65,9 +65,10 @@ impl<'t> TableRef<'t> {
     fn position_of(self, name: &str) -> Option<usize>
         ensures { result ≡ position_of_name (schema_at self.entry) name.now }
     {
+        let table = self.table;
         match &self.stored().details {
             StoredDetails::Outline(_) => None,
-            StoredDetails::Full(details) => details.positions.get(name).copied(),
+            StoredDetails::Full(details) => details.position_of(table.nodes.as_slice(), name),
         }
     }
 
@@ -320,16 +321,6 @@ impl<'t> SchemaRef<'t> {
             Some(details) => !details.no_body_members,
             None => true,
         }
-    }
-}
-
-// The text, where there is one.
-pub(crate) fn as_str(text: &Option<Text>) -> Option<&str>
-    ensures { option_map (λ t. t.now) result ≡ text.now }
-{
-    match text {
-        Some(text) => Some(text.as_str()),
-        None => None,
     }
 }
 

@@ -5,13 +5,15 @@ ghost use Rattle.smithy_schema.specs.Nodes.{is_response_bound};
 ghost use Rattle.smithy_schema.specs.views.Pieces.{pieces_of};
 ghost use Rattle.smithy_schema.specs.views.References.{schema_of};
 ghost use Rattle.smithy_schema.specs.views.Stored.{ShowsTraits};
+ghost use Rattle.smithy_schema.specs.views.StoredTraits.{ShowsAll};
 ghost use Rattle.smithy_schema.specs.views.MarksOf.{marks_of};
 
 use crate::parts::{Marks, NO_MARKS};
 use crate::pieces::Pieces;
 use crate::routing::is_bound_by;
-use crate::schema_ref::{SchemaRef, as_str};
-use crate::stored::{StoredDetails, StoredTraits};
+use crate::schema_ref::SchemaRef;
+use crate::stored::StoredDetails;
+use crate::stored_traits::{AllHeld, StoredTraits, as_str};
 use crate::trait_map::TraitMap;
 use smithy_ids::{
     EventHeaderTrait, EventPayloadTrait, HostLabelTrait, HttpHeaderTrait, HttpLabelTrait,
@@ -31,11 +33,18 @@ impl<'t> SchemaRef<'t> {
         }
     }
 
+    // What is held beside a header's or a query parameter's name alone.
+    fn held(&self) -> Option<&'t AllHeld>
+        ensures { ShowsAll (schema_of self.now).node.traits result }
+    {
+        self.traits_kept()?.all()
+    }
+
     /// The further traits, by their names: None where no map of them was given.
     pub fn traits(&self) -> Option<&'t TraitMap>
         ensures { option_map (λ m. m.now) result ≡ (schema_of self.now).node.traits.others }
     {
-        self.traits_kept()?.others.as_ref()
+        self.held()?.others.as_ref()
     }
 
     fn marks(&self) -> Marks
@@ -51,7 +60,7 @@ impl<'t> SchemaRef<'t> {
     pub fn json_name(&self) -> Option<JsonNameTrait<'t>>
         ensures { result ≡ (schema_of self.now).node.traits.json_name }
     {
-        let text = as_str(&self.traits_kept()?.json_name)?;
+        let text = as_str(&self.held()?.json_name)?;
         Some(JsonNameTrait::new(text))
     }
 
@@ -59,7 +68,7 @@ impl<'t> SchemaRef<'t> {
     pub fn xml_name(&self) -> Option<XmlNameTrait<'t>>
         ensures { result ≡ (schema_of self.now).node.traits.xml_name }
     {
-        let text = as_str(&self.traits_kept()?.xml_name)?;
+        let text = as_str(&self.held()?.xml_name)?;
         Some(XmlNameTrait::new(text))
     }
 
@@ -67,7 +76,7 @@ impl<'t> SchemaRef<'t> {
     pub fn http_header(&self) -> Option<HttpHeaderTrait<'t>>
         ensures { result ≡ (schema_of self.now).node.traits.http_header }
     {
-        let text = as_str(&self.traits_kept()?.http_header)?;
+        let text = self.traits_kept()?.http_header()?;
         Some(HttpHeaderTrait::new(text))
     }
 
@@ -75,7 +84,7 @@ impl<'t> SchemaRef<'t> {
     pub fn http_query(&self) -> Option<HttpQueryTrait<'t>>
         ensures { result ≡ (schema_of self.now).node.traits.http_query }
     {
-        let text = as_str(&self.traits_kept()?.http_query)?;
+        let text = self.traits_kept()?.http_query()?;
         Some(HttpQueryTrait::new(text))
     }
 
@@ -83,7 +92,7 @@ impl<'t> SchemaRef<'t> {
     pub fn http_prefix_headers(&self) -> Option<HttpPrefixHeadersTrait<'t>>
         ensures { result ≡ (schema_of self.now).node.traits.http_prefix_headers }
     {
-        let text = as_str(&self.traits_kept()?.http_prefix_headers)?;
+        let text = self.traits_kept()?.http_prefix_headers()?;
         Some(HttpPrefixHeadersTrait::new(text))
     }
 
@@ -91,7 +100,7 @@ impl<'t> SchemaRef<'t> {
     pub fn media_type(&self) -> Option<MediaTypeTrait<'t>>
         ensures { result ≡ (schema_of self.now).node.traits.media_type }
     {
-        let text = as_str(&self.traits_kept()?.media_type)?;
+        let text = as_str(&self.held()?.media_type)?;
         Some(MediaTypeTrait::new(text))
     }
 
@@ -110,7 +119,7 @@ impl<'t> SchemaRef<'t> {
     pub fn xml_namespace(&self) -> Option<XmlNamespaceTrait<'t>>
         ensures { result ≡ (schema_of self.now).node.traits.xml_namespace }
     {
-        match &self.traits_kept()?.xml_namespace {
+        match &self.held()?.xml_namespace {
             Some(kept) => Some(XmlNamespaceTrait::new(kept.uri.as_str(), as_str(&kept.prefix))),
             None => None,
         }
@@ -120,7 +129,7 @@ impl<'t> SchemaRef<'t> {
     pub fn http(&self) -> Option<HttpTrait<'t>>
         ensures { result ≡ (schema_of self.now).node.traits.http }
     {
-        match &self.traits_kept()?.http {
+        match &self.held()?.http {
             Some(kept) => Some(HttpTrait::new(
                 kept.method.as_str(),
                 kept.uri.as_str(),
@@ -134,7 +143,7 @@ impl<'t> SchemaRef<'t> {
     pub fn template_pieces(&self) -> Option<&'t Pieces>
         ensures { option_map (λ p. p.now) result ≡ pieces_of (schema_of self.now) }
     {
-        match &self.traits_kept()?.http {
+        match &self.held()?.http {
             Some(kept) => Some(&kept.parts),
             None => None,
         }

@@ -1,15 +1,7 @@
 -- A schema as a response has it: its members and their first writes are the schema's own.
-use Rattle.std.proofs.Common.{◌≡◌, refl, ◌∙◌, ap, ℕ, ◌==◌, Bool, true, false, cond, ◌||◌, List, [], ◌∷◌, map, filter, filter_map, find, Option, Some, None, option_map, option_and_then, is_some}
-use Rattle.std.specs.List.{list_all, list_any, cons_option}
-use Rattle.smithy_schema.specs.Nodes.{Schema, Table, at_place, element_of, member_at, members_of}
-use Rattle.smithy_serde.specs.Values.{Label, Write}
-use Rattle.smithy_serde.specs.Writes.{Resolved, only_if, position_in, resolve, resolved, all_resolved, is_of, first}
+use Rattle.smithy_served.proofs.Common.{◌≡◌, refl, ◌∙◌, ap, ℕ, Bool, true, false, cond, ◌||◌, List, [], ◌∷◌, map, filter, filter_map, find, Option, Some, None, option_map, option_and_then, is_some, list_all, list_any, cons_option, Schema, Table, at_place, element_of, member_at, members_of, Label, Write, Resolved, only_if, position_in, resolve, resolved, all_resolved, is_of, first, as_output, at-in, cited-in, member-in, position-in, first_value, list_all-map}
 use Rattle.smithy_binding.specs.Directions.{directed_table}
-use Rattle.smithy_binding.specs.Outputs.{as_output}
 use Rattle.smithy_binding.specs.declared.direction.Direction.TheVariants as direction
-use Rattle.smithy_binding.proofs.Directions.{at-in, cited-in, member-in, position-in}
-use Rattle.smithy_served.specs.AnswerView.{first_value}
-use Rattle.std.proofs.lemmas.List.Folds.{list_all-map}
 
 -- a write with its member, as a response has it
 abbrev pub out_write : Resolved → Resolved

@@ -1,19 +1,10 @@
 -- The keys that stand behind a prefix in the names of headers.
-use Rattle.std.proofs.Common.{◌≡◌, refl, sym, ◌∙◌, ap, ℕ, nat_eq, Bool, true, false, cond, ◌||◌, List, [], ◌∷◌, ◌++◌, map, filter, filter_map, length, take, drop, Option, Some, None, if◌then◌else◌}
-use Rattle.std.specs.List.{AllByRecursion, cons_option, starts_with}
-use Rattle.std.specs.Option.{option_or}
+use Rattle.smithy_served.proofs.Common.{◌≡◌, refl, sym, ◌∙◌, ap, ℕ, nat_eq, Bool, true, false, cond, ◌||◌, List, [], ◌∷◌, ◌++◌, map, filter, filter_map, length, take, drop, Option, Some, None, if◌then◌else◌, AllByRecursion, cons_option, starts_with, option_or, take-append-drop, same_text, is_one_of, values_at, last_value, behind_lower, with_key, with_new, false_from_ne_true, or_right, starts-self}
 use Rattle.std.specs.Cmp.Lexicographic.{same_text as same_from_test}
-use Rattle.std.proofs.lemmas.List.{take-append-drop}
-use Rattle.smithy_types.specs.Texts.{same_text, is_one_of}
-use Rattle.smithy_http.specs.Facts.{values_at}
 use Rattle.smithy_strings.proofs.UnescapeLaws.{same_self}
-use Rattle.smithy_unambiguity.proofs.LastTexts.{last_value}
-use Rattle.smithy_response.specs.PrefixedHeaders.{behind_lower, with_key, with_new}
 use Rattle.std.proofs.Math.Bool.{or-false, or_assoc}
 use Rattle.std.proofs.Math.Seq.{drop-append_seam}
-use Rattle.std.proofs.lemmas.Bool.{false_from_ne_true, or_right}
 use Rattle.smithy_binding.proofs.DistinctNames.{same_text-sym}
-use Rattle.smithy_unambiguity.proofs.HeaderNames.{starts-self}
 
 -- what stands behind a front
 pub behind_self : (low key : List ℕ) → behind_lower low (low ++ key) ≡ Some key

@@ -1,62 +1,15 @@
 -- Each bound member of a response is handed out as the normal form has it.
-use Rattle.std.proofs.Common.{◌≡◌, refl, sym, ◌∙◌, ap, subst, cond, ℕ, ◌+◌, ◌≤◌, arith, Bool, true, false, not, ◌&&◌, ◌||◌, List, [], ◌∷◌, filter, length, slice_get, Option, Some, None, option_map, option_and_then, is_some, is_none}
-use Rattle.std.specs.List.{AllByRecursion, list_all, enumerate_from}
-use Rattle.std.proofs.lemmas.Bool.{and_parts, leb-true, false_from_ne_true, not-false}
-use Rattle.std.proofs.lemmas.List.Sums.{list_all-from_AllPass}
-use Rattle.smithy_http.specs.Responses.{Response}
-use Rattle.smithy_http.specs.declared.non_utf8.NonUtf8HeaderHandling.{NonUtf8HeaderHandling}
-use Rattle.smithy_schema.specs.Nodes.{Schema, member_at, members_of, is_response_bound}
-use Rattle.smithy_serde.specs.Held.{Held}
-use Rattle.smithy_serde.specs.Lawful.{IsLawfulText}
-use Rattle.smithy_serde.specs.Listings.{contents}
+use Rattle.smithy_served.proofs.Common.{◌≡◌, refl, sym, ◌∙◌, ap, subst, cond, ℕ, ◌+◌, ◌≤◌, arith, Bool, true, false, not, ◌&&◌, ◌||◌, List, filter, length, slice_get, Option, Some, None, option_map, option_and_then, is_some, is_none, AllByRecursion, list_all, enumerate_from, and_parts, leb-true, false_from_ne_true, not-false, list_all-from_AllPass, Response, NonUtf8HeaderHandling, Schema, member_at, members_of, is_response_bound, Held, IsLawfulText, contents, settled, Write, all_resolved, has_at_most_one, has_element, has_header_kind, has_prefix_kind, is_element_plain, is_header_kind, is_sound_payload, is_text_map, members_with, IsCheckedOutput, has_plain_header_elements, has_response_body_member, response_payload_kind, last_of, Protocol, IsCheckedOutput-from_test, member-passes, response_at, all_placed, any_get, nothing, only_unbound, handed, has_payload, has_unbound, has_no_bytes, body_part, Source, in_header, in_prefix, in_status, in_payload, in_body, source_of, route, route_at, answer_view, bound_view, first_value, member_view, HandsOut, IsAnswered, members_by_position, AreIndexed}
 use Rattle.smithy_serde.specs.declared.scalar.Group.TheVariants as group
-use Rattle.smithy_serde.specs.NormalBody.{settled}
-use Rattle.smithy_serde.specs.Values.{Write}
-use Rattle.smithy_serde.specs.Writes.{all_resolved}
-use Rattle.smithy_binding.specs.Checked.{has_at_most_one, has_element, has_header_kind, has_prefix_kind, is_element_plain, is_header_kind, is_sound_payload, is_text_map, members_with}
-use Rattle.smithy_binding.specs.CheckedOutput.{IsCheckedOutput, has_plain_header_elements, has_response_body_member, response_payload_kind}
-use Rattle.smithy_binding.specs.NormalForm.{last_of}
-use Rattle.smithy_binding.specs.Placing.{Protocol}
 use Rattle.smithy_binding.proofs.CheckedLaws.{prefix_kinds}
-use Rattle.smithy_binding.proofs.CheckedOutputLaws.{IsCheckedOutput-from_test}
-use Rattle.smithy_binding.proofs.WriteSteps.{member-passes}
-use Rattle.smithy_serve.specs.Answer.{response_at}
-use Rattle.smithy_unambiguity.proofs.Lists.{all_placed, any_get}
-use Rattle.smithy_response.specs.Handed.{nothing, only_unbound, handed, has_payload, has_unbound, has_no_bytes, body_part}
-use Rattle.smithy_response.specs.Routes.{Source, in_header, in_prefix, in_status, in_payload, in_body, source_at, source_of, route, route_at}
-use Rattle.smithy_served.specs.AnswerView.{answer_view, bound_view, first_value, member_view}
-use Rattle.smithy_served.specs.Laws.{HandsOut, IsAnswered}
 use Rattle.smithy_served.proofs.Conforming.{output_of, response_is}
 use Rattle.smithy_served.proofs.Headers.{IsHeader, header_handed}
-use Rattle.smithy_served.proofs.Join.{joined}
+use Rattle.smithy_served.proofs.Join.{joined, says}
 use Rattle.smithy_served.proofs.MemberHanded.{HandsSame, BoundMembersAreReadBack}
 use Rattle.smithy_served.proofs.Merge.{made_ordered}
 use Rattle.smithy_served.proofs.Payload.{payload_handed}
 use Rattle.smithy_served.proofs.PrefixBack.{IsPrefixMap, prefix_handed}
 use Rattle.smithy_served.proofs.Status.{status_handed}
-use Rattle.smithy_unambiguity.proofs.Positions.{members_by_position}
-use Rattle.smithy_recovery.proofs.Merging.{AreIndexed}
-
--- what a source says of the traits
-abbrev SourceSays : Option (List ℕ) → Option (List ℕ) → Bool → Bool → Source → Type 0
-SourceSays header prefix code payload (in_header name) = header ≡ Some name
-SourceSays header prefix code payload (in_prefix p) = (header ≡ None) × (prefix ≡ Some p)
-SourceSays header prefix code payload in_status = (header ≡ None) × ((prefix ≡ None) × (code ≡ true))
-SourceSays header prefix code payload in_payload = (header ≡ None) × ((prefix ≡ None) × ((code ≡ false) × (payload ≡ true)))
-SourceSays header prefix code payload in_body = (is_some header || is_some prefix || code || payload) ≡ false
-
-source_says : (header prefix : Option (List ℕ)) (code payload : Bool) → SourceSays header prefix code payload (source_at header prefix code payload)
-source_says (Some n) prefix code payload = refl
-source_says None (Some p) code payload = (refl, refl)
-source_says None None true payload = (refl, (refl, refl))
-source_says None None false true = (refl, (refl, (refl, refl)))
-source_says None None false false = refl
-
-abbrev Says : Schema → Source → Type 0
-Says m s = let t = m.node.traits in SourceSays t.http_header t.http_prefix_headers t.http_response_code t.http_payload s
-
-says : (m : Schema) (s : Source) → source_of m ≡ s → Says m s
-says m s e = let t = m.node.traits in subst (Says m) e (source_says t.http_header t.http_prefix_headers t.http_response_code t.http_payload)
 
 -- a checked header member
 header_of : (schema : Schema) (i : ℕ) (m : Schema) (name : List ℕ) → IsCheckedOutput schema → member_at schema i ≡ Some m → m.node.traits.http_header ≡ Some name → IsHeader m name

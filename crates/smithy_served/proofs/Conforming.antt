@@ -1,22 +1,7 @@
 -- What no fault of an output says of its writes and its response.
-use Rattle.std.proofs.Common.{◌≡◌, sym, ◌∙◌, ap, ℕ, true, ◌&&◌, List, [], ◌∷◌, ◌++◌, Option, Some, None, Ok}
-use Rattle.smithy_types.specs.Results.{then_give}
-use Rattle.smithy_http.specs.Responses.{Response}
-use Rattle.smithy_schema.specs.Nodes.{Schema, binding_of, member_at}
-use Rattle.smithy_serde.specs.Values.{Write, Value}
-use Rattle.smithy_binding.specs.Bodies.{body}
-use Rattle.smithy_binding.specs.Faults.{Fault, behind, bound_fault, is_placed_at, writes_fault_by, body_fault}
-use Rattle.smithy_binding.specs.Messages.{message_fault, message_headers}
-use Rattle.smithy_binding.specs.Outputs.{as_output, keep_defaults, placed_output}
-use Rattle.smithy_binding.specs.Placing.{Protocol}
-use Rattle.smithy_binding.specs.ResponseCodes.{output_bound_fault, status_fault, written_code}
+use Rattle.smithy_served.proofs.Common.{◌≡◌, sym, ◌∙◌, ap, ℕ, true, List, [], Option, Some, None, Ok, then_give, Response, Schema, binding_of, member_at, Write, Value, body, Fault, behind, bound_fault, is_placed_at, writes_fault_by, body_fault, message_fault, message_headers, as_output, keep_defaults, placed_output, Protocol, output_bound_fault, status_fault, written_code, answer_response, answer_fault, response_at, no_first, IsFittingWrite, fitting_by, first_unfaulted, first_found, fitting_first, first_value, IsTypedOutput}
 use Rattle.smithy_binding.specs.declared.output.PlacedOutput.{PlacedOutput}
-use Rattle.smithy_serve.specs.Answer.{answer_response, answer_fault, response_at}
-use Rattle.smithy_unambiguity.proofs.Conforming.{no_first, IsFittingWrite, fitting_by, first_unfaulted}
 use Rattle.smithy_unambiguity.proofs.ByMember.{at_member}
-use Rattle.smithy_unambiguity.proofs.Placed.{first_found, fitting_first}
-use Rattle.smithy_served.specs.AnswerView.{first_value}
-use Rattle.smithy_served.specs.TypedOutputs.{IsTypedOutput}
 use Rattle.smithy_served.proofs.Alike.{first_value-out, member_at-out}
 
 pub no_output_fault : (schema : Schema) (ws : List Write) → answer_fault schema ws ≡ None → writes_fault_by output_bound_fault (as_output schema) [] ws ≡ None

@@ -1,50 +1,18 @@
 -- The fields of a response's body are read as the normal form of the members that stand there.
-use Rattle.std.proofs.Common.{◌≡◌, refl, sym, ◌∙◌, ap, subst, ℕ, ◌+◌, zero, suc, nat_lt, Bool, true, false, not, cond, ◌||◌, List, [], ◌∷◌, ◌++◌, map, filter, filter_map, flat_map, slice_get, Option, Some, None, Result, Ok, Err, option_map, option_and_then, if◌then◌else◌}
-use Rattle.std.specs.List.{AllByRecursion}
-use Rattle.std.specs.Option.{option_map_or}
+use Rattle.smithy_served.proofs.Common.{◌≡◌, refl, sym, ◌∙◌, ap, subst, ℕ, ◌+◌, zero, suc, nat_lt, Bool, true, false, not, cond, List, [], ◌∷◌, ◌++◌, map, filter, filter_map, flat_map, slice_get, Option, Some, None, Result, Ok, Err, option_map, option_and_then, if◌then◌else◌, AllByRecursion, option_map_or, Document, list_of_members, then_try, then_give, Schema, is_bound, is_response_bound, member_at, members_of, position_of_name, is_well_made, Held, fields, known, in_order, position_of, put_by, IsLawfulText, Slot, at_member, contents, listing_of, field_of, last_named, value_read, value_of_structure, all_read, write_by, Value, Write, label_of, list_of, writes_of, Resolved, all_resolved, unbound, SerdeError, form_in, body_parts, body, text_of_document, bytes_by, IsCheckedOutput, as_output, Protocol, reads_normal_structure, all_made, by_positions, member_in_place, HasOwnText, own_bytes, body_bytes, document_value_is, own_text, has_unbound, is_unbound, only_unbound, member_view, AreReadAs, IsTypedOutput, sound, resolved_at, members_by_position, list_of-writes_of}
 use Rattle.smithy_types.specs.Documents as doc
-use Rattle.smithy_types.specs.Documents.{Document, list_of_members}
-use Rattle.smithy_types.specs.Results.{then_try, then_give}
-use Rattle.smithy_schema.specs.Nodes.{Schema, is_bound, is_response_bound, member_at, members_of, position_of_name}
-use Rattle.smithy_schema.specs.WellMade.{is_well_made}
 use Rattle.smithy_serde.specs.Held as held
-use Rattle.smithy_serde.specs.Held.{Held}
-use Rattle.smithy_serde.specs.HeldReads.{fields, known}
-use Rattle.smithy_serde.specs.IndexOrder.{in_order, position_of, put_by}
-use Rattle.smithy_serde.specs.Lawful.{IsLawfulText}
-use Rattle.smithy_serde.specs.Listings.{Slot, at_member, contents, listing_of}
-use Rattle.smithy_serde.specs.NormalBody.{field_of, last_named}
-use Rattle.smithy_serde.specs.ValueRead.{value_read, value_of_structure, all_read, write_by}
 use Rattle.smithy_serde.specs.Values as value
-use Rattle.smithy_serde.specs.Values.{Value, Write, label_of, list_of, writes_of}
-use Rattle.smithy_serde.specs.Writes.{Resolved, all_resolved, unbound}
-use Rattle.smithy_serde.specs.declared.error.SerdeError.{SerdeError}
 use Rattle.smithy_serde.specs.declared.scalar.Group.TheVariants as group
-use Rattle.smithy_binding.specs.Bodies.{form_in, body_parts, body, text_of_document, bytes_by}
 use Rattle.smithy_binding.specs.declared.body_form.BodyForm.TheVariants as form
-use Rattle.smithy_binding.specs.CheckedOutput.{IsCheckedOutput}
-use Rattle.smithy_binding.specs.Outputs.{as_output}
-use Rattle.smithy_binding.specs.Placing.{Protocol}
-use Rattle.smithy_document.proofs.ShapedReads.{reads_normal_structure}
 use Rattle.smithy_unambiguity.proofs.BodyObject.{IsBodied, are_bodied, body_node, body_node_stands, bodied_writes, body_field, body_fields, body_follows, free_view, fields_placed, unless_bound}
-use Rattle.smithy_unambiguity.proofs.Lists.{all_made, by_positions}
-use Rattle.smithy_unambiguity.proofs.Members.{member_in_place}
-use Rattle.smithy_unambiguity.proofs.PayloadTold.{HasOwnText, own_bytes, body_bytes, document_value_is, own_text}
-use Rattle.smithy_response.specs.Handed.{has_unbound, is_unbound, only_unbound}
-use Rattle.smithy_served.specs.AnswerView.{member_view}
-use Rattle.smithy_served.specs.Laws.{AreReadAs}
-use Rattle.smithy_served.specs.TypedOutputs.{IsTypedOutput}
 use Rattle.smithy_served.proofs.Alike.{all_resolved-out, out_write, filter-map}
 use Rattle.smithy_served.proofs.Messages.{bound_out, has_unbound_out, names_out, sound_output}
 use Rattle.smithy_served.proofs.Headers.{same_self}
 use Rattle.smithy_served.proofs.Join.{IsHanded}
 use Rattle.smithy_served.proofs.Merge.{free_part, made_from}
-use Rattle.smithy_unambiguity.proofs.Sound.{sound}
-use Rattle.smithy_unambiguity.proofs.Conforming.{resolved_at}
-use Rattle.smithy_unambiguity.proofs.Positions.{members_by_position}
 use Rattle.std.proofs.lemmas.Simd.{map-map}
 use Rattle.smithy_unambiguity.proofs.UnboundTold.{unbound_form}
-use Rattle.smithy_recovery.proofs.Joining.{list_of-writes_of}
 
 -- The writes to unbound members are those of the schema as a response has it.
 
@@ -67,11 +35,7 @@ inside _ = []
 fields_same : (schema : Schema) (d : Document) → fields (body_node schema) (held.document d) ≡ fields schema (held.document d)
 unfolding fields
 fields_same schema (doc.object ms) = refl
-fields_same schema doc.null = refl
-fields_same schema (doc.boolean b) = refl
-fields_same schema (doc.number n) = refl
-fields_same schema (doc.string s) = refl
-fields_same schema (doc.array ds) = refl
+fields_same schema _ = refl
 
 abbrev pub field_write : Schema × Held → Result Write SerdeError
 field_write x = then_give (value_read x.0 x.1) (write_by x.0)
@@ -164,11 +128,7 @@ members_in schema (f ∷ fs) = go (position_of_name schema f.0) (members_in sche
 opened_in : (schema : Schema) (d : Document) (xs : List (Schema × Held)) → fields schema (held.document d) ≡ Ok xs → AllByRecursion (λ x. IsIn schema x.0) xs
 unfolding fields
 opened_in schema (doc.object ms) xs e = let same : flat_map (known schema) (list_of_members ms) ≡ xs = cc e in subst (AllByRecursion (λ x. IsIn schema x.0)) same (members_in schema (list_of_members ms))
-opened_in schema doc.null xs e = absurd (cc e)
-opened_in schema (doc.boolean b) xs e = absurd (cc e)
-opened_in schema (doc.number n) xs e = absurd (cc e)
-opened_in schema (doc.string s) xs e = absurd (cc e)
-opened_in schema (doc.array ds) xs e = absurd (cc e)
+opened_in schema _ xs e = absurd (cc e)
 
 items_free : (schema : Schema) → is_well_made schema ≡ true → (xs : List (Schema × Held)) (us : List Write) → all_read field_write xs ≡ Ok us → AllByRecursion (λ x. IsIn schema x.0) xs → AllByRecursion (IsFree schema) us
     → AllByRecursion (λ x. is_response_bound x.0 ≡ false) xs

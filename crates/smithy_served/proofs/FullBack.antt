@@ -1,53 +1,15 @@
 -- The response of a typed output hands out the normal form.
-use Rattle.std.proofs.Common.{◌≡◌, ◌≢◌, refl, sym, ◌∙◌, ap, subst, cond, ℕ, ◌+◌, arith, Bool, true, false, not, ◌&&◌, ◌||◌, List, [], ◌∷◌, ◌++◌, find, Option, Some, None, option_map, option_and_then, if◌then◌else◌}
-use Rattle.std.specs.List.{AllByRecursion, cons_option, enumerate_from, list_any}
-use Rattle.smithy_http.specs.Responses.{Response}
-use Rattle.smithy_http.specs.declared.non_utf8.NonUtf8HeaderHandling.{NonUtf8HeaderHandling}
-use Rattle.smithy_schema.specs.Nodes.{Schema, is_response_bound, member_at, members_of}
+use Rattle.smithy_served.proofs.Common.{◌≡◌, refl, sym, ◌∙◌, ap, subst, cond, ℕ, ◌+◌, arith, Bool, true, false, not, ◌&&◌, ◌||◌, List, [], ◌∷◌, ◌++◌, find, Option, Some, None, option_map, option_and_then, if◌then◌else◌, AllByRecursion, enumerate_from, list_any, Response, NonUtf8HeaderHandling, Schema, is_response_bound, member_at, members_of, Held, IsLawfulText, contents, Write, body, is_codec_kind, is_raw_kind, IsCheckedOutput, has_response_body_member, response_payload_kind, as_output, Protocol, IsCheckedOutput-from_test, all_placed, all_get, nothing, handed, has_payload, has_unbound, only_unbound, body_part, routed, Source, in_header, in_prefix, in_status, in_payload, in_body, passed_over, source_of, route, route_at, answer_view, member_view, HandsOut, IsAnswered, OutputsAreReadBack, AreReadBackBeside, with_body, members_by_position, indexed, and_parts, has_at_most_one, is_sound_payload}
 use Rattle.smithy_serde.specs.Held as held
-use Rattle.smithy_serde.specs.Held.{Held}
-use Rattle.smithy_serde.specs.Lawful.{IsLawfulText}
-use Rattle.smithy_serde.specs.Listings.{contents}
-use Rattle.smithy_serde.specs.ValueRead.{write_by}
-use Rattle.smithy_serde.specs.Values.{Value, Write}
 use Rattle.smithy_serde.specs.declared.scalar.Group.TheVariants as group
-use Rattle.smithy_binding.specs.Bodies.{body, is_codec_kind, is_raw_kind}
-use Rattle.smithy_binding.specs.CheckedOutput.{IsCheckedOutput, has_response_body_member, response_payload_kind}
-use Rattle.smithy_binding.specs.Outputs.{as_output}
-use Rattle.smithy_binding.specs.Placing.{Protocol}
-use Rattle.smithy_binding.proofs.CheckedOutputLaws.{IsCheckedOutput-from_test}
-use Rattle.smithy_unambiguity.proofs.Lists.{all_placed, all_get}
-use Rattle.smithy_response.specs.Handed.{Ended, nothing, handed, has_payload, has_unbound, only_unbound, body_part, routed}
-use Rattle.smithy_response.specs.Routes.{Source, in_header, in_prefix, in_status, in_payload, in_body, passed_over, handed_body, source_at, source_of, route, route_at}
 use Rattle.smithy_response.proofs.TransportLaw.{transport_is_heard}
-use Rattle.smithy_served.specs.AnswerView.{answer_view, member_view}
-use Rattle.smithy_served.specs.Laws.{HandsOut, IsAnswered, OutputsAreReadBack, AreReadBackBeside, with_body}
 use Rattle.smithy_served.proofs.BoundBack.{all_bound, bound_members_are_read_back}
 use Rattle.smithy_served.proofs.Conforming.{response_is}
 use Rattle.smithy_served.proofs.FieldsBack.{fields_handed, fields_ordered, read}
-use Rattle.smithy_served.proofs.Join.{HasNoPayload, IsHanded, body_is_payload, step}
+use Rattle.smithy_served.proofs.Join.{HasNoPayload, IsHanded, before, says}
 use Rattle.smithy_served.proofs.MemberHanded.{HandsSame}
 use Rattle.smithy_served.proofs.Merge.{bound_part, made_from, merged}
-use Rattle.smithy_unambiguity.proofs.Positions.{members_by_position}
-use Rattle.smithy_recovery.proofs.Joining.{indexed}
 use Rattle.smithy_response.proofs.Turns.{source_unbound}
-use Rattle.std.proofs.lemmas.Bool.{and_parts}
-use Rattle.smithy_binding.specs.Checked.{has_at_most_one, is_sound_payload}
-
--- What stands in a response before what its body has.
-
-cons_before : (o : Option Write) (ws tail : List Write) → cons_option o ws ++ tail ≡ cons_option o (ws ++ tail)
-cons_before None ws tail = refl
-cons_before (Some w) ws tail = refl
-
-before : (response : Response) (body given : Held) (left : Option Held → Ended) (tail : List Write) (v : ℕ → Schema → Option Value) → IsHanded (left (Some given)) tail → (k : ℕ) (ms : List Schema)
-    → AllByRecursion (λ p. HandsSame body (route p.1 response) p.1 (v p.0 p.1)) (enumerate_from k ms) → AllByRecursion HasNoPayload ms → IsHanded (routed response left (Some given) ms) (made_from v k ms ++ tail)
-before response body given left tail v end k [] same none = end
-before response body given left tail v end k (m ∷ ms) same none =
-    let rest = before response body given left tail v end (k + 1) ms same.1 none.1 in
-    let other : route m response ≢ handed_body = λ e. (let q : true ≡ false = sym (body_is_payload m response e) ∙ none.0 in cc q) in
-    subst (IsHanded (routed response left (Some given) (m ∷ ms))) (sym (cons_before (option_map (write_by m) (v k m)) (made_from v (k + 1) ms) tail))
-    (step body m (route m response) (v k m) (Some given) (routed response left (Some given) ms) (routed response left None ms) (made_from v (k + 1) ms ++ tail) same.0 (λ e. absurd (other e)) rest (λ e. absurd (other e)))
 
 -- no member is a payload
 none_found : (ms : List Schema) → find (λ m. m.node.traits.http_payload) ms ≡ None → AllByRecursion HasNoPayload ms
@@ -78,13 +40,6 @@ free_route : (m : Schema) (response : Response) → is_response_bound m ≡ fals
 free_route m response e = let t = m.node.traits in ap (λ s. route_at s m response) (source_unbound t.http_header t.http_prefix_headers t.http_response_code t.http_payload e)
 
 -- another body changes no route but a payload's
-source_no_payload : (header prefix : Option (List ℕ)) (code payload : Bool) → payload ≡ false → source_at header prefix code payload ≢ in_payload
-source_no_payload (Some n) prefix code payload e h = cc h
-source_no_payload None (Some p) code payload e h = cc h
-source_no_payload None None true payload e h = cc h
-source_no_payload None None false true e h = cc e
-source_no_payload None None false false e h = cc h
-
 route_kept : (m : Schema) (response : Response) (bytes : List ℕ) → HasNoPayload m → route m (with_body bytes response) ≡ route m response
 route_kept m response bytes none = go (source_of m) refl
   where
@@ -92,7 +47,7 @@ route_kept m response bytes none = go (source_of m) refl
     go (in_header name) e = refl
     go (in_prefix prefix) e = refl
     go in_status e = refl
-    go in_payload e = absurd (let t = m.node.traits in source_no_payload t.http_header t.http_prefix_headers t.http_response_code t.http_payload none e)
+    go in_payload e = let q : true ≡ false = sym (says m in_payload e).1.1.1 ∙ none in absurd (cc q)
     go in_body e = refl
 
 is_read : (a b c : Bool) → a ≡ false → b ≡ true → c ≡ false → (not a && b && not c) ≡ true
@@ -141,7 +96,7 @@ module _ (protocol : Protocol) (holds : List ℕ → Option Held) (lawful : IsLa
           part (0 + j) m (ap (member_at schema) none_more ∙ sym (members_by_position schema checked.cited j) ∙ at) (all_get HasNoPayload (members_of schema) j m none at))
 
       x : IsHanded (routed other (body_part schema other false) (Some held) (members_of schema)) (made_from (bound_part (member_view schema ws)) 0 (members_of schema) ++ (read protocol schema ws checked is.well_made is.typed some).writes)
-      x = before other held held (body_part schema other false) (read protocol schema ws checked is.well_made is.typed some).writes (bound_part (member_view schema ws)) end 0 (members_of schema) all none
+      x = before other held (Some held) (body_part schema other false) (read protocol schema ws checked is.well_made is.typed some).writes (bound_part (member_view schema ws)) end 0 (members_of schema) all none
 
   pub outputs_are_read_back : OutputsAreReadBack protocol holds
   outputs_are_read_back schema ws code response body policy is = go (has_unbound schema) refl

@@ -1,41 +1,12 @@
 -- A header is read as the list that its text was written of.
-use Rattle.std.proofs.Common.{◌≡◌, ◌≢◌, refl, sym, ◌∙◌, ap, subst, ℕ, ℤ, Bool, true, false, not, cond, ◌&&◌, ◌||◌, List, [], ◌∷◌, map, Option, Some, None, Result, Ok, option_map, is_some, is_none, unwrap_or}
-use Rattle.std.specs.Option.{option_map_or}
-use Rattle.std.proofs.lemmas.Bool.{and_parts}
-use Rattle.smithy_types.specs.Results.{each, then_try, then_give}
+use Rattle.smithy_served.proofs.Common.{◌≡◌, ◌≢◌, refl, sym, ◌∙◌, ap, subst, ℕ, ℤ, Bool, true, false, not, cond, ◌&&◌, ◌||◌, List, [], ◌∷◌, map, Option, Some, None, Result, Ok, option_map, is_some, is_none, unwrap_or, option_map_or, and_parts, each, then_try, then_give, ShapeType, TimestampFormat, same_kind, one_kind, tokens_of, HttpError, Schema, element_of, fits, scalar_kind, header_format, or_parse_refusal, scalar_of_element, elements_of_header, Held, read_scalar, elements, settled_elements, is_in_range, value_read, value_within, value_by_kind, list_by, all_read, write_by, Scalar, Value, Write, Writes, no_writes, write, list_of, writes_of, SerdeError, listed, spelled_wire, wire, Header, tokens-listed, times_are_read, is_element_plain, same_format, element_text, is_flat, taken, AreItems, HaveFormat, is_flat_value, flat_value, each_first, one_format_or_none}
 use Rattle.smithy_types.specs.declared.date_time.Format.TheVariants.{HttpDate}
-use Rattle.smithy_ids.specs.declared.shape_type.ShapeType.{ShapeType}
 use Rattle.smithy_ids.specs.declared.shape_type.ShapeType.TheVariants as kind
-use Rattle.smithy_ids.specs.declared.traits.TimestampFormat.{TimestampFormat}
-use Rattle.smithy_ids.specs.Kinds.{same_kind}
-use Rattle.smithy_ids.proofs.KindLemmas.{one_kind}
 use Rattle.smithy_http.specs.DateLists.{dates_of}
-use Rattle.smithy_http.specs.HeaderValues.{tokens_of}
-use Rattle.smithy_http.specs.declared.error.HttpError.{HttpError}
 use Rattle.smithy_schema.specs.Formats.{format_of}
-use Rattle.smithy_schema.specs.Nodes.{Schema, element_of}
-use Rattle.smithy_serde.specs.Fits.{fits, scalar_kind}
-use Rattle.smithy_serde.specs.HeaderReads.{header_format, or_parse_refusal, scalar_of_element, elements_of_header}
 use Rattle.smithy_serde.specs.Held as held
-use Rattle.smithy_serde.specs.Held.{Held}
-use Rattle.smithy_serde.specs.HeldReads.{read_scalar, elements}
-use Rattle.smithy_serde.specs.NormalBody.{settled_elements}
-use Rattle.smithy_serde.specs.Ranges.{is_in_range}
-use Rattle.smithy_serde.specs.ValueRead.{value_read, value_within, value_by_kind, list_by, all_read, write_by}
 use Rattle.smithy_serde.specs.Values as value
-use Rattle.smithy_serde.specs.Values.{Scalar, Value, Write, Writes, no_writes, write, list_of, writes_of}
-use Rattle.smithy_serde.specs.declared.error.SerdeError.{SerdeError}
-use Rattle.smithy_strings.specs.Lists.{listed}
-use Rattle.smithy_strings.specs.Unwired.{spelled_wire}
-use Rattle.smithy_strings.specs.Wire.{wire}
-use Rattle.smithy_strings.specs.declared.wire.Place.TheVariants.{Header}
-use Rattle.smithy_strings.proofs.ReadBack.{tokens-listed}
-use Rattle.smithy_strings.proofs.TimeLists.{times_are_read}
-use Rattle.smithy_binding.specs.Checked.{is_element_plain, same_format}
-use Rattle.smithy_binding.specs.views.StoredTexts.{element_text}
-use Rattle.smithy_unambiguity.proofs.Fits.{is_flat, taken}
 use Rattle.smithy_unambiguity.proofs.HeaderTexts.{items_utf8, time_items, all_utf8}
-use Rattle.smithy_unambiguity.proofs.Values.{AreItems, HaveFormat, is_flat_value, flat_value, each_first, one_format_or_none}
 use Rattle.smithy_recovery.proofs.TextsBack.{values_in, own_elements}
 use Rattle.smithy_served.proofs.Scalars.{IsHeaderText, spelled, item_read, read_flat}
 

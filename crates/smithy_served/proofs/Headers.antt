@@ -1,55 +1,14 @@
 -- What a response has of a header member is read as the normal form's part.
-use Rattle.std.proofs.Common.{◌≡◌, refl, sym, ◌∙◌, ap, subst, ℕ, Bool, true, false, not, ◌&&◌, ◌||◌, List, [], ◌∷◌, Option, Some, None, Ok, option_map, option_and_then, option_to_list, is_some, is_none, IsTrue, if◌then◌else◌}
-use Rattle.std.specs.List.{list_all}
-use Rattle.std.specs.Option.{option_map_or}
-use Rattle.std.specs.Str.{str_to_ascii_lowercase}
-use Rattle.std.proofs.lemmas.Bool.{and_parts}
-use Rattle.smithy_types.specs.Results.{each}
-use Rattle.smithy_ids.specs.declared.shape_type.ShapeType.{ShapeType}
+use Rattle.smithy_served.proofs.Common.{◌≡◌, refl, sym, ◌∙◌, ap, subst, ℕ, Bool, true, false, not, ◌&&◌, ◌||◌, List, [], ◌∷◌, Option, Some, None, Ok, option_map, option_and_then, option_to_list, is_some, is_none, IsTrue, if◌then◌else◌, list_all, option_map_or, str_to_ascii_lowercase, and_parts, each, ShapeType, same_kind, Schema, binding_at, binding_of, to_header, element_of, member_at, fits, scalar_kind, Held, settled_elements, is_in_range, value_read, Scalar, Value, Write, list_of, text_of_key, listed, scalar_wire, Header, headers, texts, kind_or_none, place_at, body, has_element, is_element_plain, is_header_kind, same_format, IsCheckedOutput, is_placed_at, message_headers, with_own_elements, as_output, keep_defaults, Protocol, element_format, has_distinct_keys, has_own_formats, writes_default, member_text, element_text, member-passes, all_headers_at, is_flat, taken, headers_of_member, last_value, IsPlacedValue, first_has, placed_of, is_flat_value, flat_value, flat_own, values_named, header_route, in_header, source_at, source_of, is_plain_text, has_nothing, passed_over, handed_out, first_value, header_values, header_view, IsSame, IsTypedOutput, is_trimmed, is_typed_at, is_typed_header, headers_apart}
 use Rattle.smithy_ids.specs.declared.shape_type.ShapeType.TheVariants as kind
-use Rattle.smithy_ids.specs.Kinds.{same_kind}
-use Rattle.smithy_schema.specs.Nodes.{Schema, binding_at, binding_of, to_header, element_of, member_at}
-use Rattle.smithy_serde.specs.Fits.{fits, scalar_kind}
 use Rattle.smithy_serde.specs.Held as held
-use Rattle.smithy_serde.specs.Held.{Held}
-use Rattle.smithy_serde.specs.NormalBody.{settled_elements}
-use Rattle.smithy_serde.specs.Ranges.{is_in_range}
-use Rattle.smithy_serde.specs.ValueRead.{value_read}
 use Rattle.smithy_serde.specs.Values as value
-use Rattle.smithy_serde.specs.Values.{Scalar, Value, Write, list_of, text_of_key}
-use Rattle.smithy_strings.specs.Lists.{listed}
-use Rattle.smithy_strings.specs.Wire.{scalar_wire}
-use Rattle.smithy_strings.specs.declared.wire.Place.TheVariants.{Header}
-use Rattle.smithy_binding.specs.Bindings.{headers, texts, kind_or_none, place_at}
-use Rattle.smithy_binding.specs.Bodies.{body}
-use Rattle.smithy_binding.specs.Checked.{has_element, is_element_plain, is_header_kind, same_format}
-use Rattle.smithy_binding.specs.CheckedOutput.{IsCheckedOutput}
-use Rattle.smithy_binding.specs.Faults.{is_placed_at}
-use Rattle.smithy_binding.specs.Messages.{message_headers}
-use Rattle.smithy_binding.specs.NormalForm.{with_own_elements}
-use Rattle.smithy_binding.specs.Outputs.{as_output, keep_defaults}
-use Rattle.smithy_binding.specs.Placing.{Protocol}
-use Rattle.smithy_binding.specs.Typed.{element_format, has_distinct_keys, has_own_formats, writes_default}
-use Rattle.smithy_binding.specs.views.StoredTexts.{member_text, element_text}
-use Rattle.smithy_binding.proofs.WriteSteps.{member-passes}
-use Rattle.smithy_unambiguity.proofs.Defaults.{all_headers_at}
-use Rattle.smithy_unambiguity.proofs.Fits.{is_flat, taken}
-use Rattle.smithy_unambiguity.proofs.Headers.{headers_of_member}
 use Rattle.smithy_unambiguity.proofs.HeadersTold.{one_header_value}
-use Rattle.smithy_unambiguity.proofs.LastTexts.{last_value}
 use Rattle.smithy_unambiguity.proofs.MemberTexts.{IsListOf, list_of_element, bound_list, list_form, listed_of, one_header}
-use Rattle.smithy_unambiguity.proofs.Placed.{IsPlacedValue, first_has, placed_of}
-use Rattle.smithy_unambiguity.proofs.Values.{is_flat_value, flat_value, flat_own}
-use Rattle.smithy_response.specs.PrefixedHeaders.{values_named}
-use Rattle.smithy_response.specs.Routes.{header_route, in_header, source_at, source_of, is_plain_text, has_nothing, passed_over, handed_out}
-use Rattle.smithy_served.specs.AnswerView.{first_value, header_values, header_view}
-use Rattle.smithy_served.specs.Laws.{IsSame}
-use Rattle.smithy_served.specs.TypedOutputs.{IsTypedOutput, is_trimmed, is_typed_at, is_typed_header}
 use Rattle.smithy_served.proofs.Alike.{first_value-out, member_at-out, element-out}
 use Rattle.smithy_served.proofs.HeaderLists.{scalar_form, list_back}
 use Rattle.smithy_served.proofs.MemberHanded.{HandsSame}
-use Rattle.smithy_served.proofs.Scalars.{scalar_back, flat_header_read}
-use Rattle.smithy_unambiguity.proofs.HeaderNames.{headers_apart}
+use Rattle.smithy_served.proofs.Scalars.{scalar_back, flat_header_read, text_scalar}
 use Rattle.smithy_served.proofs.Messages.{sound_output}
 use Rattle.smithy_served.proofs.Conforming.{fitting_out, unfaulted_out}
 
@@ -98,12 +57,10 @@ plain_is : (m : Schema) (x : Scalar) (t : List ℕ) → (same_kind m.node.kind k
 plain_is m x t plain k e = go m.node.kind k m.node.traits.media_type plain e
   where
     text_is : (x : Scalar) → scalar_kind x ≡ Some kind.String → scalar_wire m.node.traits.timestamp_format false Header x ≡ Some t → text_of_key (value.scalar x) ≡ t
-    text_is (value.text s) k e = cc e
-    text_is (value.whole value.byte z) k e = absurd (cc k)
-    text_is (value.whole value.short z) k e = absurd (cc k)
-    text_is (value.whole value.integer z) k e = absurd (cc k)
-    text_is (value.whole value.long z) k e = absurd (cc k)
-    text_is _ k e = absurd (cc k)
+    text_is x k e =
+        let s = text_scalar x k in
+        let both : Some s.0 ≡ Some t = ap (scalar_wire m.node.traits.timestamp_format false Header) (sym s.1) ∙ e in
+        ap (λ y. text_of_key (value.scalar y)) s.1 ∙ cc both
 
     go : (k : ShapeType) → scalar_kind x ≡ Some k → (media : Option (List ℕ)) → (same_kind k kind.String && is_none media) ≡ true
         → scalar_wire m.node.traits.timestamp_format (is_some media) Header x ≡ Some t → text_of_key (value.scalar x) ≡ t

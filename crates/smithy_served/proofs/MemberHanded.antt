@@ -1,13 +1,5 @@
 -- What is made of one bound member of a response.
-use Rattle.std.proofs.Common.{◌≡◌, ℕ, true, List, Option, Some, None}
-use Rattle.smithy_http.specs.Responses.{Response}
-use Rattle.smithy_schema.specs.Nodes.{Schema, is_response_bound, member_at}
-use Rattle.smithy_serde.specs.Held.{Held}
-use Rattle.smithy_serde.specs.Values.{Value, Write}
-use Rattle.smithy_binding.specs.Placing.{Protocol}
-use Rattle.smithy_response.specs.Routes.{Route, passed_over, handed_out, handed_body, refused, route}
-use Rattle.smithy_served.specs.AnswerView.{member_view}
-use Rattle.smithy_served.specs.Laws.{IsAnswered, IsReadAs}
+use Rattle.smithy_served.proofs.Common.{◌≡◌, ℕ, true, List, Option, Some, None, Response, Schema, is_response_bound, member_at, Held, Value, Write, Protocol, Route, passed_over, handed_out, handed_body, refused, route, member_view, IsAnswered, IsReadAs}
 
 -- by the member's route: it is handed out as this value, or there is none and it is not
 abbrev pub HandsSame : Held → Route → Schema → Option Value → Type 0

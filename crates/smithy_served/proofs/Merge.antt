@@ -1,11 +1,6 @@
 -- The writes of two kinds of members, each in index order, merge into those of all members.
-use Rattle.std.proofs.Common.{◌≡◌, refl, sym, ◌∙◌, ap, ℕ, Bool, true, false, ◌⊎◌, inl, inr, List, [], ◌∷◌, ◌++◌, Option, Some, None, if◌then◌else◌}
-use Rattle.std.specs.Option.{option_or}
-use Rattle.smithy_schema.specs.Nodes.{Schema, is_response_bound}
-use Rattle.smithy_serde.specs.IndexOrder.{in_order, position_of, put_by}
-use Rattle.smithy_serde.specs.Values.{Value, Write}
+use Rattle.smithy_served.proofs.Common.{◌≡◌, refl, sym, ◌∙◌, ap, ℕ, Bool, true, false, ◌⊎◌, inl, inr, List, [], ◌∷◌, ◌++◌, Option, Some, None, if◌then◌else◌, option_or, Schema, is_response_bound, in_order, position_of, put_by, Value, Write, AreIndexed, writes}
 use Rattle.smithy_recovery.proofs.Merging as merging
-use Rattle.smithy_recovery.proofs.Merging.{AreApart, AreIndexed, writes}
 
 -- the writes of members by their positions
 abbrev pub made_from : (ℕ → Schema → Option Value) → ℕ → List Schema → List Write

@@ -1,24 +1,8 @@
 -- What a checked output says of its responses: their headers tell members apart, and one payload, or the unbound members, are the body.
-use Rattle.std.proofs.Common.{◌≡◌, ◌≢◌, refl, sym, ◌∙◌, ap, ℕ, ◌==◌, nat_eq, nat_le, ◌+◌, Bool, true, false, not, ◌&&◌, ◌||◌, List, length, map, filter, filter_map, find, slice_get, Option, Some, None, option_map, is_some}
-use Rattle.std.specs.List.{AllByRecursion, list_all, list_any, starts_with}
-use Rattle.std.specs.Str.{str_to_ascii_lowercase}
-use Rattle.std.proofs.lemmas.Bool.{and_from, and_parts}
-use Rattle.std.proofs.lemmas.List.{length-map}
-use Rattle.std.proofs.lemmas.List.Sums.{list_all-from_AllPass}
+use Rattle.smithy_served.proofs.Common.{◌≡◌, refl, sym, ◌∙◌, ap, ℕ, ◌==◌, nat_eq, nat_le, ◌+◌, Bool, true, false, not, ◌&&◌, ◌||◌, List, length, map, filter, filter_map, find, slice_get, Option, Some, None, option_map, is_some, AllByRecursion, list_all, list_any, starts_with, str_to_ascii_lowercase, and_from, and_parts, length-map, list_all-from_AllPass, are_distinct, Schema, Traits, binding_at, binding_of, is_bound, is_outside_body, is_response_bound, members_of, has_unbound_member, is_payload, payload_kind, has_at_most_one, has_sound_headers, is_sound_payload, is_text_map, lower_header_names, members_with, one_if, prefixes, IsCheckedOutput, has_response_body_member, is_response_bound_once, response_payload_kind, as_output, member-in, all_apply, all_from_test, HasOwnNames, IsSoundMessage, members_by_position, find_same}
 use Rattle.std.proofs.lemmas.Option.{slice_get-map}
 use Rattle.smithy_types.specs.Grammars.{is_token}
-use Rattle.smithy_types.specs.Texts.{are_distinct}
-use Rattle.smithy_ids.specs.declared.shape_type.ShapeType.{ShapeType}
-use Rattle.smithy_schema.specs.Nodes.{Schema, Traits, binding_at, binding_of, is_bound, is_outside_body, is_response_bound, member_at, members_of}
-use Rattle.smithy_binding.specs.Bodies.{has_unbound_member, is_payload, payload_kind}
-use Rattle.smithy_binding.specs.Checked.{has_at_most_one, has_sound_headers, has_sound_payload, is_sound_payload, is_text_map, lower_header_names, members_with, one_if, prefixes}
-use Rattle.smithy_binding.specs.CheckedOutput.{IsCheckedOutput, has_response_body_member, is_response_bound_once, response_payload_kind}
-use Rattle.smithy_binding.specs.Outputs.{as_output}
 use Rattle.smithy_binding.specs.declared.direction.Direction.TheVariants as direction
-use Rattle.smithy_binding.proofs.Directions.{member-in}
-use Rattle.smithy_unambiguity.proofs.Lists.{all_apply, all_from_test}
-use Rattle.smithy_unambiguity.proofs.Positions.{HasOwnNames, IsSoundMessage, members_by_position}
-use Rattle.smithy_unambiguity.proofs.Singles.{find_same}
 use Rattle.smithy_served.proofs.Alike.{any-map, filter-map, filter_map-map, find-map, members-out}
 
 pub names_out : (schema : Schema) → IsCheckedOutput schema → HasOwnNames schema

@@ -1,8 +1,7 @@
 use Rattle.std.specs.Prelude.{⊤}
+use Rattle.smithy_served.proofs.Common.{message_fault, answer_view}
 use Rattle.smithy_binding.proofs.OnLiterals.{binding_on_literals}
-use Rattle.smithy_binding.specs.Messages.{message_fault}
 use Rattle.smithy_document.proofs.OnLiterals.{document_on_literals}
-use Rattle.smithy_served.specs.AnswerView.{answer_view}
 
 -- what a proof unfolds to compute this crate's definitions on a literal
 unfoldable pub served_on_literals : ⊤

@@ -1,21 +1,6 @@
 -- The fields of typed outputs as tests: an output that passes all of them is typed.
-use Rattle.std.proofs.Common.{◌≡◌, refl, ℕ, codes, Bool, true, false, not, ◌||◌, List, [], ◌∷◌, Option, Some, None, is_none, is_some, option_and_then}
+use Rattle.smithy_served.proofs.Common.{◌≡◌, refl, ℕ, codes, Bool, true, false, not, ◌||◌, List, [], ◌∷◌, Option, Some, None, is_none, is_some, option_and_then, list_all, AllByRecursion, Schema, Write, are_in_range, doc_of, firsts, document_value, prefixes, as_output, Protocol, code_write, is_shaped_write, is_shallow, answer_fault, IsTypedOutput, bodied, is_shaped_payload, is_typed_header, has_code, writes_defaults, begins_no_default, all_from_test}
 use Rattle.std.specs.Bool.{IsTrue}
-use Rattle.std.specs.List.{list_all, AllByRecursion}
-use Rattle.smithy_schema.specs.Nodes.{Schema}
-use Rattle.smithy_serde.specs.Values.{Write}
-use Rattle.smithy_serde.specs.Ranges.{are_in_range}
-use Rattle.smithy_serde.specs.DocumentOf.{doc_of}
-use Rattle.smithy_serde.specs.Writes.{firsts}
-use Rattle.smithy_binding.specs.Bodies.{document_value}
-use Rattle.smithy_binding.specs.Checked.{prefixes}
-use Rattle.smithy_binding.specs.Outputs.{as_output}
-use Rattle.smithy_binding.specs.Placing.{Protocol}
-use Rattle.smithy_binding.specs.ResponseCodes.{code_write}
-use Rattle.smithy_binding.specs.Typed.{is_shaped_write, is_shallow}
-use Rattle.smithy_serve.specs.Answer.{answer_fault}
-use Rattle.smithy_served.specs.TypedOutputs.{IsTypedOutput, bodied, is_shaped_payload, is_typed_header, has_code, writes_defaults, begins_no_default}
-use Rattle.smithy_unambiguity.proofs.Lists.{all_from_test}
 
 -- the tests under the names of their fields
 abbrev tests : Protocol → Schema → List Write → List (List ℕ × Bool)

@@ -1,16 +1,8 @@
 -- Worked rows of outputs: which are typed, what one fails where it is not, and normal forms.
-use Rattle.std.specs.List.{range_with_len}
-use Rattle.std.specs.Option.{option_map_or}
-use Rattle.std.proofs.Common.{◌≡◌, refl, ℕ, codes, true, List, [], ◌∷◌, ◌++◌, map, flat_map, Option, Some, None, pos}
-use Rattle.smithy_ids.specs.declared.shape_type.ShapeType.{ShapeType}
+use Rattle.smithy_served.proofs.Common.{range_with_len, option_map_or, ◌≡◌, refl, ℕ, codes, true, List, [], ◌∷◌, ◌++◌, map, flat_map, Option, Some, None, pos, ShapeType, Schema, Node, Table, Traits, no_traits, bare_node, member_at, Label, Value, Write, scalar, text, blob, list, label_of, writes_of, checked_output, Protocol, answer_view}
 use Rattle.smithy_ids.specs.declared.shape_type.ShapeType.TheVariants as kind
-use Rattle.smithy_schema.specs.Nodes.{Schema, Node, Table, Traits, no_traits, bare_node, member_at}
-use Rattle.smithy_serde.specs.Values.{Label, Value, Write, scalar, text, blob, list, label_of, writes_of}
 use Rattle.smithy_serde.specs.Values as value
 use Rattle.smithy_document.specs.JsonText.{json_text}
-use Rattle.smithy_binding.specs.CheckedOutput.{checked_output}
-use Rattle.smithy_binding.specs.Placing.{Protocol}
-use Rattle.smithy_served.specs.AnswerView.{answer_view}
 use Rattle.smithy_served.proofs.OnLiterals.{served_on_literals}
 use Rattle.smithy_served.proofs.OutputTests.{failing}
 

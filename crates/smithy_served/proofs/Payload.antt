@@ -1,44 +1,16 @@
 -- The body of a response is read as the payload that was written.
-use Rattle.std.proofs.Common.{◌≡◌, ◌≢◌, refl, sym, ◌∙◌, ap, subst, ℕ, ◌≤◌, ◌⊎◌, inl, inr, Bool, true, false, not, ◌&&◌, ◌||◌, ◌==◌, List, [], ◌∷◌, Option, Some, None, Ok, option_map, option_and_then, unwrap_or, IsTrue, if◌then◌else◌}
-use Rattle.std.specs.Str.{is_utf8}
-use Rattle.std.proofs.lemmas.Str.{IsUtf8-from_is_utf8, utf8_lossy-IsUtf8}
-use Rattle.smithy_types.specs.Documents.{Document}
-use Rattle.smithy_ids.specs.declared.shape_type.ShapeType.{ShapeType}
+use Rattle.smithy_served.proofs.Common.{◌≡◌, ◌≢◌, refl, sym, ◌∙◌, ap, subst, ℕ, ◌⊎◌, inl, inr, Bool, true, false, not, ◌&&◌, ◌||◌, List, [], ◌∷◌, Option, Some, None, Ok, option_map, option_and_then, unwrap_or, IsTrue, if◌then◌else◌, is_utf8, IsUtf8-from_is_utf8, utf8_lossy-IsUtf8, Document, ShapeType, Schema, binding_at, binding_of, to_payload, is_bound, is_outside_body, member_at, is_well_made, fits, is_null, Held, read_scalar, IsLawfulText, settled, is_in_range, value_read, value_within, value_by_kind, Value, Write, has_unbound_member, is_codec_kind, form_at, form_in, body_parts, body, raw_bytes, text_of_document, bytes_by, IsCheckedOutput, unless_empty, as_output, Protocol, reads_normal_form, member_in_place, HasOwnText, own_bytes, blob_form, data_kind, codec_form, body_bytes, document_value_is, own_text, payload_form, payload_is_data, payload_value, bound_fits, first_has, sound, handed_out, handed_body, passed_over, is_raw, body_route, payload_route, first_value, payload_view, IsTypedOutput, is_codec_payload, is_shaped_payload, IsSoundMessage}
 use Rattle.smithy_ids.specs.declared.shape_type.ShapeType.TheVariants as kind
-use Rattle.smithy_schema.specs.Nodes.{Schema, binding_at, binding_of, to_payload, is_bound, is_outside_body, member_at}
-use Rattle.smithy_schema.specs.WellMade.{is_well_made}
-use Rattle.smithy_serde.specs.Fits.{fits, is_null}
 use Rattle.smithy_serde.specs.Held as held
-use Rattle.smithy_serde.specs.Held.{Held}
-use Rattle.smithy_serde.specs.HeldReads.{read_scalar}
-use Rattle.smithy_serde.specs.Lawful.{IsLawfulText}
-use Rattle.smithy_serde.specs.NormalBody.{settled}
-use Rattle.smithy_serde.specs.Ranges.{is_in_range}
 use Rattle.smithy_serde.specs.Shaped.{is_shaped}
-use Rattle.smithy_serde.specs.ValueRead.{value_read, value_within, value_by_kind}
 use Rattle.smithy_serde.specs.Values as value
-use Rattle.smithy_serde.specs.Values.{Value, Write}
-use Rattle.smithy_binding.specs.Bodies.{has_unbound_member, is_codec_kind, form_at, form_in, body_parts, body, raw_bytes, text_of_document, bytes_by}
 use Rattle.smithy_binding.specs.declared.body_form.BodyForm.TheVariants as form
-use Rattle.smithy_binding.specs.CheckedOutput.{IsCheckedOutput}
-use Rattle.smithy_binding.specs.NormalForm.{unless_empty}
-use Rattle.smithy_binding.specs.Outputs.{as_output}
-use Rattle.smithy_binding.specs.Placing.{Protocol}
 use Rattle.smithy_document.proofs.NamedPairs.{text_form}
-use Rattle.smithy_document.proofs.ShapedReads.{reads_normal_form}
-use Rattle.smithy_unambiguity.proofs.Members.{member_in_place}
-use Rattle.smithy_unambiguity.proofs.PayloadTold.{HasOwnText, own_bytes, blob_form, data_kind, codec_form, body_bytes, document_value_is, own_text, payload_form, payload_is_data, payload_value}
-use Rattle.smithy_unambiguity.proofs.Placed.{bound_fits, first_has}
-use Rattle.smithy_unambiguity.proofs.Sound.{sound}
-use Rattle.smithy_response.specs.Routes.{handed_out, handed_body, passed_over, is_raw, body_route, payload_route}
-use Rattle.smithy_served.specs.AnswerView.{first_value, payload_view}
-use Rattle.smithy_served.specs.TypedOutputs.{IsTypedOutput, is_codec_payload, is_shaped_payload}
 use Rattle.smithy_served.proofs.Alike.{first_value-out, member_at-out}
 use Rattle.smithy_served.proofs.Messages.{sound_output}
 use Rattle.smithy_served.proofs.Conforming.{fitting_out}
 use Rattle.smithy_served.proofs.Headers.{same_self}
 use Rattle.smithy_served.proofs.MemberHanded.{HandsSame}
-use Rattle.smithy_unambiguity.proofs.Positions.{IsSoundMessage}
 
 -- The payload member of a response.
 pub record IsPayload (m : Schema) : Type 0 where

@@ -1,22 +1,9 @@
 -- Texts of numbers and bytes stand in a header as one token.
-use Rattle.std.proofs.Common.{◌≡◌, ◌≢◌, refl, sym, ◌∙◌, ap, ℕ, zero, suc, ◌+◌, arith, nat_lt, nat_le, Bool, true, false, not, cond, ◌&&◌, ◌||◌, ◌==◌, List, [], ◌∷◌, length, take, drop, get_or, replicate, Option, Some, None, Ok, if◌then◌else◌}
+use Rattle.smithy_served.proofs.Common.{◌≡◌, ◌≢◌, refl, sym, ◌∙◌, ap, ℕ, zero, suc, ◌+◌, arith, nat_lt, nat_le, Bool, true, false, not, cond, ◌&&◌, ◌||◌, ◌==◌, List, [], ◌∷◌, length, take, drop, get_or, replicate, Option, Some, None, Ok, if◌then◌else◌, list_all, list_any, last_or, before_first, after_first, position_or_len, option_map_or, and_parts, and_from, eqb-true, leb-true, agree_below, agree_below_at, take-append-drop, list_all-append, chars-IsAscii, IsUtf8-from_ascii, standard, is_digit, is_sign, unsigned, is_signed_digits, is_exponent_mark, is_exponent, is_mantissa, mantissa_of, exponent_of, is_big_decimal, tokens_of, begins_with_white_space, ends_with_white_space, is_delimiter, needs_quotes, quoted, base64, listed, tokens-listed}
 use Rattle.std.specs.Char.{is_whitespace}
-use Rattle.std.specs.List.{list_all, list_any, last_or, before_first, after_first, position_or_len}
-use Rattle.std.specs.Option.{option_map_or}
-use Rattle.std.proofs.lemmas.Bool.{and_parts, and_from, eqb-true, leb-true, agree_below, agree_below_at}
-use Rattle.std.proofs.lemmas.List.{take-append-drop}
-use Rattle.std.proofs.lemmas.List.Folds.{list_all-append}
-use Rattle.std.proofs.lemmas.Str.{chars-IsAscii, IsUtf8-from_ascii}
-use Rattle.base64.specs.Engines.{standard}
 use Rattle.base64.specs.Rfc4648.{encode_group, encode_symbols, padding_len}
-use Rattle.smithy_types.specs.BigNumbers.{is_digit, is_sign, unsigned, is_signed_digits, is_exponent_mark, is_exponent, is_mantissa, mantissa_of, exponent_of, is_big_decimal}
 use Rattle.smithy_ids.specs.declared.shape_type.ShapeType.TheVariants as kind
-use Rattle.smithy_http.specs.HeaderValues.{tokens_of}
-use Rattle.smithy_http.specs.Quoting.{begins_with_white_space, ends_with_white_space, is_delimiter, needs_quotes, quoted}
-use Rattle.smithy_serde.specs.DocumentOf.{base64}
-use Rattle.smithy_strings.specs.Lists.{listed}
 use Rattle.smithy_strings.proofs.AsciiTexts.{are_low, IsAscii-from_test}
-use Rattle.smithy_strings.proofs.ReadBack.{tokens-listed}
 
 -- an ASCII byte that is no white space and no delimiter of a list
 abbrev pub is_bare : ℕ → Bool

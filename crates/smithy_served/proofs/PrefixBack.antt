@@ -1,67 +1,23 @@
 -- What a response has behind a prefix is read as the map that was written.
-use Rattle.std.proofs.Common.{◌≡◌, ◌≢◌, refl, sym, ◌∙◌, ap, subst, ℕ, nat_eq, Bool, true, false, not, cond, ◌&&◌, ◌||◌, List, [], ◌∷◌, ◌++◌, map, filter_map, Option, Some, None, Result, Ok, option_to_list, unwrap_or, is_some, is_none, IsTrue}
-use Rattle.std.specs.List.{AllByRecursion, list_all, list_any, starts_with}
-use Rattle.std.specs.Option.{ok_or, option_map_or, option_or}
-use Rattle.std.specs.Str.{is_utf8, str_to_ascii_lowercase}
+use Rattle.smithy_served.proofs.Common.{◌≡◌, refl, sym, ◌∙◌, ap, subst, ℕ, nat_eq, Bool, true, false, not, cond, ◌&&◌, ◌||◌, List, [], ◌∷◌, ◌++◌, map, filter_map, Option, Some, None, Result, Ok, option_to_list, unwrap_or, is_some, is_none, IsTrue, AllByRecursion, list_all, list_any, starts_with, ok_or, option_map_or, option_or, is_utf8, str_to_ascii_lowercase, and_parts, or_right, map-append, then_try, then_give, first_of_all, same_text, is_one_of, same_kind, one_kind, values_at, one_text_of, Schema, binding_at, binding_of, to_prefix, is_bound, is_outside_body, key_of, value_of, member_at, members_of, fits, is_null, one_token, decoded_text, or_parse_refusal, no_value, Held, read_scalar, entries, in_key_order, entry_writes, is_in_range, value_read, value_within, value_by_kind, map_by, all_read, entry_by, joined, Label, Scalar, Value, Write, Writes, text_of_key, writes_of, SerdeError, entries_of, headers, inserted_at, map_entries, body, is_plain_string, is_text_map, prefixes, IsCheckedOutput, value_fault, item_fault, key_fault, year_fault, pairs_fault, is_placed_at, message_headers, in_lower_case, own_entries, as_output, keep_defaults, Protocol, default_names, has_distinct_keys, map_fault-in, no_first, all_headers_at, leaves-elsewhere, given, map_pairs, last_value, last_at, lowered, values_all, all_from_test, bound_fits, first_has, at_name, members_by_position, values_named, behind_lower, keys_behind_lower, entry_of, prefixed_in, in_prefix, source_at, source_of, handed_out, first_value, prefix_view, IsTypedOutput, begins_no_default, is_trimmed, is_typed_at, is_typed_header, headers_apart, starts-self}
 use Rattle.std.specs.Cmp.Lexicographic.{same_text as same_from_test}
-use Rattle.std.proofs.lemmas.Bool.{and_parts, or_right}
-use Rattle.std.proofs.lemmas.List.{map-append}
 use Rattle.smithy_types.specs.Maps.{all_put}
-use Rattle.smithy_types.specs.Results.{then_try, then_give, first_of_all}
-use Rattle.smithy_types.specs.Texts.{same_text, is_one_of}
 use Rattle.smithy_ids.specs.declared.shape_type.ShapeType.TheVariants as kind
-use Rattle.smithy_ids.specs.Kinds.{same_kind}
-use Rattle.smithy_ids.proofs.KindLemmas.{one_kind}
-use Rattle.smithy_http.specs.Facts.{values_at}
-use Rattle.smithy_http.specs.HeaderValues.{one_text_of}
 use Rattle.smithy_http.proofs.ValueLemmas.{lower_twice}
-use Rattle.smithy_schema.specs.Nodes.{Schema, binding_at, binding_of, to_prefix, is_bound, is_outside_body, key_of, value_of, member_at, members_of}
-use Rattle.smithy_serde.specs.Fits.{fits, is_null}
-use Rattle.smithy_serde.specs.HeaderReads.{one_token, decoded_text, or_parse_refusal, no_value}
 use Rattle.smithy_serde.specs.Held as held
-use Rattle.smithy_serde.specs.Held.{Held}
-use Rattle.smithy_serde.specs.HeldReads.{read_scalar, entries}
-use Rattle.smithy_serde.specs.NormalBody.{in_key_order, entry_writes}
-use Rattle.smithy_serde.specs.Ranges.{is_in_range}
-use Rattle.smithy_serde.specs.ValueRead.{value_read, value_within, value_by_kind, map_by, all_read, entry_by, joined}
 use Rattle.smithy_serde.specs.Values as value
-use Rattle.smithy_serde.specs.Values.{Label, Scalar, Value, Write, Writes, text_of_key, writes_of}
-use Rattle.smithy_serde.specs.declared.error.SerdeError.{SerdeError}
-use Rattle.smithy_binding.specs.Bindings.{entries_of, headers, inserted_at, map_entries}
-use Rattle.smithy_binding.specs.Bodies.{body}
-use Rattle.smithy_binding.specs.Checked.{is_plain_string, is_text_map, prefixes}
-use Rattle.smithy_binding.specs.CheckedOutput.{IsCheckedOutput}
-use Rattle.smithy_binding.specs.Faults.{value_fault, item_fault, key_fault, year_fault, pairs_fault, is_placed_at}
-use Rattle.smithy_binding.specs.Messages.{message_headers}
-use Rattle.smithy_binding.specs.NormalForm.{in_lower_case, own_entries}
-use Rattle.smithy_binding.specs.Outputs.{as_output, keep_defaults}
-use Rattle.smithy_binding.specs.Placing.{Protocol}
-use Rattle.smithy_binding.specs.Typed.{default_names, has_distinct_keys}
 use Rattle.smithy_binding.specs.declared.direction.Direction.TheVariants as direction
-use Rattle.smithy_binding.proofs.Directions.{map_fault-in}
 use Rattle.smithy_document.proofs.OrderedPairs.{look_ordered, last_ascending}
-use Rattle.smithy_unambiguity.proofs.Conforming.{no_first}
-use Rattle.smithy_unambiguity.proofs.Defaults.{all_headers_at, leaves-elsewhere}
 use Rattle.smithy_unambiguity.proofs.EntriesTold.{as_text, in_order, last_of-texts, lower_entries, ordered_told, own_text_entries}
-use Rattle.smithy_unambiguity.proofs.Headers.{given, map_pairs}
-use Rattle.smithy_unambiguity.proofs.LastTexts.{last_value, last_at, lowered, values_all}
-use Rattle.smithy_unambiguity.proofs.Lists.{all_from_test}
 use Rattle.smithy_unambiguity.proofs.MapsTold.{written_pairs, not_lower, headers_behind}
 use Rattle.smithy_unambiguity.proofs.PairLemmas.{valued, ordered_ascends}
-use Rattle.smithy_unambiguity.proofs.Placed.{bound_fits, first_has}
-use Rattle.smithy_unambiguity.proofs.Positions.{at_name, members_by_position}
 use Rattle.smithy_unambiguity.proofs.TextsBytes.{IsEntryInRange, map_in_range, text_utf8}
-use Rattle.smithy_response.specs.PrefixedHeaders.{values_named, behind_lower, keys_behind_lower, entry_of, prefixed_in}
-use Rattle.smithy_response.specs.Routes.{in_prefix, source_at, source_of, handed_out}
-use Rattle.smithy_served.specs.AnswerView.{first_value, prefix_view}
-use Rattle.smithy_served.specs.TypedOutputs.{IsTypedOutput, begins_no_default, is_trimmed, is_typed_at, is_typed_header}
 use Rattle.smithy_served.proofs.Alike.{first_value-out, member_at-out}
 use Rattle.smithy_served.proofs.Messages.{sound_output}
 use Rattle.smithy_served.proofs.Behind.{all_of, behind_any, has_value, last_keyed, with_new-any}
 use Rattle.smithy_served.proofs.Conforming.{fitting_out, unfaulted_out}
 use Rattle.smithy_served.proofs.MemberHanded.{HandsSame}
 use Rattle.smithy_served.proofs.Scalars.{plain_read}
-use Rattle.smithy_unambiguity.proofs.HeaderNames.{headers_apart, starts-self}
 
 -- A prefix map of a response.
 pub record IsPrefixMap (m : Schema) (prefix : List ℕ) : Type 0 where

@@ -1,49 +1,16 @@
 -- A header is read as the scalar that its text was written of.
-use Rattle.std.proofs.Common.{◌≡◌, ◌≢◌, refl, sym, ◌∙◌, ap, ℕ, ℤ, Bool, true, false, not, cond, ◌&&◌, List, [], ◌∷◌, codes, Option, Some, None, Result, Ok, Err, option_map, option_and_then, is_some, is_none, if◌then◌else◌}
-use Rattle.std.specs.Option.{ok_or}
-use Rattle.std.specs.Str.{chars, is_utf8, trim}
-use Rattle.std.proofs.lemmas.Bool.{and_parts}
-use Rattle.std.proofs.lemmas.Str.{IsUtf8-from_is_utf8}
-use Rattle.base64.specs.Engines.{standard}
+use Rattle.smithy_served.proofs.Common.{◌≡◌, ◌≢◌, refl, sym, ◌∙◌, ap, ℕ, ℤ, Bool, true, false, not, cond, ◌&&◌, List, [], ◌∷◌, codes, Option, Some, None, Result, Ok, Err, option_map, option_and_then, is_some, is_none, if◌then◌else◌, ok_or, chars, is_utf8, trim, and_parts, IsUtf8-from_is_utf8, standard, is_signed_digits, is_big_integer_in_range, is_big_decimal_in_range, is_big_decimal, has_narrow_coefficient, then_try, then_give, same_text, ShapeType, TimestampFormat, same_kind, one_text_of, begins_with_white_space, ends_with_white_space, HttpError, Schema, scalar_kind, scalar_of_header, text_of_header, time_of_header, header_format, one_token, one_of, or_parse_refusal, item_of_text, decoded_text, no_value, Held, read_scalar, is_scalar_in_range, is_in_width, value_read, value_within, value_by_kind, Scalar, Value, Width, byte, short, integer, long, only_if, base64, SerdeError, listed, spelled_wire, is_wire_of, unwired, text_of_bytes, text_of_wire, scalar_wire, Header, times_are_read, is_flat, is_plain_text, are_empty, has_nothing, is_trimmed, blob_form, text_form, unwrap_or, kind_takes}
 use Rattle.base64.specs.GeneralPurpose.{decoded_of}
-use Rattle.smithy_types.specs.BigNumbers.{is_signed_digits, is_big_integer_in_range, is_big_decimal_in_range, is_big_decimal, has_narrow_coefficient}
-use Rattle.smithy_types.specs.Results.{then_try, then_give}
-use Rattle.smithy_types.specs.Texts.{same_text}
 use Rattle.std.specs.Cmp.Lexicographic.{same_text as same_from_test}
 use Rattle.smithy_types.specs.Timestamps.{timestamp_text}
-use Rattle.smithy_ids.specs.declared.shape_type.ShapeType.{ShapeType}
 use Rattle.smithy_ids.specs.declared.shape_type.ShapeType.TheVariants as kind
-use Rattle.smithy_ids.specs.declared.traits.TimestampFormat.{TimestampFormat}
-use Rattle.smithy_ids.specs.Kinds.{same_kind}
-use Rattle.smithy_http.specs.HeaderValues.{one_text_of}
-use Rattle.smithy_http.specs.Quoting.{begins_with_white_space, ends_with_white_space}
-use Rattle.smithy_http.specs.declared.error.HttpError.{HttpError}
 use Rattle.smithy_http.specs.declared.error.HttpError.TheVariants as error
-use Rattle.smithy_schema.specs.Nodes.{Schema}
-use Rattle.smithy_serde.specs.Fits.{scalar_kind}
-use Rattle.smithy_serde.specs.HeaderReads.{scalar_of_header, text_of_header, time_of_header, header_format, one_token, one_of, or_parse_refusal, item_of_text, decoded_text, no_value}
 use Rattle.smithy_serde.specs.Held as held
-use Rattle.smithy_serde.specs.Held.{Held}
-use Rattle.smithy_serde.specs.HeldReads.{read_scalar}
-use Rattle.smithy_serde.specs.Ranges.{is_scalar_in_range, is_in_width}
 use Rattle.smithy_serde.specs.TextReads.{scalar_of_text, whole_of_text, boolean_of_text}
-use Rattle.smithy_serde.specs.ValueRead.{value_read, value_within, value_by_kind}
 use Rattle.smithy_serde.specs.Values as value
-use Rattle.smithy_serde.specs.Values.{Scalar, Value, Width, byte, short, integer, long}
-use Rattle.smithy_serde.specs.Writes.{only_if}
-use Rattle.smithy_serde.specs.DocumentOf.{base64}
-use Rattle.smithy_serde.specs.declared.error.SerdeError.{SerdeError}
 use Rattle.std.specs.Str.Parse.{signed_digits_value}
-use Rattle.smithy_strings.specs.Lists.{listed}
-use Rattle.smithy_strings.specs.Unwired.{spelled_wire, is_wire_of, unwired, text_of_bytes, text_of_wire}
-use Rattle.smithy_strings.specs.Wire.{scalar_wire}
-use Rattle.smithy_strings.specs.declared.wire.Place.TheVariants.{Header}
 use Rattle.smithy_strings.proofs.ListLaws.{trim_same}
-use Rattle.smithy_strings.proofs.TimeLists.{times_are_read}
 use Rattle.smithy_strings.proofs.UnwireLaws.{unwired-wire}
-use Rattle.smithy_unambiguity.proofs.Fits.{is_flat}
-use Rattle.smithy_response.specs.Routes.{is_plain_text, are_empty, has_nothing}
-use Rattle.smithy_served.specs.TypedOutputs.{is_trimmed}
 use Rattle.smithy_served.proofs.Plain.{are_bare, one_token-bare, bare_signed, bare_decimal, bare_base64, neither}
 use Rattle.smithy_recovery.proofs.Exact.{kept}
 
@@ -52,6 +19,13 @@ pub record IsHeaderText (format : Option TimestampFormat) (media : Bool) (k : Sh
   pub range : is_scalar_in_range x ≡ true
   pub kind : scalar_kind x ≡ Some k
   pub text : scalar_wire format media Header x ≡ Some t
+
+-- a scalar of a kind that one form has
+pub text_scalar : (x : Scalar) → scalar_kind x ≡ Some kind.String → (t : List ℕ) × (x ≡ value.text t)
+text_scalar x k = let v = text_form (value.scalar x) (ap (λ (o : Option ShapeType). unwrap_or (option_map (kind_takes kind.String) o) false) k) in (v.0, cc v.1)
+
+blob_scalar : (x : Scalar) → scalar_kind x ≡ Some kind.Blob → (b : List ℕ) × (x ≡ value.blob b)
+blob_scalar x k = let v = blob_form (value.scalar x) (ap (λ (o : Option ShapeType). unwrap_or (option_map (kind_takes kind.Blob) o) false) k) in (v.0, cc v.1)
 
 -- the text spells the scalar
 pub spelled : (format : Option TimestampFormat) (media : Bool) (k : ShapeType) (x : Scalar) (t : List ℕ) → IsHeaderText format media k x t → spelled_wire format media Header k t ≡ Some x
@@ -86,12 +60,11 @@ bare_big_decimal : (t : List ℕ) (x : Scalar) → only_if (is_big_decimal_in_ra
 bare_big_decimal t x e = bare_decimal t (and_parts (is_big_decimal t) (has_narrow_coefficient t) (kept (is_big_decimal_in_range t) (value.big_decimal t) x e).0).0
 
 bare_blob : (format : Option TimestampFormat) (media : Bool) (x : Scalar) (t : List ℕ) → scalar_kind x ≡ Some kind.Blob → scalar_wire format media Header x ≡ Some t → are_bare t ≡ true
-bare_blob format media (value.blob bytes) t is e = let same : base64 bytes ≡ t = cc e in ap are_bare (sym same) ∙ bare_base64 bytes
-bare_blob format media (value.whole byte z) t is e = absurd (cc is)
-bare_blob format media (value.whole short z) t is e = absurd (cc is)
-bare_blob format media (value.whole integer z) t is e = absurd (cc is)
-bare_blob format media (value.whole long z) t is e = absurd (cc is)
-bare_blob format media _ t is e = absurd (cc is)
+bare_blob format media x t is e =
+    let b = blob_scalar x is in
+    let both : Some (base64 b.0) ≡ Some t = ap (scalar_wire format media Header) (sym b.1) ∙ e in
+    let same : base64 b.0 ≡ t = cc both in
+    ap are_bare (sym same) ∙ bare_base64 b.0
 
 -- The one token.
 
@@ -155,12 +128,11 @@ text_case m name t x (Some media) is text k range back some trimmed =
     ∙ media_read name t x (some_text false t refl some) (bare_media x k text) back
   where
     bare_media : (x : Scalar) → scalar_kind x ≡ Some kind.String → scalar_wire m.node.traits.timestamp_format true Header x ≡ Some t → are_bare t ≡ true
-    bare_media (value.text s) k e = let same : base64 s ≡ t = cc e in ap are_bare (sym same) ∙ bare_base64 s
-    bare_media (value.whole byte z) k e = absurd (cc k)
-    bare_media (value.whole short z) k e = absurd (cc k)
-    bare_media (value.whole integer z) k e = absurd (cc k)
-    bare_media (value.whole long z) k e = absurd (cc k)
-    bare_media _ k e = absurd (cc k)
+    bare_media x k e =
+        let s = text_scalar x k in
+        let both : Some (base64 s.0) ≡ Some t = ap (scalar_wire m.node.traits.timestamp_format true Header) (sym s.1) ∙ e in
+        let same : base64 s.0 ≡ t = cc both in
+        ap are_bare (sym same) ∙ bare_base64 s.0
 text_case m name t x None is text k range back some trimmed =
     ap (λ (o : Option (List ℕ)). cond (is_some o) (then_try (one_token kind.String name (t ∷ [])) decoded_text) (then_try (or_parse_refusal (one_text_of (t ∷ []))) (λ text. then_give (ok_or text (no_value kind.String name)) (λ u. value.text u)))) is
     ∙ plain_read m name t (utf8 x same range) (trimmed refl) ∙ ap Ok same

@@ -1,41 +1,15 @@
 -- The status of a response is read as the response code that was written.
-use Rattle.std.proofs.Common.{◌≡◌, refl, sym, ◌∙◌, ap, subst, ℕ, ◌≤◌, pos, negsuc, nat_le, Bool, true, false, not, cond, ◌&&◌, ◌||◌, ◌==◌, List, [], ◌∷◌, ◌++◌, length, filter, Option, Some, None, Ok, option_map, option_and_then, unwrap_or, is_some, eq-eqb}
-use Rattle.std.specs.List.{list_all}
-use Rattle.std.proofs.lemmas.Bool.{and_parts, eqb-true, leb-true}
-use Rattle.smithy_types.specs.Results.{unless}
+use Rattle.smithy_served.proofs.Common.{◌≡◌, refl, sym, ◌∙◌, ap, subst, ℕ, ◌≤◌, pos, negsuc, nat_le, Bool, true, false, not, cond, ◌&&◌, ◌||◌, ◌==◌, List, length, filter, Option, Some, None, Ok, option_map, option_and_then, unwrap_or, is_some, eq-eqb, list_all, and_parts, eqb-true, leb-true, unless, same_kind, one_kind, Schema, binding_at, binding_of, Binding, to_label, member_at, members_of, Held, read_scalar, value_read, value_within, value_by_kind, Value, Write, Resolved, all_resolved, is_of, first, has_at_most_one, members_with, IsCheckedOutput, has_code_kind, is_placed_at, as_output, Protocol, status_value, status_fault, no_status, is_label, code_write, written_code, code_kinds, member-passes, resolved_at, all_apply, any_get, find_same, single, handed_out, first_value, IsTypedOutput, has_code, IsSoundMessage, members_by_position}
 use Rattle.smithy_ids.specs.declared.shape_type.ShapeType.TheVariants as kind
-use Rattle.smithy_ids.specs.Kinds.{same_kind}
-use Rattle.smithy_ids.proofs.KindLemmas.{one_kind}
-use Rattle.smithy_schema.specs.Nodes.{Schema, binding_at, binding_of, Binding, to_label, member_at, members_of}
 use Rattle.smithy_serde.specs.Held as held
-use Rattle.smithy_serde.specs.Held.{Held}
-use Rattle.smithy_serde.specs.HeldReads.{read_scalar}
-use Rattle.smithy_serde.specs.ValueRead.{value_read, value_within, value_by_kind}
 use Rattle.smithy_serde.specs.Values as value
-use Rattle.smithy_serde.specs.Values.{Value, Write}
-use Rattle.smithy_serde.specs.Writes.{Resolved, all_resolved, is_of, first}
-use Rattle.smithy_binding.specs.Checked.{has_at_most_one, members_with}
-use Rattle.smithy_binding.specs.CheckedOutput.{IsCheckedOutput, has_code_kind}
-use Rattle.smithy_binding.specs.Faults.{is_placed_at}
-use Rattle.smithy_binding.specs.Outputs.{as_output}
-use Rattle.smithy_binding.specs.Placing.{Protocol}
-use Rattle.smithy_binding.specs.ResponseCodes.{status_value, status_fault, no_status, is_label, code_write, written_code}
-use Rattle.smithy_binding.proofs.CheckedOutputLaws.{code_kinds}
-use Rattle.smithy_binding.proofs.WriteSteps.{member-passes}
 use Rattle.smithy_unambiguity.proofs.Common.{both_ways}
-use Rattle.smithy_unambiguity.proofs.Conforming.{resolved_at}
-use Rattle.smithy_unambiguity.proofs.Lists.{all_apply, any_get}
-use Rattle.smithy_unambiguity.proofs.Singles.{find_same, single}
 use Rattle.smithy_unambiguity.proofs.Traits.{trait_of}
-use Rattle.smithy_response.specs.Routes.{handed_out}
-use Rattle.smithy_served.specs.AnswerView.{first_value}
-use Rattle.smithy_served.specs.TypedOutputs.{IsTypedOutput, has_code}
 use Rattle.smithy_served.proofs.Alike.{first_value-out, member_at-out}
 use Rattle.smithy_served.proofs.Messages.{count_out, sound_output}
 use Rattle.smithy_served.proofs.Conforming.{unfaulted_out}
 use Rattle.smithy_served.proofs.Headers.{same_self}
 use Rattle.smithy_served.proofs.MemberHanded.{HandsSame}
-use Rattle.smithy_unambiguity.proofs.Positions.{IsSoundMessage, members_by_position}
 
 -- The response code is the member's first write.
 

@@ -1,8 +1,11 @@
 pub mod BlankLemmas
+pub mod CanonicalReads
 pub mod Common
+pub mod FinishedTexts
 pub mod JsonInLemmas
 pub mod LawfulTexts
 pub mod MemberLemmas
+pub mod MisfitWalks
 pub mod NameLaws
 pub mod NumberLaws
 pub mod OnLiterals

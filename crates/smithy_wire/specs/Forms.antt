@@ -82,19 +82,23 @@ abbrev pub name_in : Bool → Form → List ℕ → List ℕ
 name_in true (fields side s) name = swapped side s name
 name_in _ _ name = name
 
--- the word of a form's kind in messages
+-- the kind of values that a form asks for, if it asks for one
+abbrev pub form_kind : Form → Option ShapeType
+form_kind free = None
+form_kind (fields side s) = Some s.node.kind
+form_kind (items element) = Some kind.List
+form_kind (entries value) = Some kind.Map
+form_kind date_time = Some kind.Timestamp
+form_kind http_date = Some kind.Timestamp
+form_kind big_integer = Some kind.BigInteger
+form_kind big_decimal = Some kind.BigDecimal
+form_kind (whole k) = Some k
+form_kind document = Some kind.Document
+form_kind (other k) = Some k
+
+-- its word in messages
 abbrev pub form_word : Form → List ℕ
-form_word free = codes "value"
-form_word (fields side s) = kind_word s.node.kind
-form_word (items element) = kind_word kind.List
-form_word (entries value) = kind_word kind.Map
-form_word date_time = kind_word kind.Timestamp
-form_word http_date = kind_word kind.Timestamp
-form_word big_integer = kind_word kind.BigInteger
-form_word big_decimal = kind_word kind.BigDecimal
-form_word (whole k) = kind_word k
-form_word document = kind_word kind.Document
-form_word (other k) = kind_word k
+form_word f = option_map_or kind_word (form_kind f) (codes "value")
 
 -- ---- roots
 

@@ -2,6 +2,7 @@ pub mod Words
 pub mod ExactNumbers
 pub mod Forms
 pub mod Laws
+pub mod Misfits
 pub mod Standing
 pub mod Unwire
 pub mod Wire

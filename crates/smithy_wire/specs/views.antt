@@ -1,7 +1,9 @@
 pub mod FormView
 pub mod JsonTaken
 pub mod MemberSteps
+pub mod MisfitView
 pub mod ShownNames
 pub mod WireOf
 pub mod WireReads
+pub mod WireSeen
 pub mod WireWrites

@@ -1,7 +1,7 @@
 // What a place of a body is read and written as, by its node.
 ghost use Rattle.std.specs.Prelude.{◌≡◌, option_map};
 ghost use Rattle.smithy_wire.specs.Words.{schema_of, shape, time_format};
-ghost use Rattle.smithy_wire.specs.Forms.{body_form, either_format, element_form, form_by, form_of, form_or_free, form_word, is_coded, is_coded_payload, name_in, part_form, time_form};
+ghost use Rattle.smithy_wire.specs.Forms.{body_form, either_format, element_form, form_by, form_kind, form_of, form_or_free, form_word, is_coded, is_coded_payload, name_in, part_form, time_form};
 ghost use Rattle.smithy_wire.specs.views.FormView.{form_view};
 ghost use Rattle.smithy_wire.specs.views.MemberSteps.{payload_from, coded_payload_in};
 
@@ -27,8 +27,8 @@ pub(crate) enum Form<'t> {
     Other(ShapeType),
 }
 
-// The target's node where there is one, else the node itself.
-fn shape<'t>(schema: SchemaRef<'t>) -> SchemaRef<'t>
+/// The target's node where there is one, else the node itself.
+pub(crate) fn shape<'t>(schema: SchemaRef<'t>) -> SchemaRef<'t>
     ensures { schema_of result ≡ shape (schema_of schema.entry) }
 {
     match schema.target() {
@@ -111,6 +111,25 @@ impl<'t> Form<'t> {
         form_by(shape(schema).shape_type(), None, schema)
     }
 
+    /// The kind of values that it asks for, if it asks for one.
+    pub(crate) fn kind(self) -> Option<ShapeType>
+        ensures { result ≡ form_kind (form_view self.entry) }
+    {
+        match self {
+            Form::Free => None,
+            Form::Fields(_, schema) => Some(schema.shape_type()),
+            Form::Items(_) => Some(ShapeType::List),
+            Form::Entries(_) => Some(ShapeType::Map),
+            Form::DateTime => Some(ShapeType::Timestamp),
+            Form::HttpDate => Some(ShapeType::Timestamp),
+            Form::BigInteger => Some(ShapeType::BigInteger),
+            Form::BigDecimal => Some(ShapeType::BigDecimal),
+            Form::Whole(kind) => Some(kind),
+            Form::Document => Some(ShapeType::Document),
+            Form::Other(kind) => Some(kind),
+        }
+    }
+
     /// The form of an array's items.
     pub(crate) fn element(self) -> Form<'t>
         ensures { form_view result ≡ element_form (form_view self.entry) }
@@ -176,18 +195,9 @@ pub(crate) fn name_in<'a>(json_names: bool, form: Form<'a>, name: &'a str) -> &'
 pub(crate) fn form_word(form: Form<'_>) -> &'static str
     ensures { result.now ≡ form_word (form_view form.entry) }
 {
-    match form {
-        Form::Free => "value",
-        Form::Fields(_, schema) => kind_word(schema.shape_type()),
-        Form::Items(_) => kind_word(ShapeType::List),
-        Form::Entries(_) => kind_word(ShapeType::Map),
-        Form::DateTime => kind_word(ShapeType::Timestamp),
-        Form::HttpDate => kind_word(ShapeType::Timestamp),
-        Form::BigInteger => kind_word(ShapeType::BigInteger),
-        Form::BigDecimal => kind_word(ShapeType::BigDecimal),
-        Form::Whole(kind) => kind_word(kind),
-        Form::Document => kind_word(ShapeType::Document),
-        Form::Other(kind) => kind_word(kind),
+    match form.kind() {
+        Some(kind) => kind_word(kind),
+        None => "value",
     }
 }
 

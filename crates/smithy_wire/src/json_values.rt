@@ -13,9 +13,9 @@ use std::alloc::Global;
 // So deep arrays and objects may nest.
 const MAX_DEPTH: usize = 127;
 
-/// The JSON value of bytes, over them and the room for what they write in escapes. Unreadable where they are no UTF-8 or no JSON
-/// (RFC 8259), or nest deeper than 127. Takes memory.
-pub(crate) fn json_in<'b>(
+/// The JSON value of bytes, over them and the room for what they write in escapes, with each number as its text. `Unreadable`
+/// exactly where they are no UTF-8 or no JSON (RFC 8259), or nest deeper than 127. Takes memory.
+pub fn json_in<'b>(
     alloc: Global,
     bytes: &'b [u8],
     scratch: &'b mut Scratch,

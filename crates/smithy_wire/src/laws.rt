@@ -1,8 +1,5 @@
 //! Laws of the JSON of AWS's protocols, each the contract of a function that does nothing.
-ghost use Rattle.smithy_wire.specs.views.WireOf.{IsLawfulWire};
 ghost use Rattle.smithy_wire.specs.Laws.{IsReadBack, IsTextLawful, UndoesItself, TextsDiffer};
-
-use crate::wire_json::WireJson;
 
 /// Where names stand, a name that is changed twice is the name again.
 pub fn swaps_undo_themselves()
@@ -26,9 +23,4 @@ pub fn texts_are_lawful()
 #[tactic(auto, using(crate::proofs::LawfulTexts::texts_differ))]
 pub fn texts_tell_apart()
     ensures { TextsDiffer }
-{}
-
-/// The JSON of a node keeps this of its text and what it reads.
-pub fn wire_json_is_lawful(_wire: &WireJson<'_>)
-    ensures { IsLawfulWire _wire.now }
 {}

@@ -1,15 +1,12 @@
 // What can't be read of a body, and where it stands.
-ghost use Rattle.std.specs.Prelude.{◌≡◌, [], IfOk};
-ghost use Rattle.smithy_serde.specs.Refusals.{IsRefusal};
-ghost use Rattle.smithy_wire.specs.Words.{InvalidInput};
+ghost use Rattle.std.specs.Prelude.{◌≡◌, ◌++◌, [], IfOk};
 ghost use Rattle.smithy_wire.specs.Unwire.{part_step, unread};
 ghost use Rattle.smithy_wire.specs.WireText.{at_path, unread_text, without_point};
 ghost use Rattle.smithy_wire.specs.views.FormView.{form_view};
-ghost use Rattle.smithy_wire.specs.views.WireReads.{step_view, IsOutward, ReadsWithin, TellsUnread};
+ghost use Rattle.smithy_wire.specs.views.WireReads.{step_view, IsOutward, ReadsWithin, TellsOutcome, TellsUnread};
 ghost use Rattle.smithy_wire.specs.declared.unread.Unread.{Unread as Place};
 
 use crate::forms::{Form, form_word};
-use smithy_serde::SerdeError;
 use smithy_types::{Document, OutOfMemory, Text};
 use std::alloc::{AllocFailed, Global};
 
@@ -105,18 +102,22 @@ fn step_text(alloc: Global, step: Step<'_>) -> Result<Text, OutOfMemory>
     }
 }
 
+/// A path from one step further out.
+pub(crate) fn behind(alloc: Global, step: Step<'_>, path: &Text) -> Result<Text, OutOfMemory>
+    ensures { IfOk result (λ t. t ≡ step_view step.entry ++ path.now) }
+{
+    let first = step_text(alloc, step)?;
+    let whole = format!(in alloc; "{}{}", first.as_str(), path.as_str())?;
+    Ok(Text::from_string(whole))
+}
+
 // One step further out.
 fn outward(alloc: Global, step: Step<'_>, inner: Unread) -> Result<Unread, OutOfMemory>
     ensures { IfOk result (IsOutward (step_view step.entry) inner) }
 {
     let Unread { text, word, path } = inner;
-    let first = step_text(alloc, step)?;
-    let whole = format!(in alloc; "{}{}", first.as_str(), path.as_str())?;
-    Ok(Unread {
-        text,
-        word,
-        path: Text::from_string(whole),
-    })
+    let path = behind(alloc, step, &path)?;
+    Ok(Unread { text, word, path })
 }
 
 /// What was read behind a step; what can't be read is told from one step further out. Takes memory for that alone.
@@ -137,8 +138,8 @@ pub(crate) fn within(
     }
 }
 
-// A path begins with no point.
-fn without_point(path: &str) -> &str
+/// A path begins with no point.
+pub(crate) fn without_point(path: &str) -> &str
     ensures { result.now ≡ without_point path.now }
 {
     match path.strip_prefix('.') {
@@ -166,12 +167,17 @@ fn message(alloc: Global, unread: &Unread) -> Result<Text, OutOfMemory>
     Ok(Text::from_string(format!(in alloc; "cannot read {text} as {word}{}", place.as_str())?))
 }
 
-/// The refusal of what can't be read: `InvalidInput` with the number or the text, the kind and the path. Takes memory.
-pub(crate) fn refusal(alloc: Global, unread: &Unread) -> SerdeError
-    ensures { IsRefusal (InvalidInput (unread_text unread.now)) result }
+/// What was read, or the text of the refusal of what can't be: the number or the text, the kind and the path. Takes memory for
+/// that text alone.
+pub(crate) fn told(
+    alloc: Global,
+    tried: Result<Document, ReadError>,
+) -> Result<Result<Document, Text>, OutOfMemory>
+    ensures { IfOk result (TellsOutcome tried) }
 {
-    match message(alloc, unread) {
-        Ok(message) => SerdeError::InvalidInput { message },
-        Err(_) => SerdeError::OutOfMemory,
+    match tried {
+        Ok(document) => Ok(Ok(document)),
+        Err(ReadError::Unread(unread)) => Ok(Err(message(alloc, &unread)?)),
+        Err(ReadError::OutOfMemory) => Err(OutOfMemory),
     }
 }

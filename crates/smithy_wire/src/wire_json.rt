@@ -6,13 +6,13 @@ use crate::forms::{Form, body_form};
 use crate::json_values::json_in;
 use crate::reading::document_of;
 use crate::side::Side;
-use crate::unread::{ReadError, refusal};
+use crate::unread::told;
 use crate::writing::wire_blob;
-use json::{Scratch, Value};
+use json::Scratch;
 use smithy_json::JsonError;
 use smithy_schema::SchemaRef;
 use smithy_serde::SerdeError;
-use smithy_types::{Blob, Document, Members, OutOfMemory};
+use smithy_types::{Blob, Document, Members, OutOfMemory, Text};
 use std::alloc::Global;
 
 /// JSON as AWS's protocols write and read it by a node of a table: JSON names, times as texts, big numbers as numbers.
@@ -24,14 +24,13 @@ pub struct WireJson<'t> {
 }
 
 impl<'t> WireJson<'t> {
-    ghost use Rattle.std.specs.Prelude.{◌≡◌, IfOk, IsTrue, Some};
-    ghost use Rattle.json.specs.Value.{value_view};
+    ghost use Rattle.std.specs.Prelude.{◌≡◌, IfOk, IsTrue};
     ghost use Rattle.smithy_types.specs.DocumentView.{view};
     ghost use Rattle.smithy_wire.specs.Forms as forms;
     ghost use Rattle.smithy_wire.specs.WireNames.{stands};
-    ghost use Rattle.smithy_wire.specs.WireText.{held_in, json_in, wire_text, wire_held};
+    ghost use Rattle.smithy_wire.specs.WireText.{wire_text, wire_held};
     ghost use Rattle.smithy_wire.specs.Words.{schema_of};
-    ghost use Rattle.smithy_wire.specs.views.WireOf.{form_in, names_in, held_by, GivesHeld};
+    ghost use Rattle.smithy_wire.specs.views.WireOf.{form_in, names_in, GivesHeld, IsHeld, IsHeldIn};
 
     /// The JSON of a request's body by the schema of an input, with JSON names where they are to be applied. Condition: then
     /// names stand, which `names_stand` tests. Takes no memory.
@@ -87,37 +86,44 @@ impl<'t> WireJson<'t> {
     pub fn document(&self, alloc: Global, body: &[u8]) -> Result<Document, SerdeError>
         ensures { GivesHeld (wire_held (names_in self.now) (form_in self.now) body.now) result }
     {
+        match self.read(alloc, body)? {
+            Ok(document) => Ok(document),
+            Err(message) => Err(SerdeError::InvalidInput { message }),
+        }
+    }
+
+    /// The same, with the text of the refusal.
+    pub(crate) fn read(
+        &self,
+        alloc: Global,
+        body: &[u8],
+    ) -> Result<Result<Document, Text>, OutOfMemory>
+        ensures { IfOk result (IsHeld self.now body.now) }
+    {
         if body.is_empty() {
-            return Ok(Document::Object(Members::new(alloc)));
+            return Ok(Ok(Document::Object(Members::new(alloc))));
         }
         let mut scratch = Scratch::new(alloc);
-        self.document_in(alloc, body, &mut scratch)
+        self.read_some(alloc, body, &mut scratch)
     }
 
     // The same of a body that isn't empty. It is no part of its caller, so that the scratch is not moved.
     #[inline(never)]
-    fn document_in(
+    fn read_some(
         &self,
         alloc: Global,
         body: &[u8],
         scratch: &mut Scratch,
-    ) -> Result<Document, SerdeError>
-        ensures { GivesHeld (Some (held_in (names_in self.now) (form_in self.now) (json_in body.now))) result }
+    ) -> Result<Result<Document, Text>, OutOfMemory>
+        ensures { IfOk result (IsHeldIn self.now body.now) }
     {
         match json_in(alloc, body, scratch) {
-            Ok(value) => self.document_of(alloc, &value),
-            Err(JsonError::OutOfMemory) => Err(SerdeError::OutOfMemory),
-            Err(JsonError::Unreadable) => Err(SerdeError::invalid_input(alloc, "body is not JSON")),
-        }
-    }
-
-    fn document_of(&self, alloc: Global, value: &Value<'_>) -> Result<Document, SerdeError>
-        ensures { GivesHeld (held_by self.now (value_view value.now)) result }
-    {
-        match document_of(alloc, self.json_names, self.form, value) {
-            Ok(document) => Ok(document),
-            Err(ReadError::Unread(unread)) => Err(refusal(alloc, &unread)),
-            Err(ReadError::OutOfMemory) => Err(SerdeError::OutOfMemory),
+            Ok(value) => told(
+                alloc,
+                document_of(alloc, self.json_names, self.form, &value),
+            ),
+            Err(JsonError::OutOfMemory) => Err(OutOfMemory),
+            Err(JsonError::Unreadable) => Ok(Err(Text::from_str(alloc, "body is not JSON")?)),
         }
     }
 }

@@ -50,8 +50,12 @@ fn write_quoted(alloc: Global, writer: &mut Writer, number: Number) -> Result<()
     write_token(writer, Token::String(text.as_str()))
 }
 
-// The text of seconds in a calendar's format, where the year is 1 to 9999.
-fn seconds_text(alloc: Global, format: Format, seconds: i64) -> Result<Option<Text>, OutOfMemory>
+/// The text of seconds in a calendar's format, where the year is 1 to 9999.
+pub(crate) fn seconds_text(
+    alloc: Global,
+    format: Format,
+    seconds: i64,
+) -> Result<Option<Text>, OutOfMemory>
     requires { format ≢ EpochSeconds }
     ensures { IfOk result (λ o. o ≡ time_in format seconds) }
 {

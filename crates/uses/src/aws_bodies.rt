@@ -1,14 +1,20 @@
 // Bodies as AWS's protocols have them.
-ghost use Rattle.std.specs.Prelude.{IfOk, IfSome};
+ghost use Rattle.std.specs.Prelude.{◌≡◌, false, IfOk, IfSome, IsErr};
 ghost use Rattle.smithy_schema.specs.References.{schema_of};
-ghost use Rattle.uses.specs.AwsBodies.{ComesFromBody, IsAwsBody};
+ghost use Rattle.smithy_serde.specs.StructValues.{members_of};
+ghost use Rattle.smithy_binding.specs.Checked.{checked_input as checked};
+ghost use Rattle.smithy_wire.specs.WireNames.{stands};
+ghost use Rattle.uses.specs.AwsBodies.{AwsAnswers, ComesFromBody, IsAwsBody};
 
 use crate::documents::structure_in;
+use crate::requests::unplaced;
+use smithy_binding::{HttpBindingProtocol, checked_input};
 use smithy_document::DiscriminatedDocumentExt;
+use smithy_http::Request;
 use smithy_schema::SchemaRef;
-use smithy_serde::{SerdeError, SerializableStruct, StructValue, ValueReader};
+use smithy_serde::{OmitFlags, SerdeError, SerializableStruct, StructValue, ValueReader};
 use smithy_types::{Blob, DiscriminatedDocument, NoSettings};
-use smithy_wire::{WireJson, names_stand};
+use smithy_wire::{WireJson, names_stand, wire_json_is_lawful};
 use std::alloc::Global;
 
 /// The JSON body of an input as restJson1 has it, with its names in JSON; None where a name of the schema's table is that of two
@@ -26,6 +32,27 @@ pub fn aws_body(
     let told = DiscriminatedDocument::<NoSettings>::from_struct(alloc, schema, input)?;
     let wire = WireJson::of_input(schema, true);
     Ok(Some(wire.text(alloc, told.document())?))
+}
+
+/// The request of an input as restJson1 has it: by its binding traits, its body with names in JSON, or the first fault. It is
+/// refused where no request can be placed by the schema, and where a name of its table is that of two members. Takes memory.
+pub fn aws_request(
+    alloc: Global,
+    schema: SchemaRef<'_>,
+    input: &StructValue<'_>,
+    endpoint: &str,
+    omit: OmitFlags,
+) -> Result<Request, SerdeError>
+    ensures answer { AwsAnswers (schema_of schema.entry) (members_of input.now) endpoint.now omit result }
+    ensures refused { checked (schema_of schema.entry) ≡ false → IsErr result }
+    ensures unnamed { stands (schema_of schema.entry) ≡ false → IsErr result }
+{
+    if !checked_input(alloc, schema)? || !names_stand(alloc, schema)? {
+        return Err(unplaced(alloc));
+    }
+    let protocol = HttpBindingProtocol::rest_json(WireJson::of_input(schema, true));
+    wire_json_is_lawful(protocol.codec());
+    protocol.serialize_request(alloc, input, schema, endpoint, omit)
 }
 
 /// The structure that a body is by the JSON of a node: of the body of writes that follow the reader's node, their normal form. It

@@ -17,7 +17,7 @@ mod serving;
 #[cfg(test)]
 mod tests;
 
-pub use aws_bodies::{aws_body, aws_structure};
+pub use aws_bodies::{aws_body, aws_request, aws_structure};
 pub use columns::two_requests;
 pub use documents::{structure_in, through_document};
 pub use errors::{error_place, error_registry};

@@ -1,4 +1,5 @@
 // Each use on its happy path. The texts are those of the worked examples and of the protocol's public description.
+mod aws_bodies;
 mod columns;
 mod responses;
 

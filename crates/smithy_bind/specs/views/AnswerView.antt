@@ -1,27 +1,23 @@
 -- The outcome that the code's answer tells.
-use Rattle.std.specs.Prelude.{◌≡◌, ℕ, Bool, true, List, Some, Result, Ok, Err}
+use Rattle.std.specs.Prelude.{◌≡◌, ℕ, List, Result, Ok, Err}
 use Rattle.smithy_types.specs.Documents.{Document}
 use Rattle.smithy_http.specs.Requests.{Request}
-use Rattle.smithy_http.specs.Responses.{Response}
-use Rattle.smithy_http.specs.declared.non_utf8.NonUtf8HeaderHandling.{NonUtf8HeaderHandling}
-use Rattle.smithy_schema.specs.Nodes.{Table, Schema, at_place}
+use Rattle.smithy_schema.specs.Nodes.{Schema}
 use Rattle.smithy_schema.specs.References.{schema_of}
 use Rattle.smithy_schema.specs.declared.schema_ref.SchemaRef.{SchemaRef}
 use Rattle.smithy_serde.specs.Values.{Writes, list_of}
+use Rattle.smithy_serde.specs.StructValues.{members_of}
+use Rattle.smithy_serde.specs.declared.struct_value.StructValue.{StructValue}
 use Rattle.smithy_serde.specs.declared.error.SerdeError.{SerdeError}
 use Rattle.smithy_serde.specs.declared.error.SerdeError.TheVariants as refusal
 use Rattle.smithy_serde.specs.declared.header_omit_settings.OmitFlags.{OmitFlags}
 use Rattle.smithy_binding.specs.Answer.{answer}
 use Rattle.smithy_binding.specs.Refusing.{Answers}
 use Rattle.smithy_binding.specs.Rpc.{rpc_answer}
-use Rattle.smithy_model.specs.Nodes.{Errors}
-use Rattle.smithy_job.specs.ReceivedView.{IsCoded}
 use Rattle.smithy_job.specs.Jobs.{Job}
-use Rattle.smithy_job.specs.declared.received.CodedError.{CodedError}
 use Rattle.smithy_model.specs.declared.error.JobError.{JobError}
 use Rattle.smithy_model.specs.declared.error.JobError.TheVariants.{NoJob, OutOfMemory}
 use Rattle.smithy_bind.specs.Outcome.{json_bodies, sent_by}
-use Rattle.smithy_bind.specs.Responding.{behind_name, error_of, read_by, read_found}
 use Rattle.smithy_bind.specs.Shown.{refusal_line}
 use Rattle.smithy_bind.specs.Told as outcome
 use Rattle.smithy_job.specs.declared.gateway.Sending.{Sending}
@@ -56,23 +52,10 @@ abbrev pub IsPlaced : (Document → List ℕ) → SchemaRef → Writes → List 
 IsPlaced text schema ws endpoint omit result =
     Answers result (answer (json_bodies text) (schema_of schema) (list_of ws) endpoint omit)
 
+-- the same of a structure that keeps its writes
+abbrev pub IsStructPlaced : (Document → List ℕ) → SchemaRef → StructValue → List ℕ → OmitFlags → Result Request SerdeError → Type 0
+IsStructPlaced text schema input endpoint omit result = IsPlaced text schema (members_of input) endpoint omit result
+
 -- a request that is posted whole, or the first fault of its input
 abbrev pub IsPosted : (Document → List ℕ) → Writes → List ℕ → OmitFlags → Result Request SerdeError → Type 0
 IsPosted text ws endpoint omit result = Answers result (rpc_answer (json_bodies text) ws endpoint omit)
-
--- it is what a response is read as by the schema at a place
-abbrev pub AnswersBy : Table → ℕ → (is_error : Bool) → Response → NonUtf8HeaderHandling → Result Answer JobError → Type 0
-AnswersBy table place is_error r policy result = (s : Schema) → at_place table place ≡ Some s → Gives (read_by s is_error r policy) result
-
--- the same behind the schema's name, as an error
-abbrev pub AnswersNamed : Table → ℕ → Response → NonUtf8HeaderHandling → Result Answer JobError → Type 0
-AnswersNamed table place r policy result =
-    (s : Schema) → at_place table place ≡ Some s → Gives (behind_name s.node.full_name (read_by s true r policy)) result
-
--- it is what a response is read as by the error of a code
-abbrev pub AnswersFound : List ℕ → Errors → Response → NonUtf8HeaderHandling → Result Answer JobError → Type 0
-AnswersFound code errors r policy result = Gives (read_found code (error_of code errors) r policy) result
-
--- the same, whatever the errors are that the code is looked for in
-abbrev pub AnswersCoded : Table → CodedError → Response → NonUtf8HeaderHandling → Result Answer JobError → Type 0
-AnswersCoded table error r policy result = (errors : Errors) → IsCoded table error errors → AnswersFound error.code.now errors r policy result

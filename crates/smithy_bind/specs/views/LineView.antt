@@ -1,5 +1,5 @@
 -- What came of one input, and the tokens of its line, as the code writes them.
-use Rattle.std.specs.Prelude.{◌≡◌, ℕ, codes, decimal, List, [], ◌∷◌, Option, Some, None, Result, OnOk}
+use Rattle.std.specs.Prelude.{◌≡◌, ℕ, codes, decimal, List, [], ◌∷◌, ◌++◌, Option, Some, None, Result, OnOk}
 use Rattle.json.specs.Token as token
 use Rattle.json.specs.Token.{Token}
 use Rattle.json.specs.Tree.{json_tokens, items_tokens}
@@ -41,6 +41,6 @@ pub record WritesRefusal {E : Type 0} (e : SerdeError) (old new : Written) (resu
 abbrev pub WritesAnswer : {E : Type 0} → Option (Result Request SerdeError) → Written → Written → Result (Unit {0}) E → Type 0
 WritesAnswer made old new result = (answer : Option (Result Request Fault)) → IsMade made answer → Prints (data_tokens (answer_value answer)) old new result
 
--- it is the line of what the code made of an input
-abbrev pub IsLineOf : Option (Result Request SerdeError) → List ℕ → Type 0
-IsLineOf made line = (answer : Option (Result Request Fault)) → IsMade made answer → line ≡ answer_line answer
+-- they are the lines, and behind them that of what the code made of an input
+abbrev pub EndsWithLine : Option (Result Request SerdeError) → List ℕ → List ℕ → Type 0
+EndsWithLine made lines more = (answer : Option (Result Request Fault)) → IsMade made answer → more ≡ lines ++ answer_line answer

@@ -47,6 +47,11 @@ answer_with text c ws = answer (json_bodies text) c.schema ws c.endpoint c.omit
 abbrev pub MakesInput : (Document → List ℕ) → ReadOperation → Table → Option WriteList → Option (Result Request SerdeError) → Type 0
 MakesInput text stored nodes writes made = (is : Common) → IsOperation stored is → IsMade made (option_map (answer_with text is) (writes_seen nodes writes))
 
+-- the lines, and behind them that of what comes of the writes of an input, over these nodes
+abbrev pub AddsLine : (Document → List ℕ) → ReadOperation → Table → Option WriteList → Vec ℕ Global → Vec ℕ Global → Type 0
+AddsLine text stored nodes writes lines more =
+    (is : Common) → IsOperation stored is → more.items ≡ lines.items ++ answer_line (option_map (answer_with text is) (writes_seen nodes writes))
+
 -- the lines of what comes of writes
 abbrev pub lines_with : (List Write → Result Request Fault) → List (Option (List Write)) → List ℕ
 lines_with f [] = []

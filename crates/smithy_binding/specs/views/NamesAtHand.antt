@@ -4,7 +4,9 @@ use Rattle.smithy_binding.specs.Words.{Schema, SchemaRef, schema_of, index_of, m
 use Rattle.smithy_binding.specs.HeaderNames.{HasNameAt, HaveNames}
 use Rattle.smithy_binding.specs.views.StoredTexts.{write_at}
 use Rattle.smithy_binding.specs.declared.direction.DirectedSchema.{DirectedSchema}
+use Rattle.smithy_binding.specs.declared.marks.Marks.{Marks}
 use Rattle.smithy_binding.specs.views.Directed.{directed_of}
+use Rattle.smithy_binding.specs.views.Marks.{marks_of}
 
 -- the node's place has its name, where it stands in a header
 abbrev pub HasOwnName : (ℕ → Type 0) → SchemaRef → Type 0
@@ -13,6 +15,10 @@ HasOwnName holds m = (place : ℕ) (name : List ℕ) → index_of m ≡ Some pla
 -- each of these members, by position, has its name
 abbrev pub SeenHaveNames : (ℕ → Type 0) → Schema → List Bool → Type 0
 SeenHaveNames holds schema seen = (position : ℕ) → slice_index_or seen position false ≡ true → HasNameAt holds schema position
+
+-- so it is for each position that is marked
+abbrev pub MarkedHaveNames : (ℕ → Type 0) → DirectedSchema → Marks → Type 0
+MarkedHaveNames holds schema seen = SeenHaveNames holds (directed_of schema) (marks_of seen)
 
 -- each member that stored writes are for has its name
 abbrev pub WritesHaveNames : (ℕ → Type 0) → DirectedSchema → Table → WriteList → Type 0

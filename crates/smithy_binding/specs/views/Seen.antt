@@ -9,6 +9,7 @@ use Rattle.smithy_binding.specs.Bodies.{body_parts}
 use Rattle.smithy_binding.specs.Faults.{Fault}
 use Rattle.smithy_binding.specs.views.Directed.{directed_of, status_fault_in}
 use Rattle.smithy_binding.specs.views.Gather.{Gathered, add_or_fault, gather_one, gather, nothing_yet}
+use Rattle.smithy_binding.specs.views.Marks.{marks_of}
 use Rattle.smithy_binding.specs.views.KeptWrites.{kept_in, KeepsAll}
 use Rattle.smithy_binding.specs.views.Placed.{placed_first, first_fault, write_of}
 use Rattle.smithy_binding.specs.Refusing.{TellsFault, IsTold, Reports}
@@ -19,7 +20,7 @@ abbrev pub label_pair : Label → List ℕ × List ℕ
 label_pair l = (l.name.now, cow_str_bytes l.text)
 
 abbrev pub gathered_of : MessageParts → Gathered
-gathered_of p = record { seen = p.seen.items; headers = p.headers; query = string_bytes p.query; labels = map label_pair p.labels.items }
+gathered_of p = record { seen = marks_of p.seen; headers = p.headers; query = string_bytes p.query; labels = map label_pair p.labels.items }
 
 -- What the first write of a member puts into the parts of a message: it has no fault, is put where its binding says, and
 -- leaves the body as it was; or its fault is told.

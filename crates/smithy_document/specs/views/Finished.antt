@@ -1,6 +1,6 @@
 -- What a document serializer finishes with.
 use Rattle.std.specs.Prelude.{◌≡◌, ℕ, codes, List, Option, Some, None, Result, Ok}
-use Rattle.smithy_document.specs.Words.{Discriminated, SerdeError, Custom, Label, structure, Writes, no_writes, write, State, TellsOne, document_of, IsRefusal}
+use Rattle.smithy_document.specs.Words.{Discriminated, Document, SerdeError, Custom, Label, structure, Writes, no_writes, write, State, TellsOne, document_of, IsRefusal}
 use Rattle.smithy_types.specs.declared.settings.NoSettings.{NoSettings}
 use Rattle.smithy_document.specs.declared.serializer.DocumentShapeSerializer.{DocumentShapeSerializer}
 use Rattle.smithy_document.specs.Building.{discriminator_of, Whole}
@@ -33,6 +33,16 @@ IsFinishRefused r e = (s : State) → StandsFor r s → IsFinishRefusal (kept_re
 -- it has this value, or none
 abbrev pub HasWhole : DocumentShapeSerializer → Option Whole → Type 0
 HasWhole r w = (s : State) → StandsFor r s → IsWholeOf s.current w
+
+-- the document of the one value that was told, or none; never two
+abbrev pub IsOneDocument : Writes → Option Document → Type 0
+IsOneDocument no_writes d = d ≡ None
+IsOneDocument (write l v no_writes) d = (x : Document) × (document_of v ≡ Ok x) × (d ≡ Some x)
+IsOneDocument (write l v (write m u ws)) d = ⊥
+
+-- it has this document, or none
+abbrev pub HasOneDocument : DocumentShapeSerializer → Option Document → Type 0
+HasOneDocument r d = (s : State) → StandsFor r s → IsOneDocument s.current d
 
 -- a structure is written
 abbrev pub TellsStructure : {U : Type 0} → Label → Writes → DocumentShapeSerializer → DocumentShapeSerializer → Result U SerdeError → Type 0

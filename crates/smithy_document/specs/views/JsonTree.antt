@@ -1,5 +1,5 @@
 -- The document that a tree of JSON is.
-use Rattle.std.specs.Prelude.{◌≡◌, ℕ, List, [], ◌∷◌, ◌++◌, map, slice_get, Option, Some, None, option_map, Bool, true}
+use Rattle.std.specs.Prelude.{◌≡◌, ℕ, List, [], ◌∷◌, ◌++◌, map, slice_get, Option, Some, None, option_map, Bool, true, Result, Ok, Err}
 use Rattle.smithy_document.specs.Words.{Bor, option_map_or, unwrap_or, Document, number_view}
 use Rattle.smithy_types.specs.Documents as doc
 use Rattle.smithy_document.specs.InOrder.{is_read}
@@ -42,6 +42,11 @@ tree_view t = node_view t.texts t.root
 abbrev pub is_tree_read : Option JsonTree → Bool
 is_tree_read None = true
 is_tree_read (Some t) = is_read (tree_view t)
+
+-- the same of a tree, or of the text of the refusal that each read answers
+abbrev pub is_body_read : Result JsonTree (List ℕ) → Bool
+is_body_read (Ok t) = is_read (tree_view t)
+is_body_read (Err text) = true
 
 -- one of the tree's values
 abbrev pub node_in : JsonTree → Node → Document

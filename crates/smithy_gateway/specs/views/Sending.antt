@@ -1,32 +1,28 @@
 -- What the parts of the gateway answer.
-use Rattle.std.specs.Prelude.{◌≡◌, ℕ, Bool, false, ◌&&◌, List, [], Some, Result, IsTrue}
-use Rattle.std.specs.Option.{option_map_or}
+use Rattle.std.specs.Prelude.{◌≡◌, ℕ, List, Some, Result, IsTrue}
 use Rattle.std.specs.Result.{result_ok}
-use Rattle.smithy_types.specs.Texts.{same_text}
 use Rattle.smithy_http.specs.Requests.{Request}
 use Rattle.smithy_schema.specs.Nodes.{Table, at_place}
 use Rattle.smithy_schema.specs.References.{schema_of}
 use Rattle.smithy_schema.specs.WellMade.{is_well_made}
-use Rattle.smithy_serde.specs.Lawful.{max_nesting}
 use Rattle.smithy_serde.specs.StoredValues.{HasNode}
 use Rattle.smithy_serde.specs.StructValues.{members_of}
-use Rattle.smithy_serde.specs.Values.{structure, Writes, list_of}
+use Rattle.smithy_serde.specs.Values.{list_of}
 use Rattle.smithy_serde.specs.declared.struct_value.StructValue.{StructValue}
+use Rattle.smithy_binding.specs.Answer.{place}
 use Rattle.smithy_binding.specs.Checked.{checked_input}
-use Rattle.smithy_binding.specs.Placing.{Protocol, OmitFlags}
+use Rattle.smithy_binding.specs.Placing.{OmitFlags}
 use Rattle.smithy_binding.specs.Protocols.{Parts, protocol_of}
 use Rattle.smithy_binding.specs.Rpc.{rpc_answer}
 use Rattle.smithy_recovery.specs.Finding.{Finds}
 use Rattle.smithy_recovery.specs.Recovered.{Reading, reading_by}
-use Rattle.smithy_recovery.specs.views.Stages.{Tells}
-use Rattle.smithy_recovery.specs.Shallow.{is_shallow_at}
 use Rattle.smithy_recovery.specs.views.Keeping.{KeepsMembers}
 use Rattle.smithy_recovery.specs.BodyParts.{held_writes}
 use Rattle.smithy_schema.specs.declared.schema_ref.SchemaRef.{SchemaRef}
 use Rattle.smithy_serde.specs.declared.value.WriteList.{WriteList}
 use Rattle.smithy_recovery.specs.declared.error.RecoverError.{RecoverError}
 use Rattle.smithy_gateway.specs.Calls.{Texts, Holds, calling_by}
-use Rattle.smithy_gateway.specs.Gateway.{called}
+use Rattle.smithy_gateway.specs.Gateway.{posted_form, called}
 use Rattle.smithy_gateway.specs.declared.setting.Setting.{Setting}
 
 -- the node stands at its place, and requests can be placed by it
@@ -44,25 +40,21 @@ reading_at text holds p at = reading_by text holds p (schema_of at.node) at.endp
 abbrev pub KeepsCall : {D : Type 0} → Holds D → Parts D → Table → SchemaRef → Request → Result WriteList RecoverError → Type 0
 KeepsCall holds rpc t schema q result = KeepsMembers t (holds rpc.codec q.body) (held_writes (schema_of schema)) result
 
+-- an outcome of code is the request of an input, if it has one
+abbrev pub Places : {C : Type 0} → Texts C → Parts C → SchemaRef → StructValue → List ℕ → OmitFlags → Result Request RecoverError → Type 0
+Places text p schema v endpoint omit result =
+    Finds (λ x. x) result (place (protocol_of text p) (schema_of schema) (list_of (members_of v)) endpoint omit)
+
 -- an outcome of code is the request that posts an input whole, if it has one
 abbrev pub Posts : {D : Type 0} → Texts D → Parts D → StructValue → List ℕ → OmitFlags → Result Request RecoverError → Type 0
 Posts text rpc v endpoint omit result = Finds (λ x. x) result (result_ok (rpc_answer (protocol_of text rpc) (members_of v) endpoint omit))
-
--- the flags that leave no header out
-abbrev pub keep_all : OmitFlags
-keep_all = record { content_type = false; content_length = false }
-
--- posted whole, the writes have this body, and are nested at most 100 deep
-abbrev pub posts_writes : Protocol → Writes → Request → Bool
-posts_writes protocol ws q =
-    is_shallow_at max_nesting (structure ws)
-    && option_map_or (λ p. same_text p.body q.body) (result_ok (rpc_answer protocol ws [] keep_all)) false
-
--- a test of code says whether a request has the body of an input, posted whole
-abbrev pub TellsPosted : {D : Type 0} → Texts D → Parts D → StructValue → Request → Result Bool RecoverError → Type 0
-TellsPosted text rpc v q result = Tells (posts_writes (protocol_of text rpc) (members_of v) q) result
 
 -- an outcome of code is the input that a request posts, none where it is refused, and want of memory is free
 abbrev pub FindsCall : {C D : Type 0} → Texts C → Holds C → Texts D → Holds D → Parts C → Parts D → Setting → Request → Result StructValue RecoverError → Type 0
 FindsCall text holds call_text call_holds p rpc at q result =
     Finds (λ v. list_of (members_of v)) result (called (reading_at text holds p at) at.omit (calling_by call_text call_holds rpc) q)
+
+-- an outcome of code is the normal form of what was read, where the request posts just that
+abbrev pub FindsForm : {C D : Type 0} → Texts C → Holds C → Texts D → Holds D → Parts C → Parts D → Setting → StructValue → Request → Result StructValue RecoverError → Type 0
+FindsForm text holds call_text call_holds p rpc at read q result =
+    Finds (λ v. list_of (members_of v)) result (posted_form (reading_at text holds p at) at.omit (calling_by call_text call_holds rpc) q (list_of (members_of read)))

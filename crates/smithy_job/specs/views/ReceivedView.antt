@@ -8,6 +8,7 @@ use Rattle.smithy_job.specs.declared.received.CodedError.{CodedError}
 use Rattle.smithy_job.specs.declared.received.Expected.{Expected}
 use Rattle.smithy_job.specs.declared.received.Expected.TheVariants.{Output, Error, Coded}
 use Rattle.smithy_job.specs.declared.received.ExpectedIn.{ExpectedIn}
+use Rattle.smithy_job.specs.declared.received.Message.{Message}
 use Rattle.smithy_job.specs.declared.received.Received.{Received}
 
 pub record IsCoded (table : Table) (stored : CodedError) (errors : Errors) : Type 0 where
@@ -20,6 +21,9 @@ IsExpected table (Output index) (jobs.output schema) = at_place table index.0 �
 IsExpected table (Error index) (jobs.error schema) = at_place table index.0 ≡ Some schema
 IsExpected table (Coded stored) (jobs.coded code errors) = (stored.code.now ≡ code) × IsCoded table stored errors
 IsExpected table _ _ = ⊥
+
+abbrev pub message_seen : Message → jobs.Message
+message_seen m = record { response = m.response; policy = m.policy }
 
 abbrev pub IsExpectedIn : ExpectedIn → jobs.Expected → Type 0
 IsExpectedIn stored is = IsExpected stored.table stored.expected is

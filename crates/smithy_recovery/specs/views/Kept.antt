@@ -1,5 +1,5 @@
 -- What buffers of texts stand for, and one step of the reading of a path.
-use Rattle.std.specs.Prelude.{◌≡◌, ℕ, Bool, List, map, length, drop, Option, Vec, option_map, option_and_then}
+use Rattle.std.specs.Prelude.{◌≡◌, ℕ, Bool, List, map, length, drop, Option, Some, None, Vec, option_map, option_and_then}
 use Rattle.std.specs.Borrow.{Bor}
 use Rattle.std.specs.BTreeMap.{BTreeMap, get_by}
 use Rattle.std.specs.Cmp.Lexicographic.{slice_cmp}
@@ -10,6 +10,7 @@ use Rattle.smithy_strings.specs.Escapes.{decoded}
 use Rattle.smithy_schema.specs.declared.first_hole.CutHole.{CutHole}
 use Rattle.smithy_binding.specs.views.CutTemplate.{behind_holes, literal_alone}
 use Rattle.smithy_recovery.specs.declared.path_texts.LabelText.{LabelText}
+use Rattle.smithy_recovery.specs.declared.path_texts.LabelTexts.{LabelTexts}
 use Rattle.smithy_recovery.specs.PathParts.{behind_front, part_by, path_texts}
 
 -- a label with its text
@@ -23,12 +24,25 @@ labels_seen labels = map label_seen labels.items
 abbrev pub texts_cut : List CutHole → (last path : List ℕ) → Option (List (List ℕ × List ℕ))
 texts_cut holes last path = path_texts (behind_holes holes (literal_alone last)) path
 
+-- the text that a map has under a name
+unfoldable pub text_in_map : BTreeMap (Bor (List ℕ)) (Bor (List ℕ)) → List ℕ → Option (List ℕ)
+text_in_map texts name = option_map (λ t. t.now) (get_by (λ k. slice_cmp nat_cmp name k.now) texts)
+
+-- the text of the first of these labels, by a map of them where there is one
+abbrev pub found_by : Option (BTreeMap (Bor (List ℕ)) (Bor (List ℕ))) → List LabelText → List ℕ → Option (List ℕ)
+found_by (Some texts) labels name = text_in_map texts name
+found_by None labels name = found name (map label_seen labels)
+
 -- the text under a name
-unfoldable pub text_under : BTreeMap (Bor (List ℕ)) (Bor (List ℕ)) → List ℕ → Option (List ℕ)
-text_under texts name = option_map (λ t. t.now) (get_by (λ k. slice_cmp nat_cmp name k.now) texts)
+abbrev pub text_under : LabelTexts → List ℕ → Option (List ℕ)
+text_under t = found_by t.texts t.labels.now
+
+-- under each name the map has what these labels have first
+abbrev pub IsMapOf : List (List ℕ × List ℕ) → BTreeMap (Bor (List ℕ)) (Bor (List ℕ)) → Type 0
+IsMapOf labels texts = (name : List ℕ) → text_in_map texts name ≡ found name labels
 
 -- under each name stands what these labels have first
-abbrev pub HasTexts : List (List ℕ × List ℕ) → BTreeMap (Bor (List ℕ)) (Bor (List ℕ)) → Type 0
+abbrev pub HasTexts : List (List ℕ × List ℕ) → LabelTexts → Type 0
 HasTexts labels texts = (name : List ℕ) → text_under texts name ≡ found name labels
 
 -- a hole's part of a path, and what stands behind that

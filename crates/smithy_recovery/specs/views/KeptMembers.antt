@@ -9,6 +9,7 @@ use Rattle.smithy_schema.specs.Nodes.{Schema, Table, at_place, members_of, Bindi
 use Rattle.smithy_schema.specs.References.{schema_of}
 use Rattle.smithy_schema.specs.declared.parts.SchemaIndex.{SchemaIndex}
 use Rattle.smithy_schema.specs.declared.schema_ref.SchemaRef.{SchemaRef}
+use Rattle.smithy_schema.specs.Templates.{Template}
 use Rattle.smithy_serde.specs.Held.{Held}
 use Rattle.smithy_serde.specs.StoredValues.{writes_in, with_write, AreDefined, StaysDefined, StaysDefinedWith}
 use Rattle.smithy_serde.specs.Values.{Value, Write, list_of}
@@ -21,10 +22,10 @@ use Rattle.smithy_binding.specs.Checked.{has_map_kind}
 use Rattle.smithy_binding.specs.Protocols.{Parts}
 use Rattle.smithy_recovery.specs.BodyParts.{body_part, is_asked_at, is_asked, reads_body, is_told}
 use Rattle.smithy_recovery.specs.Finding.{Finds}
-use Rattle.smithy_recovery.specs.views.Keeping.{KeepsWrites}
+use Rattle.smithy_recovery.specs.views.Keeping.{KeepsPart, KeepsWrites}
 use Rattle.smithy_recovery.specs.views.Kept.{label_seen, HasTexts}
 use Rattle.smithy_recovery.specs.views.KeptBodies.{KeepsPartTold, KeepsWritesTold}
-use Rattle.smithy_recovery.specs.views.KeptQueries.{HasNames}
+use Rattle.smithy_recovery.specs.MapParts.{query_map_part}
 use Rattle.smithy_recovery.specs.MemberParts.{part_writes, with_body}
 use Rattle.smithy_recovery.specs.views.Pieces.{HasPieces, texts_left}
 use Rattle.smithy_recovery.specs.QueryParts.{own_query, query_part}
@@ -37,12 +38,19 @@ use Rattle.smithy_recovery.specs.declared.path_texts.LabelText.{LabelText}
 abbrev pub query_read : CutRequest → (name : List ℕ) → Schema → Option (Option Value)
 query_read cut name m = option_and_then (query_part m) (texts_left cut.own.now cut.pieces.now (escape name))
 
--- a request as it is cut by a reading: the texts of its labels, the pieces of both queries, and the names of the query members
+-- the map of the query beside the query members of the structure, whichever template has the pieces that were kept as its own
+abbrev pub KeepsQueryMap : CutRequest → Schema → Result (Option ShapeValue) RecoverError → Type 0
+KeepsQueryMap cut m result =
+    let target = cut.request.now.target in
+    (t : Template) → HasPieces (own_query t) cut.own.now → HasPieces (query_pieces target) cut.pieces.now
+    → KeepsPart m.table (query_map_part t (query_names (schema_of cut.schema)) m (query_pieces target)) result
+
+-- a request as it is cut by a reading: the texts of its labels, and the pieces of both queries, for the members of its structure
 pub record IsCutBy (r : Reading) (texts : List (List ℕ × List ℕ)) (cut : CutRequest) : Type 0 where
   pub labels : HasTexts texts cut.labels.now
   pub own : HasPieces (own_query (template r)) cut.own.now
   pub pieces : HasPieces (query_pieces cut.request.now.target) cut.pieces.now
-  pub names : HasNames (query_names r.schema) cut.names.now
+  pub schema : r.schema ≡ schema_of cut.schema
 
 -- what a request has of a member that stands there
 unfoldable pub KeepsMemberAt : (List ℕ → Option Held) → CutRequest → Binding → Schema → Result (Option ShapeValue) RecoverError → Type 0

@@ -139,7 +139,7 @@ abbrev pub KeepsQuery : Schema → (own pieces : NamedPieces) → QueryNames →
 KeepsQuery n own pieces names target result = KeepsEntries n.table (pieces_put own pieces names (Some n) (query_pieces target) []) result
 
 -- the map of a target's query beside query members, whichever template, query and names were kept by their names
-abbrev pub KeepsQueryMap : Schema → (own pieces : NamedPieces) → QueryNames → (target : List ℕ) → Result (Option ShapeValue) RecoverError → Type 0
-KeepsQueryMap m own pieces names target result =
+abbrev pub KeepsQueryBeside : Schema → (own pieces : NamedPieces) → QueryNames → (target : List ℕ) → Result (Option ShapeValue) RecoverError → Type 0
+KeepsQueryBeside m own pieces names target result =
     (t : Template) (all : List (List ℕ)) → HasPieces (own_query t) own → HasPieces (query_pieces target) pieces → HasNames all names →
     KeepsPart m.table (query_map_part t all m (query_pieces target)) result

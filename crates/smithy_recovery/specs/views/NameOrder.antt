@@ -1,10 +1,15 @@
 -- Pairs in byte order of their names.
-use Rattle.std.specs.Prelude.{◌≡◌, ℕ, Bool, true, false, ◌&&◌, List, [], ◌∷◌, map, Vec}
+use Rattle.std.specs.Prelude.{◌≡◌, ℕ, Bool, true, false, ◌&&◌, List, [], ◌∷◌, map, Option, Some, option_map, Vec}
+use Rattle.std.specs.Borrow.{Bor}
+use Rattle.std.specs.List.{cons_option}
 use Rattle.std.specs.Cmp.Lexicographic.{slice_cmp}
 use Rattle.std.specs.Global.{Global}
 use Rattle.std.specs.Ordering.{nat_cmp, is_lt}
 use Rattle.smithy_types.specs.Texts.{same_text}
 use Rattle.smithy_http.specs.Facts.{values_at}
+use Rattle.smithy_recovery.specs.SameFacts.{has_same_values}
+use Rattle.smithy_recovery.specs.declared.named_texts.NamedText.{NamedText}
+use Rattle.smithy_recovery.specs.declared.same_facts.Left.{Left}
 use Rattle.smithy_recovery.specs.declared.same_facts.Named.{Named}
 
 -- a name with its value
@@ -13,6 +18,30 @@ named_seen n = (n.name.now, n.value.now)
 
 abbrev pub pairs_seen : Vec Named Global → List (List ℕ × List ℕ)
 pairs_seen pairs = map named_seen pairs.items
+
+-- a header
+abbrev pub header_seen : Bor (List ℕ) × Bor (List ℕ) → List ℕ × List ℕ
+header_seen h = (h.0.now, h.1.now)
+
+-- what is left of headers
+abbrev pub left_seen : Left → List (List ℕ × List ℕ)
+left_seen l = cons_option (option_map header_seen l.first) l.behind
+
+-- under each name the same values are left
+abbrev pub same_left : Left → Left → Bool
+same_left l o = has_same_values (left_seen l) (left_seen o)
+
+-- both first headers are there, and they are the same
+abbrev pub has_same_first : (first other : Option (Bor (List ℕ) × Bor (List ℕ))) → Bool
+has_same_first (Some h) (Some o) = same_text h.0.now o.0.now && same_text h.1.now o.1.now
+has_same_first _ _ = false
+
+-- a text by its name
+abbrev pub text_seen : NamedText → List ℕ × List ℕ
+text_seen t = (t.name.now, t.text.now)
+
+abbrev pub texts_seen : Vec NamedText Global → List (List ℕ × List ℕ)
+texts_seen texts = map text_seen texts.items
 
 -- the name stands before no name of the pairs
 abbrev pub IsLow : List ℕ → List (List ℕ × List ℕ) → Type 0

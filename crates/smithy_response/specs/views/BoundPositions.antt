@@ -18,6 +18,10 @@ HasNext next = IfSome next (λ p. p < 2 ^ 64 - 1)
 abbrev pub is_bound_position : Schema → ℕ → Bool
 is_bound_position schema i = option_map_or is_response_bound (member_at schema i) false
 
+-- the value of the member at the position is the body's
+abbrev pub is_payload_position : Schema → ℕ → Bool
+is_payload_position schema i = option_map_or (λ m. m.node.traits.http_payload) (member_at schema i) false
+
 -- a member's position, from this one on, before which none is bound; or none of them is
 abbrev pub IsNextBound : Schema → ℕ → Option ℕ → Type 0
 IsNextBound schema from next =

@@ -11,22 +11,20 @@ use Rattle.smithy_schema.specs.views.Places.{places_of}
 use Rattle.smithy_schema.specs.views.Stored.{table_stored}
 use Rattle.smithy_schema.specs.Defining.{IsSound}
 use Rattle.smithy_schema.specs.Routing.{bound_among, word_of}
-use Rattle.smithy_schema.specs.views.MemberNames.{AreOfNames, HasPositions}
+use Rattle.smithy_schema.specs.views.MemberNames.{FindsNames, IsLead}
 
 -- the node that is kept at a place; a hole counts as none
 abbrev pub kept_at : List (Option StoredNode) → ℕ → Option StoredNode
 kept_at nodes place = option_flatten (slice_get nodes place)
 
--- of the members are kept the first position of each name, as followers none but these, and the routing word
+-- of the members is kept how they are found by their names, and the routing word
 pub record KeepsMembers (table : Table) (d : FullDetails) : Type 0 where
-  pub positions : HasPositions table (places_of d.members.items) d.positions
-  pub followers : AreOfNames d.positions d.followers.items
+  pub names : FindsNames table (places_of d.members.items) d.names
   pub routing : d.routing ≡ word_of (bound_among table (places_of d.members.items))
 
--- the place is that of a member at one of the followers
+-- the place is that of a member that a name is looked for at first
 abbrev pub IsFollower : FullDetails → SchemaIndex → Type 0
-IsFollower d place =
-    (before : ℕ) × (position : ℕ) × (slice_get d.followers.items before ≡ Some position) × (slice_get d.members.items position ≡ Some place)
+IsFollower d place = (position : ℕ) × IsLead d.names position × (slice_get d.members.items position ≡ Some place)
 
 -- so is what they have; an outline has no members
 abbrev pub HasMembers : Table → StoredDetails → Type 0

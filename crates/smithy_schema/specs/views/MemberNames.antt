@@ -1,10 +1,15 @@
 -- Where the names of a node's members stand, as the code keeps it.
-use Rattle.std.specs.Prelude.{◌≡◌, ℕ, Bool, true, false, List, position, String, Option, Some, None, All}
+use Rattle.std.specs.Prelude.{◌≡◌, ℕ, Bool, true, false, ◌&&◌, List, [], ◌∷◌, map, position, slice_get, String, Option, Some, None, All}
 use Rattle.std.specs.Option.{option_map_or, option_or}
 use Rattle.std.specs.Global.{Global}
 use Rattle.std.specs.BTreeMap.{BTreeMap, get_by_text}
+use Rattle.std.specs.Cmp.Lexicographic.{slice_cmp}
+use Rattle.std.specs.Ordering.{nat_cmp, is_lt}
 use Rattle.smithy_types.specs.Texts.{same_text}
-use Rattle.smithy_schema.specs.Nodes.{Node, Table, Schema, at_place, has_name, member_named}
+use Rattle.smithy_schema.specs.declared.member_names.MappedNames.{MappedNames}
+use Rattle.smithy_schema.specs.declared.member_names.MemberNames.{MemberNames}
+use Rattle.smithy_schema.specs.declared.member_names.MemberNames.TheVariants.{Ascending, Mapped}
+use Rattle.smithy_schema.specs.Nodes.{Node, Table, Schema, at_place, node_at, has_name, member_named}
 
 -- the place holds a node with this name
 abbrev pub is_named_at : Table → List ℕ → ℕ → Bool
@@ -43,3 +48,33 @@ position_for name own position = position_if (option_map_or (same_text name) own
 -- one more member behind the others, with this name if any: a name that stands keeps its position
 abbrev pub HasOneMore : BTreeMap (String Global) ℕ → Option (List ℕ) → ℕ → BTreeMap (String Global) ℕ → Type 0
 HasOneMore old own position new = (name : List ℕ) → get_by_text new name ≡ option_or (get_by_text old name) (position_for name own position)
+
+-- the names of the members at these places
+abbrev pub names_in : Table → List ℕ → List (Option (List ℕ))
+names_in table places = map (λ place. name_held (node_at table place)) places
+
+-- the name stands behind the one before it in byte order, if there is one
+abbrev pub rises : (before name : Option (List ℕ)) → Bool
+rises before None = false
+rises None (Some name) = true
+rises (Some before) (Some name) = is_lt (slice_cmp nat_cmp before name)
+
+-- so does each of these names
+abbrev pub ascend : Option (List ℕ) → List (Option (List ℕ)) → Bool
+ascend before [] = true
+ascend before (name ∷ names) = rises before name && ascend name names
+
+-- the map has the positions of the members' names, and its followers are none but these
+pub record IsMapped (table : Table) (places : List ℕ) (m : MappedNames) : Type 0 where
+  pub positions : HasPositions table places m.positions
+  pub followers : AreOfNames m.positions m.followers.items
+
+-- the members at these places are found by their names: these ascend, or stand in a map
+abbrev pub FindsNames : Table → List ℕ → MemberNames → Type 0
+FindsNames table places Ascending = ascend None (names_in table places) ≡ true
+FindsNames table places (Mapped m) = IsMapped table places m.value
+
+-- a position that a name is looked for at first
+abbrev pub IsLead : MemberNames → ℕ → Type 0
+IsLead Ascending position = Unit {0}
+IsLead (Mapped m) position = (before : ℕ) × (slice_get m.value.followers.items before ≡ Some position)

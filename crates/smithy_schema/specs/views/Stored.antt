@@ -3,9 +3,7 @@ use Rattle.std.specs.Prelude.{◌≡◌, ℕ, List, map, Option, Some, None, opt
 use Rattle.std.specs.Borrow.{Bor}
 use Rattle.smithy_schema.specs.declared.stored.StoredMember.{StoredMember}
 use Rattle.smithy_schema.specs.declared.stored.StoredMember.TheVariants.{Shape, Named, Indexed}
-use Rattle.smithy_schema.specs.declared.stored_http.StoredHttp.{StoredHttp}
-use Rattle.smithy_schema.specs.declared.stored.StoredNamespace.{StoredNamespace}
-use Rattle.smithy_schema.specs.declared.stored.StoredTraits.{StoredTraits}
+use Rattle.smithy_schema.specs.declared.stored_traits.StoredTraits.{StoredTraits}
 use Rattle.smithy_schema.specs.declared.stored.FullDetails.{FullDetails}
 use Rattle.smithy_schema.specs.declared.stored.StoredDetails.{StoredDetails}
 use Rattle.smithy_schema.specs.declared.stored.StoredDetails.TheVariants.{Outline, Full}
@@ -14,7 +12,8 @@ use Rattle.smithy_schema.specs.declared.stored.StoredNode.{StoredNode}
 use Rattle.smithy_schema.specs.views.Details.{Details, details_of, outlined}
 use Rattle.smithy_schema.specs.views.Places.{place_of, places_of}
 use Rattle.smithy_schema.specs.PreludeNodes.{IsBare}
-use Rattle.smithy_schema.specs.Nodes.{Http, Namespace, Traits, Node, bare_node, Table}
+use Rattle.smithy_schema.specs.views.StoredTraits.{traits_stored}
+use Rattle.smithy_schema.specs.Nodes.{Node, bare_node, Table}
 
 abbrev pub name_stored : StoredMember → Option (List ℕ)
 name_stored Shape = None
@@ -25,38 +24,6 @@ abbrev pub index_stored : StoredMember → Option ℕ
 index_stored Shape = None
 index_stored (Named name) = None
 index_stored (Indexed name index) = Some index
-
-abbrev pub http_stored : StoredHttp → Http
-http_stored h = record { method = h.method; uri = h.uri; code = h.code }
-
-abbrev pub namespace_stored : StoredNamespace → Namespace
-namespace_stored n = record { uri = n.uri; prefix = n.prefix }
-
-abbrev pub traits_stored : StoredTraits → Traits
-traits_stored t = record {
-  http = option_map http_stored t.http;
-  http_header = t.http_header;
-  http_prefix_headers = t.http_prefix_headers;
-  http_query = t.http_query;
-  http_query_params = t.marks.http_query_params;
-  http_label = t.marks.http_label;
-  http_payload = t.marks.http_payload;
-  http_response_code = t.marks.http_response_code;
-  media_type = t.media_type;
-  timestamp_format = t.timestamp_format;
-  streaming = t.marks.streaming;
-  json_name = t.json_name;
-  xml_name = t.xml_name;
-  xml_namespace = option_map namespace_stored t.xml_namespace;
-  xml_attribute = t.marks.xml_attribute;
-  xml_flattened = t.marks.xml_flattened;
-  xml_unwrapped_output = t.marks.xml_unwrapped_output;
-  sensitive = t.marks.sensitive;
-  host_label = t.marks.host_label;
-  event_header = t.marks.event_header;
-  event_payload = t.marks.event_payload;
-  others = t.others;
-}
 
 abbrev pub details_full : FullDetails → Details
 details_full d = record {

@@ -9,9 +9,11 @@ use Rattle.smithy_types.specs.declared.date_time.Format.{Format}
 use Rattle.smithy_types.specs.declared.document.Document as code
 use Rattle.smithy_types.specs.declared.document.Documents.{Documents}
 use Rattle.smithy_types.specs.declared.document.Members.{Members}
-use Rattle.smithy_wire.specs.Words.{Bor, Document, Number, then_give}
+use Rattle.smithy_serde.specs.Held as held
+use Rattle.smithy_wire.specs.Words.{Bor, Document, Held, InvalidInput, Number, then_give}
 use Rattle.smithy_wire.specs.Forms.{Form}
 use Rattle.smithy_wire.specs.Unwire.{item_step, unread, within, number_read, time_read, string_read, unwire, unwire_items, unwire_pairs}
+use Rattle.smithy_wire.specs.WireText.{held_of}
 use Rattle.smithy_wire.specs.declared.unread.Unread.{Unread}
 use Rattle.smithy_wire.specs.declared.unread.ReadError.{ReadError}
 use Rattle.smithy_wire.specs.declared.unread.ReadError.TheVariants as error
@@ -65,3 +67,12 @@ ReadsWithin step tried result = (expected : Result Document Unread) → Reads vi
 -- the same from one step further out
 abbrev pub IsOutward : List ℕ → Unread → Unread → Type 0
 IsOutward step inner u = u ≡ record { text = inner.text; word = inner.word; path = step ++ inner.path }
+
+-- what is at hand of what was read, or of the text of a refusal
+abbrev pub outcome_held : Result code.Document (List ℕ) → Held
+outcome_held (Ok d) = held.document (view d)
+outcome_held (Err text) = held.refused (InvalidInput text)
+
+-- what was tried is told
+abbrev pub TellsOutcome : Result code.Document ReadError → Result code.Document (List ℕ) → Type 0
+TellsOutcome tried outcome = (expected : Result Document Unread) → Reads view expected tried → held_of expected ≡ outcome_held outcome

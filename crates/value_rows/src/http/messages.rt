@@ -52,16 +52,42 @@ fn tell_request(told: &mut Told, request: &Request) -> Result<(), Failed> {
     told.tell_bytes("body", request.body().as_slice())
 }
 
-/// A request of its parts.
-pub fn request_of_parts(alloc: Global, given: &Value) -> Result<Text, Failed> {
+// What comes of the parts of a request.
+fn told_made(alloc: Global, made: Result<Request, HttpError>) -> Result<Text, Failed> {
     let mut told = Told::new(alloc)?;
-    let headers = headers_of(alloc, given)?;
-    let body = bytes_of(alloc, given, "body")?;
-    match of_parts(alloc, given, headers, body)? {
+    match made {
         Ok(request) => tell_request(&mut told, &request)?,
         Err(error) => tell_refusal(&mut told, Err(error))?,
     }
     Ok(told.into_text())
+}
+
+/// A request of its parts.
+pub fn request_of_parts(alloc: Global, given: &Value) -> Result<Text, Failed> {
+    let headers = headers_of(alloc, given)?;
+    let body = bytes_of(alloc, given, "body")?;
+    told_made(alloc, of_parts(alloc, given, headers, body)?)
+}
+
+/// A request of its parts, whose method is lent.
+pub fn request_with_method(alloc: Global, given: &Value) -> Result<Text, Failed> {
+    let headers = headers_of(alloc, given)?;
+    let body = bytes_of(alloc, given, "body")?;
+    told_made(alloc, with_method(alloc, given, headers, body)?)
+}
+
+fn with_method(
+    alloc: Global,
+    given: &Value,
+    headers: Headers,
+    body: Blob,
+) -> Result<Result<Request, HttpError>, Failed> {
+    let method = text_of(given, "method")?;
+    let target = long_text_of(alloc, given, "target")?;
+    if !is_token(method) {
+        return Err(Failed);
+    }
+    Ok(Request::with_method(alloc, method, target, headers, body))
 }
 
 fn of_parts(

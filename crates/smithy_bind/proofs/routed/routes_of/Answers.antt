@@ -1,13 +1,10 @@
-use Rattle.std.proofs.Common.{rules}
-use Rattle.smithy_bind.proofs.RoutedLemmas.{operations-more, operations-refused}
+use Rattle.smithy_job.specs.RoutingView.{operation_by}
+use Rattle.smithy_bind.specs.views.RoutedView.{added_seen}
+use Rattle.smithy_bind.proofs.NamedRoutes.{along-more}
 use Rattle.smithy_bind.proofs.routed.routes_of.Goals as goal
 
-pub returns-in_err-add_operation : goal.returns-in_err-add_operation
-returns-in_err-add_operation c =
-    operations-refused c.args.operations.now c.loop-operation.operation-index c.operation-item.result c.loop-operation.routes c.add_operation.new.routes _ c.loop-operation-test.true c.operation-item.is c.loop-operation.invariant
-    c.in_err-add_operation.field-0.0 c.from_residual.result (search rules) c.in_err-add_operation.ensures
-
-pub loop-operation-preserved : goal.loop-operation-preserved
-loop-operation-preserved c =
-    operations-more c.args.operations.now c.loop-operation.operation-index c.operation-item.result c.loop-operation.routes c.add_operation.new.routes _ c.loop-operation-test.true c.operation-item.is c.loop-operation.invariant
-    c.in_ok-add_operation.ensures
+pub loop-name-preserved : goal.loop-name-preserved
+loop-name-preserved c =
+    rw c.in_ok-add.ensures
+    (along-more (operation_by c.args.operations.now) c.args.operations.now.names.now c.loop-name.name-index c.name-item.result (added_seen c.loop-name.added) _ _ c.loop-name-test.true c.name-item.is c.in_ok-operation.ensures
+    c.loop-name.invariant)

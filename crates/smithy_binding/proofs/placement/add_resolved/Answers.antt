@@ -1,6 +1,7 @@
 use Rattle.smithy_binding.proofs.Common.{rules, ◌≡◌, ap, sym, ◌∙◌, subst, Bool, List, true, false, slice_set, Some, Ok, Err, IfErr, on_ok_weaker, Binding, directed_of, value_in, is_placed_at, status_fault_in, first_fault, TellsFault, Gathered, is_seen, placed_first, write_of, gathered_of, kept_at, kept_in, IsKeptDefined}
 use Rattle.smithy_binding.proofs.Refusals.{TellsFault-then, IfErr-then}
 use Rattle.smithy_binding.proofs.KeptSteps.{add-unplaced}
+use Rattle.smithy_binding.specs.views.Marks.{marks_of}
 use Rattle.smithy_binding.specs.views.NamesAtHand.{SeenHaveNames}
 use Rattle.smithy_binding.proofs.NameSteps.{named-at, own-unplaced, seen-marked}
 use Rattle.smithy_binding.proofs.WriteSteps.{add-wrong, add-again, add-first, add-fault, add-code}
@@ -25,13 +26,13 @@ returns-clause-added g c =
     let schema = directed_of c.args.schema in
     let way = c.args.schema.way in
     let s = gathered_of c.args.parts.now in
-    let seen : is_seen s c.args.position ≡ false = (rw c.as_slice.ensures.value at (sym c.is_seen.ensures)) ∙ c.if-is_seen.false in
+    let seen : is_seen s c.args.position ≡ false = sym c.is_marked.ensures ∙ c.if-is_marked.false in
     let t = c.args.table.now in
     let v = value_in t c.args.value.now in
     let r = write_of c.args.position m v in
     let fits = sym (c.fits_member.ensures t) ∙ c.if-not-fits_member.false in
     let bound = ap is_placed_at (sym c.binding_of-binding.ensures) ∙ sym c.is_placed.ensures ∙ c.if-not-is_placed.false in
-    let marked : c.mark.new.seen.items ≡ slice_set s.seen c.args.position true = c.mark.ensures in
+    let marked : marks_of c.mark.new.self ≡ slice_set s.seen c.args.position true = c.mark.ensures in
     let first = c.in_ok-add_first.ensures.put in
     let code = c.test_code.ensures t in
     let same = ap (λ (b : Binding). status_fault_in way b v) (sym c.binding_of-binding.ensures) in
@@ -48,7 +49,7 @@ pub returns-in_err-add_first-clause-added : goal.returns-in_err-add_first-clause
 returns-in_err-add_first-clause-added g c =
     let m = directed_of c.args.member in
     let s = gathered_of c.args.parts.now in
-    let seen : is_seen s c.args.position ≡ false = (rw c.as_slice.ensures.value at (sym c.is_seen.ensures)) ∙ c.if-is_seen.false in
+    let seen : is_seen s c.args.position ≡ false = sym c.is_marked.ensures ∙ c.if-is_marked.false in
     let t = c.args.table.now in
     let v = value_in t c.args.value.now in
     let fits = sym (c.fits_member.ensures t) ∙ c.if-not-fits_member.false in
@@ -60,10 +61,10 @@ returns-in_err-add_first-clause-added g c =
       body = search rules;
     }
 
-pub returns-then-is_seen-clause-added : goal.returns-then-is_seen-clause-added
-returns-then-is_seen-clause-added g c =
+pub returns-then-is_marked-clause-added : goal.returns-then-is_marked-clause-added
+returns-then-is_marked-clause-added g c =
     let s = gathered_of c.args.parts.now in
-    let seen : is_seen s c.args.position ≡ true = (rw c.as_slice.ensures.value at (sym c.is_seen.ensures)) ∙ c.if-is_seen.true in
+    let seen : is_seen s c.args.position ≡ true = sym c.is_marked.ensures ∙ c.if-is_marked.true in
     let t = c.args.table.now in
     record {
       ok = add-again c.args.schema.way (directed_of c.args.schema) s (write_of c.args.position (directed_of c.args.member) (value_in t c.args.value.now)) (sym (c.fits_member.ensures t) ∙ c.if-not-fits_member.false) seen;
@@ -75,9 +76,9 @@ pub returns-then-not-is_placed-clause-added : goal.returns-then-not-is_placed-cl
 returns-then-not-is_placed-clause-added g c =
     let m = directed_of c.args.member in
     let s = gathered_of c.args.parts.now in
-    let seen : is_seen s c.args.position ≡ false = (rw c.as_slice.ensures.value at (sym c.is_seen.ensures)) ∙ c.if-is_seen.false in
+    let seen : is_seen s c.args.position ≡ false = sym c.is_marked.ensures ∙ c.if-is_marked.false in
     let t = c.args.table.now in
-    let marked : c.mark.new.seen.items ≡ slice_set s.seen c.args.position true = c.mark.ensures in
+    let marked : marks_of c.mark.new.self ≡ slice_set s.seen c.args.position true = c.mark.ensures in
     record {
       ok = add-unplaced c.args.schema.way (directed_of c.args.schema) s (write_of c.args.position m (value_in t c.args.value.now)) (sym (c.fits_member.ensures t) ∙ c.if-not-fits_member.false) seen
           (ap is_placed_at (sym c.binding_of-binding.ensures) ∙ sym c.is_placed.ensures ∙ c.if-not-is_placed.true)
@@ -97,12 +98,12 @@ returns-then-not-fits_member-clause-kept g c = g.met.N.HeaderNames.keeps_same c.
 pub returns-in_err-keep-clause-kept : goal.returns-in_err-keep-clause-kept
 returns-in_err-keep-clause-kept g c = g.met.N.HeaderNames.keeps_same c.args.names.now
 
-pub returns-then-is_seen-clause-kept : goal.returns-then-is_seen-clause-kept
-returns-then-is_seen-clause-kept g c = g.met.N.HeaderNames.keeps_same c.args.names.now
+pub returns-then-is_marked-clause-kept : goal.returns-then-is_marked-clause-kept
+returns-then-is_marked-clause-kept g c = g.met.N.HeaderNames.keeps_same c.args.names.now
 
-pub returns-then-is_seen-clause-named : goal.returns-then-is_seen-clause-named
-returns-then-is_seen-clause-named g c =
-    let seen : is_seen (gathered_of c.args.parts.now) c.args.position ≡ true = (rw c.as_slice.ensures.value at (sym c.is_seen.ensures)) ∙ c.if-is_seen.true in
+pub returns-then-is_marked-clause-named : goal.returns-then-is_marked-clause-named
+returns-then-is_marked-clause-named g c =
+    let seen : is_seen (gathered_of c.args.parts.now) c.args.position ≡ true = sym c.is_marked.ensures ∙ c.if-is_marked.true in
     c.requires.seen c.args.position seen
 
 pub returns-then-not-is_placed-clause-kept : goal.returns-then-not-is_placed-clause-kept
@@ -133,7 +134,7 @@ returns-clause-seen g c =
     let new = g.N.HeaderNames.has c.add_first.new.names in
     let schema = directed_of c.args.schema in
     let first = c.in_ok-add_first.ensures in
-    let same : c.add_first.new.parts.seen.items ≡ slice_set (gathered_of c.args.parts.now).seen c.args.position true = ap (λ (s : Gathered). s.seen) first.put.put ∙ c.mark.ensures in
+    let same : marks_of c.add_first.new.parts.seen ≡ slice_set (gathered_of c.args.parts.now).seen c.args.position true = ap (λ (s : Gathered). s.seen) first.put.put ∙ c.mark.ensures in
     on_ok_weaker c.test_code.result
     (λ _. subst (SeenHaveNames new schema) (sym same)
     (seen-marked old new schema (gathered_of c.args.parts.now).seen c.args.position (λ place has. g.met.N.HeaderNames.has_on _ _ place first.kept has) c.requires.seen

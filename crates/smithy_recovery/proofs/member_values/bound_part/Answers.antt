@@ -7,8 +7,8 @@ use Rattle.smithy_recovery.proofs.member_values.bound_part.Goals as goal
 pub prefix_part-requires : goal.prefix_part-requires
 prefix_part-requires g c = prefix_nodes (schema_of c.args.member) c.in-Prefix.prefix.now c.requires.sound (sym c.request_binding.ensures ∙ ap binding_shown c.in-Prefix.is)
 
-pub query_map_part-requires : goal.query_map_part-requires
-query_map_part-requires g c = query_nodes (schema_of c.args.member) c.requires.sound (sym c.request_binding.ensures ∙ ap binding_shown c.in-QueryMap.is)
+pub query_map_member-requires : goal.query_map_member-requires
+query_map_member-requires g c = query_nodes (schema_of c.args.member) c.requires.sound (sym c.request_binding.ensures ∙ ap binding_shown c.in-QueryMap.is)
 
 pub returns-in-Header : goal.returns-in-Header
 returns-in-Header g c =
@@ -24,7 +24,7 @@ returns-in-Query g c =
 
 pub returns-in-QueryMap : goal.returns-in-QueryMap
 returns-in-QueryMap g c =
-    query_map_kept (g.C.Codec.holds c.args.codec.now) c.args.cut.now (schema_of c.args.member) c.uri.result.now c.query_map_part.result (sym c.request_binding.ensures ∙ ap binding_shown c.in-QueryMap.is) c.uri.ensures.value c.query_map_part.ensures
+    query_map_kept (g.C.Codec.holds c.args.codec.now) c.args.cut.now (schema_of c.args.member) c.query_map_member.result (sym c.request_binding.ensures ∙ ap binding_shown c.in-QueryMap.is) c.query_map_member.ensures
 
 pub returns-in-Label : goal.returns-in-Label
 returns-in-Label g c =

@@ -8,7 +8,7 @@ use Rattle.smithy_recovery.proofs.member_values.labelled_writes.Goals as goal
 pub returns : goal.returns
 returns g c =
     labelled_kept (g.C.Codec.holds c.args.codec.now) c.args.request.now c.args.schema c.args.last.now (map label_seen c.args.texts.now) _ c.cut_writes.result c.cut_writes.ensures refl (sym c.requires.table) c.in_ok-labels.ensures c.in_ok-own.ensures
-    (λ (name : List ℕ). c.in_ok-pieces.ensures name ∙ ap (λ t. pieces_named name (query_pieces t)) c.uri.ensures.value) c.in_ok-names.ensures
+    (λ (name : List ℕ). c.in_ok-pieces.ensures name ∙ ap (λ t. pieces_named name (query_pieces t)) c.uri.ensures.value) refl
 
 pub returns-in_err-labels : goal.returns-in_err-labels
 returns-in_err-labels g c = memory_labelled (g.C.Codec.holds c.args.codec.now) c.args.request.now c.args.schema c.args.last.now (map label_seen c.args.texts.now) c.from_residual.result (search rules)
@@ -18,6 +18,3 @@ returns-in_err-own g c = memory_labelled (g.C.Codec.holds c.args.codec.now) c.ar
 
 pub returns-in_err-pieces : goal.returns-in_err-pieces
 returns-in_err-pieces g c = memory_labelled (g.C.Codec.holds c.args.codec.now) c.args.request.now c.args.schema c.args.last.now (map label_seen c.args.texts.now) c.from_residual-in_err-pieces.result (search rules)
-
-pub returns-in_err-names : goal.returns-in_err-names
-returns-in_err-names g c = memory_labelled (g.C.Codec.holds c.args.codec.now) c.args.request.now c.args.schema c.args.last.now (map label_seen c.args.texts.now) c.from_residual-in_err-names.result (search rules)

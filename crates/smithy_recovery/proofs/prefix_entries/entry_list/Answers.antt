@@ -1,28 +1,28 @@
-use Rattle.std.proofs.Common.{◌∙◌, ap, sym, subst, ◌∷◌, []}
+use Rattle.std.proofs.Common.{◌+◌, ap, ◌∙◌, drop, map}
+use Rattle.std.proofs.Math.ListN.{drop_of_length-le}
+use Rattle.std.proofs.lemmas.List.{take_rest}
 use Rattle.smithy_serde.specs.NormalBody.{entry_writes}
-use Rattle.smithy_serde.specs.StoredValues.{label_at, value_in, writes_in, IsDefined}
-use Rattle.smithy_serde.specs.Told.{appended}
-use Rattle.smithy_recovery.specs.views.KeptEntries.{shown_entries, entries_seen}
-use Rattle.smithy_recovery.specs.MapParts.{as_text}
-use Rattle.smithy_recovery.proofs.EntriesPut.{entries_further, entries_all}
+use Rattle.smithy_serde.specs.StoredValues.{label_at, writes_in}
+use Rattle.smithy_recovery.specs.views.KeptEntries.{last_entries}
+use Rattle.smithy_recovery.specs.views.NameOrder.{text_seen}
+use Rattle.smithy_recovery.proofs.EntriesPut.{last_further, entries_all}
 use Rattle.smithy_recovery.proofs.prefix_entries.entry_list.Goals as goal
 
-pub loop-key-preserved : goal.loop-key-preserved
-unfolding value_in IsDefined
-loop-key-preserved c =
-    let key = c.in-Some.key.now.now in
+pub loop-i-preserved : goal.loop-i-preserved
+loop-i-preserved c =
+    let i = c.loop-i.i in
+    let es = c.args.entries.now in
     record {
       writes = λ t.
-          entries_further (label_at t c.args.places.0.0) (label_at t c.args.places.1.0) (writes_in t c.loop-key.writes) (writes_in t c.push_entry.new.writes) (key, as_text c.in-Some.text.now.now)
-          (shown_entries c.loop-key.key-iterator) (shown_entries c.next.new.self) (ap shown_entries c.in-Some.ensures.steps)
-          (c.in_ok-push_entry.ensures.writes t
-          ∙ ap (λ v. appended (writes_in t c.loop-key.writes) (entry_writes (label_at t c.args.places.0.0) (label_at t c.args.places.1.0) ((key, value_in t v) ∷ []))) c.in_ok-value.ensures)
-          ∙ c.loop-key.invariant.writes t;
-      defined = λ t k v. c.in_ok-push_entry.ensures.defined t k v (subst (IsDefined t) (sym c.in_ok-value.ensures) tt) (c.loop-key.invariant.defined t k v);
+          last_further (label_at t c.args.places.0.0) (label_at t c.args.places.1.0) (writes_in t c.loop-i.writes) (writes_in t c.push_last.new.writes) es _ i _ c.loop-i-test.true (take_rest es (i + 1)) (c.in_ok-push_last.ensures.writes t)
+          ∙ c.loop-i.invariant.writes t;
+      defined = λ t k v. c.in_ok-push_last.ensures.defined t k v (c.loop-i.invariant.defined t k v);
     }
 
 pub returns-clause-writes : goal.returns-clause-writes
 returns-clause-writes c = λ t.
-    entries_all (label_at t c.args.places.0.0) (label_at t c.args.places.1.0) (writes_in t c.loop-key.writes)
-    (entry_writes (label_at t c.args.places.0.0) (label_at t c.args.places.1.0) (entries_seen c.args.entries.now)) (shown_entries c.loop-key.key-iterator) (ap shown_entries c.in-None.ensures.steps.0)
-    (c.loop-key.invariant.writes t)
+    let k = label_at t c.args.places.0.0 in
+    let v = label_at t c.args.places.1.0 in
+    let es = c.args.entries.now in
+    entries_all k v (writes_in t c.loop-i.writes) (entry_writes k v (last_entries (map text_seen es))) (last_entries (map text_seen (drop c.loop-i.i es)))
+    (ap (λ us. last_entries (map text_seen us)) (drop_of_length-le es c.loop-i-test.false)) (c.loop-i.invariant.writes t)

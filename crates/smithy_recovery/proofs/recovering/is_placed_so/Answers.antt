@@ -9,5 +9,5 @@ use Rattle.smithy_recovery.proofs.recovering.is_placed_so.Goals as goal
 
 pub returns-in_err-placed : goal.returns-in_err-placed
 returns-in_err-placed g c =
-    not_same c.in_err-placed.field-0.0 (place (protocol_of g.C.Codec.text c.args.protocol.now) (schema_of c.args.schema) (list_of (members_of c.args.input.now)) c.args.endpoint.now c.args.omit) c.args.request.now
+    not_same c.in_err-placed.field-0.0 (place (protocol_of g.C.Codec.text c.args.protocol.now) (schema_of c.args.setting.schema) (list_of (members_of c.args.input.now)) c.args.setting.endpoint.now c.args.setting.omit) c.args.request.now
     c.from_residual.result (search rules) c.in_err-placed.ensures

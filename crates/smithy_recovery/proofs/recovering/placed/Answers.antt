@@ -14,4 +14,4 @@ returns-in-Ok g c = ap result_ok c.in-Ok.ensures
 pub returns-in-Err : goal.returns-in-Err
 returns-in-Err g c =
     rw c.from.ensures
-    (not_placed c.in-Err.error (answer (protocol_of g.C.Codec.text c.args.protocol.now) (schema_of c.args.schema) (list_of (members_of c.args.input.now)) c.args.endpoint.now c.args.omit) c.in-Err.ensures)
+    (not_placed c.in-Err.error (answer (protocol_of g.C.Codec.text c.args.protocol.now) (schema_of c.args.setting.schema) (list_of (members_of c.args.input.now)) c.args.setting.endpoint.now c.args.setting.omit) c.in-Err.ensures)

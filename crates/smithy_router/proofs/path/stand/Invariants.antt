@@ -1,6 +1,4 @@
-use Rattle.std.proofs.Common.{◌≡◌, drop, map}
-use Rattle.smithy_router.specs.Deciding.{paths_stand}
-use Rattle.smithy_router.specs.Seen.{segment_seen}
+use Rattle.smithy_router.proofs.Common.{◌≡◌, drop, map, paths_stand, segment_seen}
 use Rattle.smithy_router.proofs.path.stand.Given as goal
 
 abbrev pub invariant-loop-i : goal.invariant-loop-i

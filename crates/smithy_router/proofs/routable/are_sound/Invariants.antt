@@ -1,6 +1,4 @@
-use Rattle.std.proofs.Common.{◌≡◌, drop, map}
-use Rattle.smithy_router.specs.Seen.{part_seen}
-use Rattle.smithy_router.specs.Templates.{are_sound}
+use Rattle.smithy_router.proofs.Common.{◌≡◌, drop, map, part_seen, are_sound}
 use Rattle.smithy_router.proofs.routable.are_sound.Given as goal
 
 abbrev pub invariant-loop-i : goal.invariant-loop-i

@@ -1,7 +1,4 @@
-use Rattle.std.proofs.Common.{◌≡◌, drop, map}
-use Rattle.std.specs.List.{list_any}
-use Rattle.smithy_router.specs.Seen.{part_seen}
-use Rattle.smithy_router.specs.Templates.{is_named}
+use Rattle.smithy_router.proofs.Common.{◌≡◌, drop, map, list_any, part_seen, is_named}
 use Rattle.smithy_router.proofs.routable.has_name.Given as goal
 
 abbrev pub invariant-loop-part : goal.invariant-loop-part

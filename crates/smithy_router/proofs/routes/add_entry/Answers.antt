@@ -1,5 +1,4 @@
-use Rattle.std.proofs.Common.{◌≡◌, refl, length, arith}
-use Rattle.smithy_router.specs.Seen.{route_seen}
+use Rattle.smithy_router.proofs.Common.{◌≡◌, refl, length, arith, route_seen}
 use Rattle.smithy_router.proofs.Growing.{sound_still, sound_more}
 use Rattle.smithy_router.proofs.routes.add_entry.Goals as goal
 

@@ -1,7 +1,4 @@
-use Rattle.std.proofs.Common.{rules}
-use Rattle.smithy_router.specs.Seen.{route_seen}
-use Rattle.smithy_router.specs.Templates.{route_of}
-use Rattle.smithy_router.specs.Tree.{entries_of}
+use Rattle.smithy_router.proofs.Common.{rules, route_seen, route_of, entries_of}
 use Rattle.smithy_router.proofs.Adding.{adds_none, adds_route}
 use Rattle.smithy_router.proofs.Parsed.{route_is}
 use Rattle.smithy_router.proofs.routes.add_template.Goals as goal

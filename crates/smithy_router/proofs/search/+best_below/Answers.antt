@@ -1,5 +1,4 @@
-use Rattle.smithy_router.specs.Seen.{best_seen, parts_left}
-use Rattle.smithy_router.specs.Tree.{entries_of}
+use Rattle.smithy_router.proofs.Common.{best_seen, parts_left, entries_of}
 use Rattle.smithy_router.proofs.Found.{below_more}
 use Rattle.smithy_router.proofs.search.+best_below.Goals as goal
 

@@ -1,5 +1,4 @@
-use Rattle.std.proofs.Common.{length}
-use Rattle.smithy_router.specs.Seen.{parts_left}
+use Rattle.smithy_router.proofs.Common.{length, parts_left}
 use Rattle.smithy_router.proofs.search.+best_below.Given as goal
 
 abbrev pub decreases-best_below : goal.decreases-best_below

@@ -1,6 +1,4 @@
-use Rattle.std.proofs.Common.{List, ℕ, ◌∷◌, ◌∙◌, ap, sym}
-use Rattle.smithy_router.specs.Seen.{best_seen}
-use Rattle.smithy_router.specs.Tree.{entries_of}
+use Rattle.smithy_router.proofs.Common.{List, ℕ, ◌∷◌, ◌∙◌, ap, sym, best_seen, entries_of}
 use Rattle.smithy_router.proofs.Cuts.{not_path}
 use Rattle.smithy_router.proofs.Found.{found, none_matches}
 use Rattle.smithy_router.proofs.search.best.Goals as goal

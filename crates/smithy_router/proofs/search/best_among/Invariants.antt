@@ -1,6 +1,4 @@
-use Rattle.std.proofs.Common.{◌≡◌, drop}
-use Rattle.smithy_router.specs.Search.{best_among}
-use Rattle.smithy_router.specs.Seen.{best_seen}
+use Rattle.smithy_router.proofs.Common.{◌≡◌, drop, best_among, best_seen}
 use Rattle.smithy_router.proofs.search.best_among.Given as goal
 
 abbrev pub invariant-loop-number : goal.invariant-loop-number

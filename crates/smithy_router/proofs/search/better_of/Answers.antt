@@ -1,5 +1,4 @@
-use Rattle.std.proofs.Common.{◌∙◌, sym, Some, None}
-use Rattle.smithy_router.specs.Seen.{best_seen}
+use Rattle.smithy_router.proofs.Common.{◌∙◌, sym, Some, None, best_seen}
 use Rattle.smithy_router.proofs.Found.{at_entry}
 use Rattle.smithy_router.proofs.search.better_of.Goals as goal
 

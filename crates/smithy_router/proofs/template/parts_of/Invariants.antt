@@ -1,7 +1,4 @@
-use Rattle.std.proofs.Common.{◌≡◌, map, length}
-use Rattle.smithy_types.specs.Results.{each}
-use Rattle.smithy_router.specs.Templates.{part_of}
-use Rattle.smithy_router.specs.Seen.{part_seen, parts_left}
+use Rattle.smithy_router.proofs.Common.{◌≡◌, map, length, each, part_of, part_seen, parts_left}
 use Rattle.smithy_router.proofs.TemplateLemmas.{in_front}
 use Rattle.smithy_router.proofs.template.parts_of.Given as goal
 

@@ -1,6 +1,4 @@
-use Rattle.std.proofs.Common.{◌≡◌, drop, map}
-use Rattle.smithy_router.specs.Seen.{part_seen}
-use Rattle.smithy_router.specs.Templates.{has_greedy}
+use Rattle.smithy_router.proofs.Common.{◌≡◌, drop, map, part_seen, has_greedy}
 use Rattle.smithy_router.proofs.template_route.has_greedy.Given as goal
 
 abbrev pub invariant-loop-part : goal.invariant-loop-part

@@ -1,6 +1,4 @@
-use Rattle.std.proofs.Common.{◌≡◌, ◌++◌, map, length}
-use Rattle.std.specs.Prelude.{string_bytes}
-use Rattle.smithy_router.specs.Seen.{parts_left}
+use Rattle.smithy_router.proofs.Common.{◌≡◌, ◌++◌, map, length, string_bytes, parts_left}
 use Rattle.smithy_router.proofs.template_route.pieces_of.Given as goal
 
 abbrev pub invariant-loop-piece : goal.invariant-loop-piece

@@ -1,5 +1,4 @@
-use Rattle.std.proofs.Common.{List, ℕ, ◌∷◌, ◌∙◌, ap, sym}
-use Rattle.smithy_router.specs.Seen.{query_seen}
+use Rattle.smithy_router.proofs.Common.{List, ℕ, ◌∷◌, ◌∙◌, ap, sym, query_seen}
 use Rattle.smithy_router.proofs.Cuts.{not_path}
 use Rattle.smithy_router.proofs.TemplateLemmas.{gives_parts, not_routable}
 use Rattle.smithy_router.proofs.template_route.routable_parts.Goals as goal

@@ -1,6 +1,4 @@
-use Rattle.std.proofs.Common.{◌≡◌, ◌++◌, drop, map}
-use Rattle.smithy_router.specs.Seen.{part_seen, segment_seen}
-use Rattle.smithy_router.specs.Templates.{segments_in}
+use Rattle.smithy_router.proofs.Common.{◌≡◌, ◌++◌, drop, map, part_seen, segment_seen, segments_in}
 use Rattle.smithy_router.proofs.template_route.segments_in.Given as goal
 
 abbrev pub invariant-loop-part : goal.invariant-loop-part

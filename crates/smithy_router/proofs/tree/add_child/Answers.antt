@@ -1,5 +1,4 @@
-use Rattle.std.proofs.Common.{◌≡◌, length, arith, refl}
-use Rattle.smithy_router.specs.Seen.{segment_seen}
+use Rattle.smithy_router.proofs.Common.{◌≡◌, length, arith, refl, segment_seen}
 use Rattle.smithy_router.proofs.Growing.{child_added, child_not_put, read_before}
 use Rattle.smithy_router.proofs.tree.add_child.Goals as goal
 

@@ -1,4 +1,4 @@
-use Rattle.smithy_router.specs.Seen.{segment_seen}
+use Rattle.smithy_router.proofs.Common.{segment_seen}
 use Rattle.smithy_router.proofs.Growing.{child_there}
 use Rattle.smithy_router.proofs.tree.child_for.Goals as goal
 

@@ -1,5 +1,4 @@
-use Rattle.std.proofs.Common.{sym, arith}
-use Rattle.std.proofs.lemmas.List.{length-take-le}
+use Rattle.smithy_router.proofs.Common.{sym, arith, length-take-le}
 use Rattle.smithy_router.proofs.Growing.{first_cut}
 use Rattle.smithy_router.proofs.tree.first_segments.Goals as goal
 

@@ -1,5 +1,4 @@
-use Rattle.std.proofs.Common.{map}
-use Rattle.smithy_router.specs.Seen.{segment_seen}
+use Rattle.smithy_router.proofs.Common.{map, segment_seen}
 use Rattle.smithy_router.proofs.Growing.{grows_through, leads_at}
 use Rattle.smithy_router.proofs.tree.node_behind.Goals as goal
 

@@ -1,6 +1,4 @@
-use Rattle.std.proofs.Common.{◌<◌, drop, map, length}
-use Rattle.smithy_router.specs.Seen.{segment_seen}
-use Rattle.smithy_router.specs.Tree.{Grows, Leads}
+use Rattle.smithy_router.proofs.Common.{◌<◌, drop, map, length, segment_seen, Grows, Leads}
 use Rattle.smithy_router.proofs.tree.node_behind.Given as goal
 
 abbrev pub invariant-loop-segment : goal.invariant-loop-segment

@@ -1,6 +1,5 @@
-use Rattle.std.proofs.Common.{◌∙◌, ap, map, string_bytes}
-use Rattle.smithy_router.specs.Seen.{route_seen, segment_seen}
-use Rattle.smithy_router.specs.Tree.{first_segments}
+use Rattle.std.proofs.Common.{string_bytes}
+use Rattle.smithy_router.proofs.Common.{◌∙◌, ap, map, route_seen, segment_seen, first_segments}
 use Rattle.smithy_router.proofs.Growing.{grows_through, behind_way}
 use Rattle.smithy_router.proofs.tree.node_for.Goals as goal
 

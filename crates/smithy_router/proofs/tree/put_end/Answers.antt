@@ -1,5 +1,4 @@
-use Rattle.std.proofs.Common.{refl}
-use Rattle.smithy_router.specs.Seen.{route_seen}
+use Rattle.smithy_router.proofs.Common.{refl, route_seen}
 use Rattle.smithy_router.proofs.Growing.{grows_through, end_added, end_not_added, read_at}
 use Rattle.smithy_router.proofs.tree.put_end.Goals as goal
 

@@ -12,7 +12,8 @@ invariant-loop-writes g l = record {
   can : (goal.iterator-loop-writes g).can_next l.writes-iterator;
   finite : (goal.iterator-loop-writes g).is_finite l.writes-iterator;
   defined : AllByRecursion (λ w. IfSome w (AreDefined l.nodes)) (into_iter_items l.writes-iterator);
+  beside : l.names.table ≡ l.self.common.model.table;
   lines : (is : Common) → IsOperation l.self is
-      → l.text.items ++ lines_with (answer_with (g.C.Codec.text l.protocol.codec) is) (map (writes_seen l.nodes) (into_iter_items l.writes-iterator))
+      → l.lines.items ++ lines_with (answer_with (g.C.Codec.text l.protocol.codec) is) (map (writes_seen l.nodes) (into_iter_items l.writes-iterator))
       ≡ lines_with (answer_with (g.C.Codec.text l.protocol.codec) is) (map (writes_seen l.nodes) l.fn.each.items);
 }

@@ -1,16 +1,9 @@
-use Rattle.smithy_wire.proofs.Common.{sym, ap, ◌∙◌, subst, Some}
-use Rattle.smithy_serde.specs.Held as held
-use Rattle.smithy_types.specs.Documents as doc
-use Rattle.smithy_document.proofs.PrintLemmas.{view-Object}
-use Rattle.smithy_wire.specs.views.WireOf.{form_in, names_in, GivesHeld}
-use Rattle.smithy_wire.proofs.JsonInLemmas.{empty_held, some_held}
+use Rattle.smithy_wire.proofs.Common.{Some, ap, ◌∙◌, inl}
+use Rattle.smithy_wire.specs.views.WireReads.{outcome_held}
 use Rattle.smithy_wire.proofs.wire_json.WireJson.document.Goals as goal
 
-pub returns-then-is_empty : goal.returns-then-is_empty
-returns-then-is_empty c =
-    empty_held (names_in c.args.self.now) (form_in c.args.self.now) c.args.body.now (sym c.is_empty.ensures ∙ c.if-is_empty.true)
-    ∙ ap (λ d. Some (held.document d)) (ap doc.object (sym c.new.ensures) ∙ sym (view-Object c.new.result))
+pub returns-in-Ok : goal.returns-in-Ok
+returns-in-Ok c = c.in_ok-document.ensures ∙ ap (λ r. Some (outcome_held r)) c.in-Ok.is
 
-pub returns : goal.returns
-returns c =
-    subst (λ h. GivesHeld h c.document_in.result) (sym (some_held (names_in c.args.self.now) (form_in c.args.self.now) c.args.body.now (sym c.is_empty.ensures ∙ c.if-is_empty.false))) c.document_in.ensures
+pub returns-in-Err : goal.returns-in-Err
+returns-in-Err c = inl (c.in_ok-document.ensures ∙ ap (λ r. Some (outcome_held r)) c.in-Err.is)

@@ -1,0 +1,6 @@
+// AWS's JSON protocols above the binding traits: what stands beside the body of their messages, and what they ask of a value.
+#![tactic(auto)]
+
+mod error_codes;
+
+pub use error_codes::error_code;

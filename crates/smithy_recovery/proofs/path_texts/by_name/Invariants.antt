@@ -1,9 +1,0 @@
-use Rattle.std.proofs.Common.{◌≡◌, ℕ, List, drop, map}
-use Rattle.std.specs.Option.{option_or}
-use Rattle.smithy_types.specs.Texts.{found}
-use Rattle.smithy_recovery.specs.views.Kept.{label_seen, text_under}
-use Rattle.smithy_recovery.proofs.path_texts.by_name.Given as goal
-
-abbrev pub invariant-loop-label : goal.invariant-loop-label
-invariant-loop-label l =
-    (name : List ℕ) → option_or (text_under l.texts name) (found name (map label_seen (drop l.label-index l.labels))) ≡ found name (map label_seen l.labels)

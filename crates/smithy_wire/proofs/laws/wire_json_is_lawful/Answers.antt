@@ -1,6 +1,0 @@
-use Rattle.smithy_wire.specs.views.FormView.{form_view}
-use Rattle.smithy_wire.proofs.TextLaws.{wire_is_lawful}
-use Rattle.smithy_wire.proofs.laws.wire_json_is_lawful.Goals as goal
-
-pub returns : goal.returns
-returns c = wire_is_lawful c.args._wire.now.json_names (form_view c.args._wire.now.form) c.args._wire.now.stand

@@ -1,0 +1,10 @@
+use Rattle.smithy_wire.proofs.Common.{ap}
+use Rattle.smithy_serde.specs.StoredValues.{writes_in}
+use Rattle.smithy_wire.specs.Misfits.{field_misfit}
+use Rattle.smithy_wire.proofs.MisfitWalks.{as_same}
+use Rattle.smithy_wire.proofs.misfit.check_whole.Goals as goal
+
+pub returns : goal.returns
+returns c =
+    let ws = writes_in c.args.table.now c.args.input.now in
+    c.answer.ensures _ (as_same c.test_fields.result _ _ (ap (λ f. field_misfit f ws) c.of.ensures) c.test_fields.ensures)
