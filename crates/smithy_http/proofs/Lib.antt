@@ -1,6 +1,7 @@
 pub mod SpellingLaws
 pub mod PutLemmas
 pub mod PlaceLemmas
+pub mod RisingLemmas
 pub mod HeaderValueLaws
 pub mod ValueLemmas
 pub mod ItemLemmas

@@ -61,7 +61,7 @@ other_way a b e = go (same_text b a) refl
         absurd (cc q)
 
 -- a new name behind names that stand once
-AreApart-push : (names : List (List ℕ)) (name : List ℕ) → AreApart names → place_of name names ≡ None → AreApart (names ++ name ∷ [])
+pub AreApart-push : (names : List (List ℕ)) (name : List ℕ) → AreApart names → place_of name names ≡ None → AreApart (names ++ name ∷ [])
 AreApart-push [] name apart none = (refl, tt)
 AreApart-push (n ∷ names) name apart none =
     let parts = none-cons (λ m. same_text m name) n names none in

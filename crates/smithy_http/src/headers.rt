@@ -26,19 +26,18 @@ use std::marker::Model;
 pub struct Headers {
     pairs: Vec<Pair>,
     // Kept from the seventeenth pair on, as long as no name stands twice.
-    places: Option<Places>,
+    places: Places,
 }
 
 impl Model for Headers {
     ghost use Rattle.std.specs.Prelude.{List, ℕ, map};
-    ghost use Rattle.std.specs.Option.{ForSome};
-    ghost use Rattle.smithy_http.specs.views.Pairs.{pair_of, name_of, IsIndex};
+    ghost use Rattle.smithy_http.specs.views.Pairs.{pair_of, name_of, ArePlaces};
 
     ghost Value = { List (List ℕ × List ℕ) };
 
     ghost view = { λ h. map pair_of h.pairs.items };
 
-    ghost invariant = { λ h. ForSome h.places (λ m. IsIndex m (map name_of h.pairs.items)) };
+    ghost invariant = { λ h. ArePlaces h.places (map name_of h.pairs.items) };
 }
 
 impl Headers {
@@ -48,7 +47,7 @@ impl Headers {
     {
         Headers {
             pairs: Vec::new(alloc),
-            places: None,
+            places: Places::Searched,
         }
     }
 
@@ -125,7 +124,8 @@ impl Headers {
     }
 
     /// The first value of the name, where it is UTF-8. Names are compared without ASCII case; among more than 16 pairs a
-    /// name in lower case is found without a search as long as no name stands twice and none was removed. Takes no memory.
+    /// name in lower case is looked up, by a map or by halving names that ascend, as long as no name stands twice and none
+    /// was removed. Takes no memory.
     pub fn get(&self, name: &str) -> Option<&str>
         ensures { option_copied result ≡ first_text (values_of_name name.now self.now) }
     {

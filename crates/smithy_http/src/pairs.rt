@@ -2,12 +2,11 @@
 ghost use Rattle.std.specs.Prelude.{◌≡◌, ◌∷◌, ◌++◌, [], map, position, string_bytes, false, true, ◌<◌, ◌↔◌, IfOk, IfErr, OnOk, OnErr, IsErrOf, MatchOption, vec_capacity, vec_len};
 ghost use Rattle.std.specs.Bool.{OnTrue};
 ghost use Rattle.std.specs.Cow.{cow_str_bytes};
-ghost use Rattle.std.specs.Option.{ForSome};
 ghost use Rattle.std.specs.Str.{str_to_ascii_lowercase};
 ghost use Rattle.smithy_types.specs.Grammars as grammar;
 ghost use Rattle.smithy_types.specs.Texts.{same_text};
 ghost use Rattle.smithy_http.specs.Headers.{field, put, without};
-ghost use Rattle.smithy_http.specs.views.Pairs.{pair_of, name_of, shown, values_among, is_named, named_otherwise, place_of as place_of_name, AreApart, IsIndex, TakesFirst, Claims};
+ghost use Rattle.smithy_http.specs.views.Pairs.{pair_of, name_of, shown, values_among, is_named, named_otherwise, place_of as place_of_name, AreApart, IsBehind, Rise, RiseTo, IsIndex, ArePlaces, TakesFirst, GetsPlace, Claims};
 ghost use Rattle.smithy_http.specs.Refusals.{HasUnfitValue, IsPairRefusal};
 
 use crate::error::HttpError;
@@ -24,9 +23,20 @@ pub(crate) struct Pair {
 }
 
 // The place of each name.
-pub(crate) type Places = BTreeMap<String, usize>;
+type PlaceMap = BTreeMap<String, usize>;
 
-// So many pairs have no map of their places: to search through them costs less than to copy each name into a map.
+// What is kept of the places of names.
+#[derive(Drop)]
+pub(crate) enum Places {
+    // Nothing: names are searched for.
+    Searched,
+    // How many names from the first one on rise in byte order, so that a search halves them. None of all stands twice.
+    Rising(usize),
+    // The place of each name. None stands twice.
+    Mapped(PlaceMap),
+}
+
+// Through so many pairs a name is searched: that costs less than to copy each name into a map.
 const FEW_PAIRS: usize = 16;
 
 // Room for so many pairs is made with the first.
@@ -118,14 +128,37 @@ fn first_place(pairs: &[Pair], name: &str) -> Option<usize>
     pairs.iter().position(|pair| pair.name.as_str() == name)
 }
 
+// The place of a name among pairs whose names rise.
+fn halved_place(pairs: &[Pair], name: &str) -> Option<usize>
+    requires { Rise (map name_of pairs.now) }
+    ensures { result ≡ position (is_named name.now) pairs.now }
+{
+    match pairs.binary_search_by(|pair| pair.name.as_str().cmp(name)) {
+        Ok(place) => Some(place),
+        Err(_) => None,
+    }
+}
+
+// The first place of a name where so many names rise: those are halved, and the others searched.
+fn rising_place(pairs: &[Pair], count: usize, name: &str) -> Option<usize>
+    requires { RiseTo count (map name_of pairs.now) }
+    ensures { result ≡ position (is_named name.now) pairs.now }
+{
+    match halved_place(&pairs[..count], name) {
+        Some(place) => Some(place),
+        None => Some(count + first_place(&pairs[count..], name)?),
+    }
+}
+
 // The first place of a name.
-fn place_of(pairs: &[Pair], places: &Option<Places>, name: &str) -> Option<usize>
-    requires { ForSome places.now (λ m. IsIndex m (map name_of pairs.now)) }
+fn place_of(pairs: &[Pair], places: &Places, name: &str) -> Option<usize>
+    requires { ArePlaces places.now (map name_of pairs.now) }
     ensures { result ≡ position (is_named name.now) pairs.now }
 {
     match places {
-        Some(places) => places.get(name).copied(),
-        None => first_place(pairs, name),
+        Places::Searched => first_place(pairs, name),
+        Places::Rising(count) => rising_place(pairs, *count, name),
+        Places::Mapped(places) => places.get(name).copied(),
     }
 }
 
@@ -166,9 +199,9 @@ fn first_place_of(pairs: &[Pair], name: &str) -> Option<usize>
         .position(|pair| is_lower_of(pair.name.as_str(), name))
 }
 
-// The first place of a name in any case. There is no search where places are kept and no letter is a capital one.
-fn find(pairs: &[Pair], places: &Option<Places>, name: &str) -> Option<usize>
-    requires { ForSome places.now (λ m. IsIndex m (map name_of pairs.now)) }
+// The first place of a name in any case. What is kept of places serves where no letter is a capital one.
+fn find(pairs: &[Pair], places: &Places, name: &str) -> Option<usize>
+    requires { ArePlaces places.now (map name_of pairs.now) }
     ensures { result ≡ position (is_named (str_to_ascii_lowercase name.now)) pairs.now }
 {
     if is_in_lower_case(name) {
@@ -178,16 +211,17 @@ fn find(pairs: &[Pair], places: &Option<Places>, name: &str) -> Option<usize>
 }
 
 // The part with the pairs of a name: the one pair, where each name stands once, or all from the first on.
-pub(crate) fn named_part<'p>(pairs: &'p [Pair], places: &Option<Places>, name: &str) -> &'p [Pair]
-    requires { ForSome places.now (λ m. IsIndex m (map name_of pairs.now)) }
+pub(crate) fn named_part<'p>(pairs: &'p [Pair], places: &Places, name: &str) -> &'p [Pair]
+    requires { ArePlaces places.now (map name_of pairs.now) }
     ensures { values_among name.now result.now ≡ values_among name.now pairs.now }
 {
     let Some(place) = find(pairs, places, name) else {
         return &[];
     };
     match places {
-        Some(_) => &pairs[place..=place],
-        None => &pairs[place..],
+        Places::Searched => &pairs[place..],
+        Places::Rising(_) => &pairs[place..=place],
+        Places::Mapped(_) => &pairs[place..=place],
     }
 }
 
@@ -195,7 +229,7 @@ pub(crate) fn named_part<'p>(pairs: &'p [Pair], places: &Option<Places>, name: &
 pub(crate) fn next_value<'p>(pairs: &'p [Pair], name: &str) -> Option<(&'p [u8], &'p [Pair])>
     ensures { TakesFirst name.now pairs.now result }
 {
-    let place = find(pairs, &None, name)?;
+    let place = find(pairs, &Places::Searched, name)?;
     Some((pairs[place].value.as_slice(), &pairs[place + 1..]))
 }
 
@@ -208,16 +242,16 @@ fn drop_all_named(pairs: &mut Vec<Pair>, name: &str)
 
 // Drops the pairs of a name in any case, where it stands. That ends the keeping of places.
 #[tactic(auto, using(crate::proofs::PutLemmas::removing))]
-pub(crate) fn remove_named(pairs: &mut Vec<Pair>, places: &mut Option<Places>, name: &str)
-    requires { ForSome places.old (λ m. IsIndex m (map name_of pairs.old.items)) }
+pub(crate) fn remove_named(pairs: &mut Vec<Pair>, places: &mut Places, name: &str)
+    requires { ArePlaces places.old (map name_of pairs.old.items) }
     ensures pairs { shown pairs.new.items ≡ without (str_to_ascii_lowercase name.now) (shown pairs.old.items) }
-    ensures index { ForSome places.new (λ m. IsIndex m (map name_of pairs.new.items)) }
+    ensures index { ArePlaces places.new (map name_of pairs.new.items) }
 {
     match find(pairs, places, name) {
         None => {}
         Some(_) => {
             drop_all_named(pairs, name);
-            *places = None;
+            *places = Places::Searched;
         }
     }
 }
@@ -262,20 +296,20 @@ fn set_value(pairs: &mut Vec<Pair>, place: usize, pair: Pair)
 }
 
 // Puts the pair at the first place of its name.
-fn put_at(pairs: &mut Vec<Pair>, places: &Option<Places>, place: usize, pair: Pair)
-    requires index { ForSome places.now (λ m. IsIndex m (map name_of pairs.old.items)) }
+fn put_at(pairs: &mut Vec<Pair>, places: &Places, place: usize, pair: Pair)
+    requires index { ArePlaces places.now (map name_of pairs.old.items) }
     requires found { position (is_named (name_of pair)) pairs.old.items ≡ Some place }
     ensures value { shown pairs.new.items ≡ put (shown pairs.old.items) (pair_of pair) }
-    ensures index { ForSome places.now (λ m. IsIndex m (map name_of pairs.new.items)) }
+    ensures index { ArePlaces places.now (map name_of pairs.new.items) }
 {
     match places {
-        Some(_) => set_value(pairs, place, pair),
-        None => replace(pairs, place, pair),
+        Places::Searched => replace(pairs, place, pair),
+        Places::Rising(_) | Places::Mapped(_) => set_value(pairs, place, pair),
     }
 }
 
 // Adds the place of a new name, which goes last.
-fn insert_place(places: &mut Places, pairs: &[Pair], name: String) -> Result<(), OutOfMemory>
+fn insert_place(places: &mut PlaceMap, pairs: &[Pair], name: String) -> Result<(), OutOfMemory>
     requires new { place_of_name (string_bytes name) (map name_of pairs.now) ≡ None }
     requires index { IsIndex places.old (map name_of pairs.now) }
     ensures ok { OnOk result (IsIndex places.new (map name_of pairs.now ++ string_bytes name ∷ [])) }
@@ -286,52 +320,91 @@ fn insert_place(places: &mut Places, pairs: &[Pair], name: String) -> Result<(),
 }
 
 // The place of each name, where none stands twice.
-fn indexed(alloc: Global, pairs: &[Pair]) -> Result<Option<Places>, OutOfMemory>
-    ensures { IfOk result (λ places. ForSome places (λ m. IsIndex m (map name_of pairs.now))) }
+fn mapped(alloc: Global, pairs: &[Pair]) -> Result<Places, OutOfMemory>
+    ensures { IfOk result (λ places. ArePlaces places (map name_of pairs.now)) }
 {
     let mut places = BTreeMap::new(alloc);
     for (place, pair) in pairs.iter().enumerate() {
         let name = pair.name.as_str();
         if places.get(name).is_some() {
-            return Ok(None);
+            return Ok(Places::Searched);
         }
         insert_place(&mut places, &pairs[..place], String::from_str(alloc, name)?)?;
     }
-    Ok(Some(places))
+    Ok(Places::Mapped(places))
+}
+
+// Whether a name stands behind the last of names that rise, and so behind each, in byte order.
+fn is_behind(pairs: &[Pair], name: &str) -> bool
+    requires { Rise (map name_of pairs.now) }
+    ensures { OnTrue result (IsBehind name.now (map name_of pairs.now)) }
+{
+    match pairs.last() {
+        Some(last) => last.name.as_str().cmp(name).is_lt(),
+        None => true,
+    }
+}
+
+// Whether all names rise.
+fn all_rise(pairs: &[Pair]) -> bool
+    ensures { OnTrue result (Rise (map name_of pairs.now)) }
+{
+    for (place, pair) in pairs.iter().enumerate() {
+        if !is_behind(&pairs[..place], pair.name.as_str()) {
+            return false;
+        }
+    }
+    true
+}
+
+// What is kept of the places of many pairs: no map where all names rise, as those of a map behind a prefix do.
+fn kept(alloc: Global, pairs: &[Pair]) -> Result<Places, OutOfMemory>
+    ensures { IfOk result (λ places. ArePlaces places (map name_of pairs.now)) }
+{
+    if all_rise(pairs) {
+        return Ok(Places::Rising(pairs.len()));
+    }
+    mapped(alloc, pairs)
 }
 
 // Begins to keep places once there are few pairs no longer. That is tried at one number of pairs alone, so that where a
-// name stands twice, it isn't tried at each further pair.
-fn keep_places(
-    alloc: Global,
-    places: &mut Option<Places>,
-    pairs: &[Pair],
-) -> Result<(), OutOfMemory>
-    requires { ForSome places.old (λ m. IsIndex m (map name_of pairs.now)) }
-    ensures { ForSome places.new (λ m. IsIndex m (map name_of pairs.now)) }
+// name stands twice, it isn't tried at each further pair. Few names behind those that rise are searched, more make a map.
+fn keep_places(alloc: Global, places: &mut Places, pairs: &[Pair]) -> Result<(), OutOfMemory>
+    requires { ArePlaces places.old (map name_of pairs.now) }
+    ensures { ArePlaces places.new (map name_of pairs.now) }
 {
-    if pairs.len() == FEW_PAIRS && places.is_none() {
-        *places = indexed(alloc, pairs)?;
+    match places {
+        Places::Searched => {
+            if pairs.len() == FEW_PAIRS {
+                *places = kept(alloc, pairs)?;
+            }
+        }
+        Places::Rising(count) => {
+            if pairs.len() - *count == FEW_PAIRS {
+                *places = mapped(alloc, pairs)?;
+            }
+        }
+        Places::Mapped(_) => {}
     }
     Ok(())
 }
 
 // Makes room for one more pair.
 #[inline(always)]
-fn make_room(pairs: &mut Vec<Pair>, places: &mut Option<Places>) -> Result<(), OutOfMemory>
-    requires { ForSome places.old (λ m. IsIndex m (map name_of pairs.old.items)) }
+fn make_room(pairs: &mut Vec<Pair>, places: &mut Places) -> Result<(), OutOfMemory>
+    requires { ArePlaces places.old (map name_of pairs.old.items) }
     ensures items { pairs.new.items ≡ pairs.old.items }
     ensures room { OnOk result (vec_len pairs.new < vec_capacity pairs.new) }
-    ensures index { ForSome places.new (λ m. IsIndex m (map name_of pairs.new.items)) }
+    ensures index { ArePlaces places.new (map name_of pairs.new.items) }
 {
     pairs.reserve(if pairs.is_empty() { FIRST_ROOM } else { 1 })?;
     keep_places(*pairs.allocator(), places, pairs)
 }
 
 // The place of a name. A new name gets the one behind the pairs.
-fn claim_place(
+fn claim_mapped(
     alloc: Global,
-    places: &mut Places,
+    places: &mut PlaceMap,
     pairs: &[Pair],
     name: &str,
 ) -> Result<Option<usize>, OutOfMemory>
@@ -347,20 +420,33 @@ fn claim_place(
     }
 }
 
-// The same where places may not be kept.
+// The same where names rise: a new one is one more of those if they are all, and it stands behind them.
+fn claim_rising(count: &mut usize, pairs: &[Pair], name: &str) -> Option<usize>
+    requires { RiseTo count.old (map name_of pairs.now) }
+    ensures { GetsPlace name.now pairs.now (RiseTo count.new) result }
+{
+    if *count == pairs.len() && is_behind(pairs, name) {
+        *count = pairs.len() + 1;
+        return None;
+    }
+    rising_place(pairs, *count, name)
+}
+
+// The same whatever is kept of places.
 #[inline(always)]
 fn claim(
     alloc: Global,
-    places: &mut Option<Places>,
+    places: &mut Places,
     pairs: &[Pair],
     name: &str,
 ) -> Result<Option<usize>, OutOfMemory>
-    requires { ForSome places.old (λ m. IsIndex m (map name_of pairs.now)) }
-    ensures { Claims name.now pairs.now (λ names. ForSome places.new (λ m. IsIndex m names)) result }
+    requires { ArePlaces places.old (map name_of pairs.now) }
+    ensures { Claims name.now pairs.now (ArePlaces places.new) result }
 {
     match places {
-        Some(places) => claim_place(alloc, places, pairs, name),
-        None => Ok(first_place(pairs, name)),
+        Places::Searched => Ok(first_place(pairs, name)),
+        Places::Rising(count) => Ok(claim_rising(count, pairs, name)),
+        Places::Mapped(places) => claim_mapped(alloc, places, pairs, name),
     }
 }
 
@@ -368,14 +454,14 @@ fn claim(
 #[tactic(auto, using(crate::proofs::PutLemmas::putting))]
 pub(crate) fn put_pair(
     pairs: &mut Vec<Pair>,
-    places: &mut Option<Places>,
+    places: &mut Places,
     pair: Pair,
 ) -> Result<(), OutOfMemory>
-    requires { ForSome places.old (λ m. IsIndex m (map name_of pairs.old.items)) }
+    requires { ArePlaces places.old (map name_of pairs.old.items) }
     ensures ok { OnOk result
         (shown pairs.new.items ≡ put (shown pairs.old.items) (pair_of pair)) }
     ensures err { OnErr result (shown pairs.new.items ≡ shown pairs.old.items) }
-    ensures index { ForSome places.new (λ m. IsIndex m (map name_of pairs.new.items)) }
+    ensures index { ArePlaces places.new (map name_of pairs.new.items) }
 {
     make_room(pairs, places)?;
     match claim(*pairs.allocator(), places, pairs, pair.name.as_str())? {
@@ -388,18 +474,18 @@ pub(crate) fn put_pair(
 // Adds the pair at the end. A name that stands already ends the keeping of places.
 pub(crate) fn add_pair(
     pairs: &mut Vec<Pair>,
-    places: &mut Option<Places>,
+    places: &mut Places,
     pair: Pair,
 ) -> Result<(), OutOfMemory>
-    requires { ForSome places.old (λ m. IsIndex m (map name_of pairs.old.items)) }
+    requires { ArePlaces places.old (map name_of pairs.old.items) }
     ensures ok { OnOk result (pairs.new.items ≡ pairs.old.items ++ pair ∷ []) }
     ensures err { OnErr result (pairs.new.items ≡ pairs.old.items) }
-    ensures index { ForSome places.new (λ m. IsIndex m (map name_of pairs.new.items)) }
+    ensures index { ArePlaces places.new (map name_of pairs.new.items) }
 {
     make_room(pairs, places)?;
     match claim(*pairs.allocator(), places, pairs, pair.name.as_str())? {
         None => {}
-        Some(_) => *places = None,
+        Some(_) => *places = Places::Searched,
     }
     pairs.push_reserved(pair);
     Ok(())

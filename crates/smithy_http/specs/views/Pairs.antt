@@ -1,10 +1,17 @@
--- How headers are kept: as pairs, with the place of each name as long as each stands once.
-use Rattle.std.specs.Prelude.{◌≡◌, ℕ, Bool, not, List, [], ◌∷◌, ◌++◌, Option, Some, None, Result, Ok, Err, filter, map, position, String, string_bytes, MatchOption}
+-- How headers are kept: as pairs, with what is known of the places of names as long as each stands once.
+use Rattle.std.specs.Prelude.{◌≡◌, ◌≤◌, ℕ, length, take, Bool, not, List, [], ◌∷◌, ◌++◌, Option, Some, None, Result, Ok, Err, filter, map, position, String, string_bytes, MatchOption}
 use Rattle.std.specs.Borrow.{Bor}
 use Rattle.std.specs.Global.{Global}
 use Rattle.std.specs.BTreeMap.{BTreeMap, get_by_text}
+use Rattle.std.specs.Cmp.Lexicographic.{slice_cmp}
+use Rattle.std.specs.List.{AllByRecursion}
+use Rattle.std.specs.List.Sorted.{IsStrictlySortedBy}
+use Rattle.std.specs.Ordering.{nat_cmp}
+use Rattle.std.specs.declared.cmp.Ordering.TheVariants.{Less}
 use Rattle.smithy_types.specs.Texts.{same_text}
 use Rattle.smithy_http.specs.declared.pairs.Pair.{Pair}
+use Rattle.smithy_http.specs.declared.pairs.Places.{Places}
+use Rattle.smithy_http.specs.declared.pairs.Places.TheVariants as kept
 use Rattle.smithy_http.specs.Facts.{values_of_name}
 
 -- the name and the value
@@ -50,8 +57,32 @@ pub record IsIndex (places : BTreeMap (String Global) ℕ) (names : List (List �
   pub at : (name : List ℕ) → get_by_text places name ≡ place_of name names
   pub apart : AreApart names
 
--- the place of a name is told; a new name has got the one behind the pairs, and the index is of the names with it
+-- each name stands before those behind it in byte order
+abbrev pub Rise : List (List ℕ) → Type 0
+Rise names = IsStrictlySortedBy (slice_cmp nat_cmp) names
+
+-- the name stands behind each of these in byte order
+abbrev pub IsBehind : List ℕ → List (List ℕ) → Type 0
+IsBehind name names = AllByRecursion (λ n. slice_cmp nat_cmp n name ≡ Less) names
+
+-- so many names from the first one on rise, and of all each stands once
+pub record RiseTo (count : ℕ) (names : List (List ℕ)) : Type 0 where
+  pub within : count ≤ length names
+  pub rise : Rise (take count names)
+  pub apart : AreApart names
+
+-- what is kept of the places of names holds
+abbrev pub ArePlaces : Places → List (List ℕ) → Type 0
+ArePlaces kept.Searched names = Unit {0}
+ArePlaces (kept.Rising count) names = RiseTo count names
+ArePlaces (kept.Mapped places) names = IsIndex places names
+
+-- the place of a name is told; a new name has got the one behind the pairs, and what is kept is of the names with it
+abbrev pub GetsPlace : List ℕ → List Pair → (List (List ℕ) → Type 0) → Option ℕ → Type 0
+GetsPlace name pairs Keeps None = (position (is_named name) pairs ≡ None) × Keeps (map name_of pairs ++ name ∷ [])
+GetsPlace name pairs Keeps (Some place) = (position (is_named name) pairs ≡ Some place) × Keeps (map name_of pairs)
+
+-- the same, where it may be refused
 abbrev pub Claims : {E : Type 0} → List ℕ → List Pair → (List (List ℕ) → Type 0) → Result (Option ℕ) E → Type 0
-Claims name pairs IsIndexed (Ok None) = (position (is_named name) pairs ≡ None) × IsIndexed (map name_of pairs ++ name ∷ [])
-Claims name pairs IsIndexed (Ok (Some place)) = (position (is_named name) pairs ≡ Some place) × IsIndexed (map name_of pairs)
-Claims name pairs IsIndexed (Err e) = IsIndexed (map name_of pairs)
+Claims name pairs Keeps (Ok place) = GetsPlace name pairs Keeps place
+Claims name pairs Keeps (Err e) = Keeps (map name_of pairs)

@@ -1,7 +1,7 @@
 use Rattle.std.proofs.Common.{arith}
 use Rattle.std.specs.BTreeMap.Entry.{map_with_value}
 use Rattle.smithy_http.proofs.PlaceLemmas.{claimed-old, claimed-new}
-use Rattle.smithy_http.proofs.pairs.claim_place.Goals as goal
+use Rattle.smithy_http.proofs.pairs.claim_mapped.Goals as goal
 
 pub returns-then-place-pairs : goal.returns-then-place-pairs
 returns-then-place-pairs c =
