@@ -1,10 +1,10 @@
 -- The best one of the entries that a target leads to is the best one of the list.
 use Prim.Native.Nat.{zero}
-use Rattle.smithy_router.proofs.Common.{◌≡◌, refl, sym, ◌∙◌, ap, subst, ℕ, suc, arith, Bool, true, false, List, [], ◌∷◌, ◌++◌, ◌&&◌, ◌==◌, Option, Some, None, slice_get, map, option_map, option_and_then, length, ◌<◌, ◌⊎◌, inl, inr, IsTrue, if◌then◌else◌, nat_eq, codes, option_map_or, slice_get-map, slice_get_within, AllByRecursion, Contains, starts_with, slice_split, before_first, range_with_len, and_parts, same_text, is_question_mark, query_pieces, Literal, Hole, segments_of, fits_path, fits_query, Route, IsRoute, matches, fits_target, Beats, Conflicts, beats, Entry, AreApart, NoneMatches, IsBest, IsBestOf, preferred, better, SomeIsBest, better_of, best_of, entry_seen, child_of, ends_of, child_at, led_to, EndsAt, IsIndexed, Node}
+use Rattle.smithy_router.proofs.Common.{◌≡◌, refl, sym, ◌∙◌, ap, subst, ℕ, suc, arith, Bool, true, false, List, [], ◌∷◌, ◌++◌, ◌==◌, Option, Some, None, slice_get, map, option_map, option_and_then, length, ◌<◌, ◌⊎◌, inl, inr, IsTrue, if◌then◌else◌, nat_eq, codes, option_map_or, slice_get-map, slice_get_within, AllByRecursion, Contains, starts_with, slice_split, before_first, range_with_len, and_parts, same_text, is_question_mark, query_pieces, Literal, Hole, segments_of, fits_path, fits_query, Route, IsRoute, matches, fits_target, Beats, Conflicts, beats, Entry, AreApart, NoneMatches, IsBest, IsBestOf, preferred, better, SomeIsBest, better_of, best_of, entry_seen, child_of, ends_of, child_at, led_to, EndsAt, IsIndexed, Node}
 use Rattle.std.proofs.lemmas.List.FromFn.{length-range_with_len, get_or-range_with_len}
 use Rattle.smithy_router.specs.declared.route.StoredEntry.{StoredEntry}
 use Rattle.smithy_router.proofs.Tests.{same_text_is}
-use Rattle.smithy_router.proofs.Ranks.{beats_holds, beats_found}
+use Rattle.smithy_router.proofs.Ranks.{beats_holds, beats_found, three}
 use Rattle.smithy_router.proofs.Growing.{contains_none}
 use Rattle.smithy_router.proofs.Leading.{leads_to}
 use Rattle.smithy_router.proofs.Cuts.{fits_none}
@@ -44,33 +44,6 @@ abbrev IsOneOf : List ℕ → List ℕ → List Entry → Option Entry → Type 
 IsOneOf method target entries None = Unit {0}
 IsOneOf method target entries (Some b) = IsOne method target entries b
 
-one_better : (method target : List ℕ) (entries : List Entry) (best : Option Entry) (number : ℕ) (e : Entry) → slice_get entries number ≡ Some e
-    → IsOneOf method target entries best → IsOneOf method target entries (better method target best e)
-one_better method target entries best number e is h = go (matches e.route method target) refl best h
-  where
-    new : matches e.route method target ≡ true → IsOne method target entries e
-    new m = record { number = number; stands = is; matched = m }
-
-    fight : (b : Entry) (t : Bool) → matches e.route method target ≡ true → IsOne method target entries b → IsOneOf method target entries (if t then Some e else Some b)
-    fight b true m h = new m
-    fight b false m h = h
-
-    go : (t : Bool) → matches e.route method target ≡ t → (best : Option Entry) → IsOneOf method target entries best → IsOneOf method target entries (if t then preferred best e else best)
-    go false m best h = h
-    go true m None h = new m
-    go true m (Some b) h = fight b (beats e.route b.route) m h
-
-one_of : (method target : List ℕ) (entries : List Entry) (best : Option Entry) (number : ℕ) → IsOneOf method target entries best → IsOneOf method target entries (better_of method target entries best number)
-one_of method target entries best number h = go (slice_get entries number) refl
-  where
-    go : (o : Option Entry) → slice_get entries number ≡ o → IsOneOf method target entries (option_map_or (λ e. better method target best e) o best)
-    go None is = h
-    go (Some e) is = one_better method target entries best number e is h
-
-one_kept : (method target : List ℕ) (entries : List Entry) (ns : List ℕ) (best : Option Entry) → IsOneOf method target entries best → IsOneOf method target entries (best_of method target entries best ns)
-one_kept method target entries [] best h = h
-one_kept method target entries (n ∷ ns) best h = one_kept method target entries ns (better_of method target entries best n) (one_of method target entries best n h)
-
 -- there is a best one, and a route does not beat it
 abbrev LosesTo : Route → Option Entry → Type 0
 LosesTo route None = ⊥
@@ -79,59 +52,67 @@ LosesTo route (Some b) = ¬ (Beats route b.route)
 beats_self : (a : Route) → ¬ (Beats a a)
 beats_self a h = h.not_back h.within
 
-pub beats_through : (a b c : Route) → Beats a b → Beats b c → Beats a c
+beats_through : (a b c : Route) → Beats a b → Beats b c → Beats a c
 beats_through a b c ab bc = record {
   within = λ method target m. bc.within method target (ab.within method target m);
   not_back = λ h. ab.not_back (λ method target m. h method target (bc.within method target m));
 }
 
--- an entry that is looked at loses to the best one
-loses_here : (method target : List ℕ) (entries : List Entry) (best : Option Entry) (e : Entry) → AreRoutes entries → IsRoute e.route
-    → IsTrue (matches e.route method target) → IsOneOf method target entries best → LosesTo e.route (better method target best e)
-loses_here method target entries best e routes route m h = subst (λ (t : Bool). LosesTo e.route (if t then preferred best e else best)) (sym m) (go best h)
-  where
-    fight : (b : Entry) (t : Bool) → beats e.route b.route ≡ t → IsOne method target entries b → LosesTo e.route (if t then Some e else Some b)
-    fight b true w h = beats_self e.route
-    fight b false l h = λ beaten. (let no : true ≡ false = sym (beats_found e.route b.route route (routes h.number b h.stands) beaten) ∙ l in cc no)
+module _ (method target : List ℕ) (entries : List Entry) (routes : AreRoutes entries) where
+  -- a best one that takes the place of another: what loses to the old one loses to the new one
+  abbrev Follows : Option Entry → Option Entry → Type 0
+  Follows old new = IsOneOf method target entries new × ((route : Route) → LosesTo route old → LosesTo route new)
 
-    go : (best : Option Entry) → IsOneOf method target entries best → LosesTo e.route (preferred best e)
-    go None h = beats_self e.route
-    go (Some b) h = fight b (beats e.route b.route) refl h
+  -- the better one follows the best one so far, and an entry that is looked at loses to it
+  better_follows : (best : Option Entry) (number : ℕ) (e : Entry) → slice_get entries number ≡ Some e → IsOneOf method target entries best
+      → Follows best (better method target best e) × (IsTrue (matches e.route method target) → LosesTo e.route (better method target best e))
+  better_follows best number e is h = go (matches e.route method target) refl best h
+    where
+      new : matches e.route method target ≡ true → IsOne method target entries e
+      new m = record { number = number; stands = is; matched = m }
 
--- and to each better one
-loses_still : (method target : List ℕ) (entries : List Entry) (route : Route) (best : Option Entry) (e : Entry) → AreRoutes entries → IsRoute e.route
-    → IsOneOf method target entries best → LosesTo route best → LosesTo route (better method target best e)
-loses_still method target entries route None e routes is_route h lost = absurd lost
-loses_still method target entries route (Some b) e routes is_route h lost = go (matches e.route method target)
-  where
-    fight : (t : Bool) → beats e.route b.route ≡ t → LosesTo route (if t then Some e else Some b)
-    fight true w = λ beaten. lost (beats_through route e.route b.route beaten (beats_holds e.route b.route is_route (routes h.number b h.stands) w))
-    fight false l = lost
+      fight : (b : Entry) (t : Bool) → beats e.route b.route ≡ t → matches e.route method target ≡ true → IsOne method target entries b
+          → Follows (Some b) (if t then Some e else Some b) × (IsTrue (matches e.route method target) → LosesTo e.route (if t then Some e else Some b))
+      fight b true w m h =
+          ((new m, λ route lost beaten. lost (beats_through route e.route b.route beaten (beats_holds e.route b.route (routes number e is) (routes h.number b h.stands) w))), λ n. beats_self e.route)
+      fight b false l m h =
+          ((h, λ route lost. lost), λ n beaten. (let no : true ≡ false = sym (beats_found e.route b.route (routes number e is) (routes h.number b h.stands) beaten) ∙ l in cc no))
 
-    go : (t : Bool) → LosesTo route (if t then preferred (Some b) e else Some b)
-    go true = fight (beats e.route b.route) refl
-    go false = lost
+      go : (t : Bool) → matches e.route method target ≡ t → (best : Option Entry) → IsOneOf method target entries best
+          → Follows best (if t then preferred best e else best) × (IsTrue (matches e.route method target) → LosesTo e.route (if t then preferred best e else best))
+      go false m best h = ((h, λ route lost. lost), λ n. (let no : true ≡ false = sym n ∙ m in absurd (cc no)))
+      go true m None h = ((new m, λ route lost. absurd lost), λ n. beats_self e.route)
+      go true m (Some b) h = fight b (beats e.route b.route) refl m h
 
-loses_on : (method target : List ℕ) (entries : List Entry) (route : Route) (ns : List ℕ) (best : Option Entry) → AreRoutes entries
-    → IsOneOf method target entries best → LosesTo route best → LosesTo route (best_of method target entries best ns)
-loses_on method target entries route [] best routes h lost = lost
-loses_on method target entries route (n ∷ ns) best routes h lost =
-    loses_on method target entries route ns (better_of method target entries best n) routes (one_of method target entries best n h) (go (slice_get entries n) refl)
-  where
-    go : (o : Option Entry) → slice_get entries n ≡ o → LosesTo route (option_map_or (λ e. better method target best e) o best)
-    go None is = lost
-    go (Some e) is = loses_still method target entries route best e routes (routes n e is) h lost
+  number_follows : (best : Option Entry) (number : ℕ) → IsOneOf method target entries best
+      → Follows best (better_of method target entries best number)
+      × ((e : Entry) → slice_get entries number ≡ Some e → IsTrue (matches e.route method target) → LosesTo e.route (better_of method target entries best number))
+  number_follows best number h = go (slice_get entries number) refl
+    where
+      go : (o : Option Entry) → slice_get entries number ≡ o
+          → Follows best (option_map_or (λ e. better method target best e) o best)
+          × ((e : Entry) → o ≡ Some e → IsTrue (matches e.route method target) → LosesTo e.route (option_map_or (λ e. better method target best e) o best))
+      go None is = ((h, λ route lost. lost), λ e at. absurd (cc at))
+      go (Some x) is =
+          let won = better_follows best number x is h in
+          (won.0, λ e at. (let same : x ≡ e = cc at in subst (λ (y : Entry). IsTrue (matches y.route method target) → LosesTo y.route (better method target best x)) same won.1))
 
--- each entry that matches loses to the best one of the numbers that have its own
-loses : (method target : List ℕ) (entries : List Entry) (ns : List ℕ) (best : Option Entry) (number : ℕ) (e : Entry) → AreRoutes entries → IsOneOf method target entries best
-    → slice_get entries number ≡ Some e → IsTrue (matches e.route method target) → Contains ns number → LosesTo e.route (best_of method target entries best ns)
-loses method target entries [] best number e routes h is m among = contains_none number among
-loses method target entries (n ∷ ns) best number e routes h is m (zero, _, same) =
-    loses_on method target entries e.route ns (better_of method target entries best n) routes (one_of method target entries best n h)
-    (subst (λ (o : Option Entry). LosesTo e.route (option_map_or (λ x. better method target best x) o best)) (sym (ap (slice_get entries) same ∙ is))
-    (loses_here method target entries best e routes (routes number e is) m h))
-loses method target entries (n ∷ ns) best number e routes h is m (suc k, l, same) =
-    loses method target entries ns (better_of method target entries best n) number e routes (one_of method target entries best n h) is m (k, omega (arith, l), same)
+  numbers_follow : (ns : List ℕ) (best : Option Entry) → IsOneOf method target entries best → Follows best (best_of method target entries best ns)
+  numbers_follow [] best h = (h, λ route lost. lost)
+  numbers_follow (n ∷ ns) best h =
+      let here = (number_follows best n h).0 in
+      let rest = numbers_follow ns (better_of method target entries best n) here.0 in
+      (rest.0, λ route lost. rest.1 route (here.1 route lost))
+
+  -- each entry that matches loses to the best one of the numbers that have its own
+  loses : (ns : List ℕ) (best : Option Entry) (number : ℕ) (e : Entry) → IsOneOf method target entries best → slice_get entries number ≡ Some e → IsTrue (matches e.route method target) → Contains ns number
+      → LosesTo e.route (best_of method target entries best ns)
+  loses [] best number e h is m among = contains_none number among
+  loses (n ∷ ns) best number e h is m (zero, _, same) =
+      let here = number_follows best n h in
+      (numbers_follow ns (better_of method target entries best n) here.0.0).1 e.route (here.1 e (ap (slice_get entries) same ∙ is) m)
+  loses (n ∷ ns) best number e h is m (suc k, l, same) =
+      loses ns (better_of method target entries best n) number e (number_follows best n h).0.0 is m (k, omega (arith, l), same)
 
 conflicts_back : (a b : Route) → Conflicts a b → Conflicts b a
 conflicts_back a b h = record {
@@ -198,10 +179,10 @@ is_best method target (x ∷ entries) (suc number) b apart is m all =
 pub best_is : (method target : List ℕ) (entries : List Entry) (ns : List ℕ) → AreApart entries
     → ((number : ℕ) (e : Entry) → slice_get entries number ≡ Some e → IsTrue (matches e.route method target) → Contains ns number)
     → IsBestOf method target entries (best_of method target entries None ns)
-best_is method target entries ns apart among = go (best_of method target entries None ns) (one_kept method target entries ns None tt) lost
+best_is method target entries ns apart among = go (best_of method target entries None ns) (numbers_follow method target entries (routes_in entries apart) ns None tt).0 lost
   where
     lost : (number : ℕ) (e : Entry) → slice_get entries number ≡ Some e → IsTrue (matches e.route method target) → LosesTo e.route (best_of method target entries None ns)
-    lost number e is m = loses method target entries ns None number e (routes_in entries apart) tt is m (among number e is m)
+    lost number e is m = loses method target entries (routes_in entries apart) ns None number e tt is m (among number e is m)
 
     go : (best : Option Entry) → IsOneOf method target entries best
         → ((number : ℕ) (e : Entry) → slice_get entries number ≡ Some e → IsTrue (matches e.route method target) → LosesTo e.route best) → IsBestOf method target entries best
@@ -223,17 +204,12 @@ some_is_best method target entries apart =
     go None none = inl none
     go (Some e) best = inr (e, best)
 
-middle : (a b c : Bool) → (a && b && c) ≡ true → b ≡ true
-middle a true c h = refl
-middle true false c h = absurd (cc h)
-middle false false c h = absurd (cc h)
-
 -- a target leads to each entry that matches
 pub led_to_each : (nodes : List Node) (method target : List ℕ) (e : Entry) (number : ℕ) → EndsAt nodes e.route number → IsTrue (matches e.route method target)
     → Contains (led_to nodes (child_at nodes 0 (Literal method)) (segments_of (before_first is_question_mark target))) number
 led_to_each nodes method target e number ends m =
     let own = and_parts (same_text e.route.method method) (fits_target e.route target) m in
-    let path_fits = middle (starts_with nat_eq target (codes "/")) (fits_path e.route.is_greedy e.route.segments (segments_of (before_first is_question_mark target))) (fits_query e.route.query (query_pieces target)) own.1 in
+    let path_fits = (three (starts_with nat_eq target (codes "/")) (fits_path e.route.is_greedy e.route.segments (segments_of (before_first is_question_mark target))) (fits_query e.route.query (query_pieces target)) own.1).1 in
     subst (λ (t : List ℕ). Contains (led_to nodes (child_at nodes 0 (Literal t)) (segments_of (before_first is_question_mark target))) number) (same_text_is e.route.method method own.0)
     (leads_to nodes e.route.is_greedy 32 e.route.segments (child_at nodes 0 (Literal e.route.method)) (segments_of (before_first is_question_mark target)) number path_fits ends)
 

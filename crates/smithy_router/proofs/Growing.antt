@@ -69,12 +69,17 @@ set_here (x ∷ nodes) zero b h = refl
 set_here (x ∷ nodes) (suc place) b h = set_here nodes place b (omega (arith, h))
 
 -- and one at the end
-get_pushed : (nodes : List Node) (b : Node) (place : ℕ)
-    → (slice_get (nodes ++ b ∷ []) place ≡ slice_get nodes place) ⊎ ((slice_get nodes place ≡ None) × (slice_get (nodes ++ b ∷ []) place ≡ Some b))
-get_pushed [] b zero = inr (refl, refl)
+get_pushed : {X : Type 0} (xs : List X) (b : X) (place : ℕ)
+    → (slice_get (xs ++ b ∷ []) place ≡ slice_get xs place) ⊎ ((slice_get xs place ≡ None) × (slice_get (xs ++ b ∷ []) place ≡ Some b) × (place ≡ length xs))
+get_pushed [] b zero = inr (refl, refl, refl)
 get_pushed [] b (suc place) = inl refl
-get_pushed (x ∷ nodes) b zero = inl refl
-get_pushed (x ∷ nodes) b (suc place) = get_pushed nodes b place
+get_pushed (x ∷ xs) b zero = inl refl
+get_pushed (x ∷ xs) b (suc place) = go (get_pushed xs b place)
+  where
+    go : (slice_get (xs ++ b ∷ []) place ≡ slice_get xs place) ⊎ ((slice_get xs place ≡ None) × (slice_get (xs ++ b ∷ []) place ≡ Some b) × (place ≡ length xs))
+        → (slice_get (xs ++ b ∷ []) place ≡ slice_get xs place) ⊎ ((slice_get xs place ≡ None) × (slice_get (xs ++ b ∷ []) place ≡ Some b) × (suc place ≡ suc (length xs)))
+    go (inl same) = inl same
+    go (inr at) = inr (at.0, at.1, ap suc at.2)
 
 -- what a node that may be there has
 abbrev child_in : Segment → Option Node → Option ℕ
@@ -83,77 +88,58 @@ child_in s node = option_and_then (λ n. child_of n s) node
 abbrev ends_in : Bool → Option Node → List ℕ
 ends_in is_greedy node = option_map_or (λ n. ends_of n is_greedy) node []
 
--- a node more, which has no children
-pub grows_push : (nodes : List Node) (leaf : Node) → IsLeaf leaf → Grows nodes (nodes ++ leaf ∷ [])
-grows_push nodes leaf is_leaf = record {
-  longer = omega (arith, length-append nodes (leaf ∷ []));
-  children = λ place s child e. children s child (slice_get nodes place) (slice_get (nodes ++ leaf ∷ []) place) (get_pushed nodes leaf place) e;
-  ends = λ place b number h. ends b number (slice_get nodes place) (slice_get (nodes ++ leaf ∷ []) place) (get_pushed nodes leaf place) h;
-  within = λ h place s child e. within place s child (h place s child) (get_pushed nodes leaf place) e;
+-- a node in the place of another, or of none: it keeps the children and the entries, and each child that it has more is below n
+record Keeps (n : ℕ) (old : Option Node) (new : Option Node) : Type 0 where
+  pub children : (s : Segment) (child : ℕ) → child_in s old ≡ Some child → child_in s new ≡ Some child
+  pub ends : (b : Bool) (number : ℕ) → Contains (ends_in b old) number → Contains (ends_in b new) number
+  pub within : (s : Segment) (child : ℕ) → child_in s new ≡ Some child → (child_in s old ≡ Some child) ⊎ (child < n)
+
+keeps_same : (n : ℕ) (old new : Option Node) → new ≡ old → Keeps n old new
+keeps_same n old new same = subst (Keeps n old) (sym same) (record { children = λ s c e. e; ends = λ b k h. h; within = λ s c e. inl e })
+
+-- nodes grow where each keeps what it has
+grows_by : (old new : List Node) → length old ≤ length new → ((place : ℕ) → Keeps (length old) (slice_get old place) (slice_get new place)) → Grows old new
+grows_by old new longer keeps = record {
+  longer = longer;
+  children = λ place s child e. (keeps place).children s child e;
+  ends = λ place b number h. (keeps place).ends b number h;
+  within = λ h place s child e. go place s child (h place s child) ((keeps place).within s child e);
 }
   where
-    children : (s : Segment) (child : ℕ) (old new : Option Node) → (new ≡ old) ⊎ ((old ≡ None) × (new ≡ Some leaf)) → child_in s old ≡ Some child → child_in s new ≡ Some child
-    children s child old new (inl same) e = ap (child_in s) same ∙ e
-    children s child old new (inr (none, _)) e = let no : None ≡ Some child = sym (ap (child_in s) none) ∙ e in absurd (cc no)
+    go : (place : ℕ) (s : Segment) (child : ℕ) → (child_at old place s ≡ Some child → child < length old) → (child_at old place s ≡ Some child) ⊎ (child < length old) → child < length new
+    go place s child within (inl was) = omega (arith, longer, within was)
+    go place s child within (inr l) = omega (arith, longer, l)
 
-    ends : (b : Bool) (number : ℕ) (old new : Option Node) → (new ≡ old) ⊎ ((old ≡ None) × (new ≡ Some leaf)) → Contains (ends_in b old) number → Contains (ends_in b new) number
-    ends b number old new (inl same) h = subst (λ (o : Option Node). Contains (ends_in b o) number) (sym same) h
-    ends b number old new (inr (none, _)) h = contains_none number (subst (λ (o : Option Node). Contains (ends_in b o) number) none h)
+-- a node more, which has no children
+pub grows_push : (nodes : List Node) (leaf : Node) → IsLeaf leaf → Grows nodes (nodes ++ leaf ∷ [])
+grows_push nodes leaf is_leaf = grows_by nodes (nodes ++ leaf ∷ []) (omega (arith, length-append nodes (leaf ∷ []))) (λ place. go place (get_pushed nodes leaf place))
+  where
+    more : Keeps (length nodes) None (Some leaf)
+    more = record {
+      children = λ s c e. absurd (cc e);
+      ends = λ b k h. contains_none k h;
+      within = λ s c e. (let no : None ≡ Some c = sym (is_leaf s) ∙ e in absurd (cc no));
+    }
 
-    longer : (child : ℕ) → child < length nodes → child < length (nodes ++ leaf ∷ [])
-    longer child l = omega (arith, l, length-append nodes (leaf ∷ []))
-
-    within : (place : ℕ) (s : Segment) (child : ℕ) → (child_at nodes place s ≡ Some child → child < length nodes)
-        → (slice_get (nodes ++ leaf ∷ []) place ≡ slice_get nodes place) ⊎ ((slice_get nodes place ≡ None) × (slice_get (nodes ++ leaf ∷ []) place ≡ Some leaf))
-        → child_at (nodes ++ leaf ∷ []) place s ≡ Some child → child < length (nodes ++ leaf ∷ [])
-    within place s child old (inl same) e = longer child (old (ap (child_in s) (sym same) ∙ e))
-    within place s child old (inr (_, is)) e = let no : None ≡ Some child = sym (is_leaf s) ∙ ap (child_in s) (sym is) ∙ e in absurd (cc no)
+    go : (place : ℕ) → (slice_get (nodes ++ leaf ∷ []) place ≡ slice_get nodes place) ⊎ ((slice_get nodes place ≡ None) × (slice_get (nodes ++ leaf ∷ []) place ≡ Some leaf) × (place ≡ length nodes))
+        → Keeps (length nodes) (slice_get nodes place) (slice_get (nodes ++ leaf ∷ []) place)
+    go place (inl same) = keeps_same (length nodes) (slice_get nodes place) (slice_get (nodes ++ leaf ∷ []) place) same
+    go place (inr at) =
+        subst (λ (o : Option Node). Keeps (length nodes) o (slice_get (nodes ++ leaf ∷ []) place)) (sym at.0) (subst (Keeps (length nodes) None) (sym at.1) more)
 
 -- a node in the place of one whose children and entries it has
-record Keeps (nodes : List Node) (old : Node) (new : Node) : Type 0 where
-  pub children : (s : Segment) (child : ℕ) → child_of old s ≡ Some child → child_of new s ≡ Some child
-  pub ends : (b : Bool) (number : ℕ) → Contains (ends_of old b) number → Contains (ends_of new b) number
-  pub within : (s : Segment) (child : ℕ) → child_of new s ≡ Some child → (child_of old s ≡ Some child) ⊎ (child < length nodes)
-
-grows_set : (nodes : List Node) (place : ℕ) (old new : Node) → slice_get nodes place ≡ Some old → Keeps nodes old new → Grows nodes (slice_set nodes place new)
+grows_set : (nodes : List Node) (place : ℕ) (old new : Node) → slice_get nodes place ≡ Some old → Keeps (length nodes) (Some old) (Some new) → Grows nodes (slice_set nodes place new)
 grows_set nodes place old new is keeps =
-    let at = λ (other : ℕ). set_at nodes place other new (slice_get_within nodes place old is) in
-    record {
-      longer = omega (arith, length-set nodes place new);
-      children = λ other s child e. children other s child (at other) e;
-      ends = λ other b number h. ends other b number (at other) h;
-      within = λ h other s child e. within h other s child (at other) e;
-    }
+    grows_by nodes (slice_set nodes place new) (omega (arith, length-set nodes place new)) (λ other. go other (set_at nodes place other new (slice_get_within nodes place old is)))
   where
-    At : ℕ → Type 0
-    At other = ((other ≡ place) × (slice_get (slice_set nodes place new) other ≡ Some new)) ⊎ (slice_get (slice_set nodes place new) other ≡ slice_get nodes other)
-
-    old_at : (other : ℕ) → other ≡ place → slice_get nodes other ≡ Some old
-    old_at other same = ap (slice_get nodes) same ∙ is
-
-    children : (other : ℕ) (s : Segment) (child : ℕ) → At other → child_at nodes other s ≡ Some child → child_at (slice_set nodes place new) other s ≡ Some child
-    children other s child (inl (same, here)) e = ap (child_in s) here ∙ keeps.children s child (sym (ap (child_in s) (old_at other same)) ∙ e)
-    children other s child (inr same) e = ap (child_in s) same ∙ e
-
-    ends : (other : ℕ) (b : Bool) (number : ℕ) → At other → Contains (ends_at nodes other b) number → Contains (ends_at (slice_set nodes place new) other b) number
-    ends other b number (inl (same, here)) h =
-        subst (λ (o : Option Node). Contains (ends_in b o) number) (sym here)
-        (keeps.ends b number (subst (λ (o : Option Node). Contains (ends_in b o) number) (old_at other same) h))
-    ends other b number (inr same) h = subst (λ (o : Option Node). Contains (ends_in b o) number) (sym same) h
-
-    short : (child : ℕ) → child < length nodes → child < length (slice_set nodes place new)
-    short child l = omega (arith, l, length-set nodes place new)
-
-    within : IsWithin nodes → (other : ℕ) (s : Segment) (child : ℕ) → At other → child_at (slice_set nodes place new) other s ≡ Some child → child < length (slice_set nodes place new)
-    within h other s child (inl (same, here)) e = go (keeps.within s child (sym (ap (child_in s) here) ∙ e))
-      where
-        go : (child_of old s ≡ Some child) ⊎ (child < length nodes) → child < length (slice_set nodes place new)
-        go (inl was) = short child (h other s child (ap (child_in s) (old_at other same) ∙ was))
-        go (inr l) = short child l
-    within h other s child (inr same) e = short child (h other s child (ap (child_in s) (sym same) ∙ e))
+    go : (other : ℕ) → ((other ≡ place) × (slice_get (slice_set nodes place new) other ≡ Some new)) ⊎ (slice_get (slice_set nodes place new) other ≡ slice_get nodes other)
+        → Keeps (length nodes) (slice_get nodes other) (slice_get (slice_set nodes place new) other)
+    go other (inl (same, here)) =
+        subst (λ (o : Option Node). Keeps (length nodes) o (slice_get (slice_set nodes place new) other)) (sym (ap (slice_get nodes) same ∙ is)) (subst (Keeps (length nodes) (Some old)) (sym here) keeps)
+    go other (inr same) = keeps_same (length nodes) (slice_get nodes other) (slice_get (slice_set nodes place new) other) same
 
 -- a node with a child more
-keeps_child : (nodes : List Node) (old new : Node) (segment : Segment) (child : ℕ) → child_of old segment ≡ None → child < length nodes → HasChild old segment child new → Keeps nodes old new
+keeps_child : (nodes : List Node) (old new : Node) (segment : Segment) (child : ℕ) → child_of old segment ≡ None → child < length nodes → HasChild old segment child new → Keeps (length nodes) (Some old) (Some new)
 keeps_child nodes old new segment child absent l has = record {
   children = λ s c e. children s c (has.others s) e;
   ends = λ b number h. subst (λ (ends : List ℕ). Contains ends number) (sym (has.ends b)) h;
@@ -172,7 +158,7 @@ keeps_child nodes old new segment child absent l has = record {
     within s c (inr same) e = inl (sym same ∙ e)
 
 -- one with an entry more
-keeps_end : (nodes : List Node) (old new : Node) (is_greedy : Bool) (number : ℕ) → HasEnd old is_greedy number new → Keeps nodes old new
+keeps_end : (nodes : List Node) (old new : Node) (is_greedy : Bool) (number : ℕ) → HasEnd old is_greedy number new → Keeps (length nodes) (Some old) (Some new)
 keeps_end nodes old new is_greedy number has = record {
   children = λ s c e. has.children s ∙ e;
   ends = λ b n h. go b n (has.ends b) h;
@@ -184,7 +170,7 @@ keeps_end nodes old new is_greedy number has = record {
     go b n (inr more) h = subst (λ (ends : List ℕ). Contains ends n) (sym more) (Contains-append_left (ends_of old b) (number ∷ []) n h)
 
 -- one that is as it was
-keeps_as : (nodes : List Node) (old new : Node) → IsAs old new → Keeps nodes old new
+keeps_as : (nodes : List Node) (old new : Node) → IsAs old new → Keeps (length nodes) (Some old) (Some new)
 keeps_as nodes old new as_old = record {
   children = λ s c e. as_old.children s ∙ e;
   ends = λ b n h. subst (λ (ends : List ℕ). Contains ends n) (sym (as_old.ends b)) h;
@@ -229,10 +215,10 @@ child_added old mid new place child segment leaf was now pushed is_leaf within i
       },
     )
   where
-    go : (slice_get (old ++ leaf ∷ []) place ≡ slice_get old place) ⊎ ((slice_get old place ≡ None) × (slice_get (old ++ leaf ∷ []) place ≡ Some leaf)) → child_of was segment ≡ None
+    go : (slice_get (old ++ leaf ∷ []) place ≡ slice_get old place) ⊎ ((slice_get old place ≡ None) × (slice_get (old ++ leaf ∷ []) place ≡ Some leaf) × (place ≡ length old)) → child_of was segment ≡ None
     go (inl same) = ap (child_in segment) (sym is ∙ ap (λ (nodes : List Node). slice_get nodes place) pushed ∙ same) ∙ absent
-    go (inr (_, at_leaf)) =
-        let same : Some was ≡ Some leaf = sym is ∙ ap (λ (nodes : List Node). slice_get nodes place) pushed ∙ at_leaf in
+    go (inr at) =
+        let same : Some was ≡ Some leaf = sym is ∙ ap (λ (nodes : List Node). slice_get nodes place) pushed ∙ at.1 in
         ap (child_in segment) same ∙ is_leaf segment
 
 -- one that could not be put
@@ -286,24 +272,14 @@ pub end_not_added : (nodes new : List Node) (place : ℕ) (was now : Node) → s
 end_not_added nodes new place was now is stored as_it_was = subst (Grows nodes) (sym stored) (grows_set nodes place was now is (keeps_as nodes was now as_it_was))
 
 -- an entry more in the list
-get_last : (entries : List Entry) (last : Entry) (number : ℕ) (e : Entry) → slice_get (entries ++ last ∷ []) number ≡ Some e → (slice_get entries number ≡ Some e) ⊎ ((number ≡ length entries) × (last ≡ e))
-get_last [] last zero e is = inr (refl, cc is)
-get_last [] last (suc number) e is = absurd (cc is)
-get_last (x ∷ entries) last zero e is = inl is
-get_last (x ∷ entries) last (suc number) e is = go (get_last entries last number e is)
-  where
-    go : (slice_get entries number ≡ Some e) ⊎ ((number ≡ length entries) × (last ≡ e)) → (slice_get entries number ≡ Some e) ⊎ ((suc number ≡ suc (length entries)) × (last ≡ e))
-    go (inl old) = inl old
-    go (inr (at_end, same)) = inr (ap suc at_end, same)
-
 pub indexed_more : (nodes : List Node) (entries : List Entry) (last : Entry) → IsIndexed nodes entries → EndsAt nodes last.route (length entries) → IsIndexed nodes (entries ++ last ∷ [])
-indexed_more nodes entries last h ends number e is = go (get_last entries last number e is)
+indexed_more nodes entries last h ends number e is = go (get_pushed entries last number)
   where
-    go : (slice_get entries number ≡ Some e) ⊎ ((number ≡ length entries) × (last ≡ e)) → EndsAt nodes e.route number
-    go (inl old) = h number e old
-    go (inr (at_end, same)) =
-        subst (λ (x : Entry). EndsAt nodes x.route number) same
-        (subst (λ (n : ℕ). EndsAt nodes last.route n) (sym at_end) ends)
+    go : (slice_get (entries ++ last ∷ []) number ≡ slice_get entries number) ⊎ ((slice_get entries number ≡ None) × (slice_get (entries ++ last ∷ []) number ≡ Some last) × (number ≡ length entries)) → EndsAt nodes e.route number
+    go (inl same) = h number e (sym same ∙ is)
+    go (inr at) =
+        let same : last ≡ e = cc (sym at.1 ∙ is) in
+        subst (λ (x : Entry). EndsAt nodes x.route number) same (subst (λ (n : ℕ). EndsAt nodes last.route n) (sym at.2) ends)
 
 -- what is read at a place
 pub read_at : (nodes : List Node) (place : ℕ) (node : Node) → place < length nodes → node ≡ get_or nodes place node → slice_get nodes place ≡ Some node

@@ -1,4 +1,5 @@
 pub mod Adding
+pub mod Conflicting
 pub mod Deciding
 pub mod Gives
 pub mod Laws

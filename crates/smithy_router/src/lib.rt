@@ -1,6 +1,7 @@
 // A router: from a request's method and target to the operation (Smithy, HTTP protocol bindings, http trait).
 #![tactic(auto)]
 
+mod conflict;
 mod error;
 pub mod laws;
 mod node;

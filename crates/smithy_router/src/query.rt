@@ -68,7 +68,7 @@ fn first_in<'p>(name: &str, pieces: &'p [String]) -> Option<&'p str>
 }
 
 // The first of these pieces and then of those that has this name.
-#[tactic(auto, using(crate::proofs::Ends::first_in_row), unfolding(crate::specs::Seen::in_a_row))]
+#[tactic(auto, using(crate::proofs::Pieces::first_in_row), unfolding(crate::specs::Seen::in_a_row))]
 fn first_in_both<'p>(name: &str, pieces: &'p [String], others: &'p [String]) -> Option<&'p str>
     ensures { text_seen result ≡ first_named name.now (in_a_row pieces.now others.now) }
 {

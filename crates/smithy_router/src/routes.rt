@@ -1,17 +1,18 @@
 // Lists of routes.
-ghost use Rattle.std.specs.Prelude.{◌≡◌, length, OnOk, OnErr, IfErr, map};
+ghost use Rattle.std.specs.Prelude.{◌≡◌, length, OnOk, OnErr, IfErr};
 ghost use Rattle.smithy_router.specs.Adding.{AddsTemplate, FindsBest, IsConflict, TellsConflict};
 ghost use Rattle.smithy_router.specs.Routes.{IsRoute};
-ghost use Rattle.smithy_router.specs.Tables.{AreApart, IsApartFrom};
+ghost use Rattle.smithy_router.specs.Tables.{IsApartFrom};
 ghost use Rattle.smithy_router.specs.Templates.{route_of};
 ghost use Rattle.smithy_router.specs.Tree.{entries_of, HasEntry, IsSound, RouteAdded, TemplateAdded};
-ghost use Rattle.smithy_router.specs.Seen.{entry_seen, route_seen, text_seen, EntryAdded};
+ghost use Rattle.smithy_router.specs.Seen.{route_seen, text_seen, EntryAdded};
 
+use crate::conflict::first_conflict;
 use crate::error::RouteError;
 use crate::route::{StoredEntry, StoredRoute};
+use crate::search;
 use crate::template_route::route_of;
 use crate::tree::{RouteTree, put_end};
-use crate::{search, table};
 use smithy_types::{OutOfMemory, Text};
 use std::alloc::Global;
 use std::marker::Model;
@@ -94,13 +95,13 @@ fn best_operation<'e>(tree: &'e RouteTree, method: &str, target: &str) -> Option
 }
 
 // Tells the first route that a new one conflicts with, if there is one.
-fn test_apart(alloc: Global, route: &StoredRoute, entries: &[StoredEntry]) -> Result<(), RouteError>
-    requires apart { AreApart (map entry_seen entries.now) }
+fn test_apart(alloc: Global, tree: &RouteTree, route: &StoredRoute) -> Result<(), RouteError>
+    requires sound { IsSound tree.now }
     requires route { IsRoute (route_seen route.now) }
-    ensures ok { OnOk result (IsApartFrom (route_seen route.now) (map entry_seen entries.now)) }
-    ensures err { IfErr result (TellsConflict (map entry_seen entries.now) (route_seen route.now)) }
+    ensures ok { OnOk result (IsApartFrom (route_seen route.now) (entries_of tree.now)) }
+    ensures err { IfErr result (TellsConflict (entries_of tree.now) (route_seen route.now)) }
 {
-    match table::first_conflict(route, entries) {
+    match first_conflict(tree, route) {
         Some(entry) => Err(conflict(alloc, entry.operation.as_str())),
         None => Ok(()),
     }
@@ -151,7 +152,7 @@ fn add_route(
     ensures outcome { RouteAdded tree.old (route_seen route) operation.now tree.new result }
     ensures sound { IsSound tree.new }
 {
-    test_apart(alloc, &route, tree.entries.as_slice())?;
+    test_apart(alloc, tree, &route)?;
     add_entry(alloc, tree, route, operation)?;
     Ok(())
 }

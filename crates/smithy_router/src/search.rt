@@ -21,8 +21,8 @@ struct Search<'e, 't> {
     target: &'t str,
 }
 
-// The entry of a number.
-fn entry_at(entries: &[StoredEntry], number: usize) -> Option<&StoredEntry>
+/// The entry of a number. Takes no memory.
+pub fn entry_at(entries: &[StoredEntry], number: usize) -> Option<&StoredEntry>
     ensures { option_copied result ≡ slice_get entries.now number }
 {
     entries.get(number)
@@ -56,8 +56,8 @@ fn best_among<'e>(
     best
 }
 
-// The node at a place.
-fn node_at(nodes: &[Node], place: Option<usize>) -> Option<&Node>
+/// The node at a place. Takes no memory.
+pub fn node_at(nodes: &[Node], place: Option<usize>) -> Option<&Node>
     ensures { option_copied result ≡ option_and_then (slice_get nodes.now) place }
 {
     nodes.get(place?)
@@ -83,8 +83,8 @@ fn best_below<'e>(
     best_below(search, node.hole, behind, literal)
 }
 
-// The node behind a method.
-fn method_node(nodes: &[Node], method: &str) -> Option<usize>
+/// The node behind a method. Takes no memory.
+pub fn method_node(nodes: &[Node], method: &str) -> Option<usize>
     ensures { result ≡ child_at nodes.now 0 (Literal method.now) }
 {
     nodes.first()?.literal_child(method)

@@ -1,24 +1,9 @@
-// Entries: the first one that a route conflicts with, and the better one of two.
-ghost use Rattle.std.specs.Prelude.{◌≡◌, Some, map};
-ghost use Rattle.smithy_router.specs.Tables.{better, first_conflict, preferred};
-ghost use Rattle.smithy_router.specs.Seen.{entry_seen, route_seen, best_seen};
+// Entries: the better one of two.
+ghost use Rattle.std.specs.Prelude.{◌≡◌, Some};
+ghost use Rattle.smithy_router.specs.Tables.{better, preferred};
+ghost use Rattle.smithy_router.specs.Seen.{entry_seen, best_seen};
 
-use crate::route::{StoredEntry, StoredRoute};
-
-/// The first entry that the route conflicts with. Takes no memory.
-pub fn first_conflict<'e>(
-    route: &StoredRoute,
-    entries: &'e [StoredEntry],
-) -> Option<&'e StoredEntry>
-    ensures { best_seen result ≡ first_conflict (route_seen route.now) (map entry_seen entries.now) }
-{
-    for entry in entries {
-        if entry.route.conflicts(route) {
-            return Some(entry);
-        }
-    }
-    None
-}
+use crate::route::StoredEntry;
 
 // The new entry where there was none or one that it beats.
 fn preferred<'e>(best: Option<&'e StoredEntry>, entry: &'e StoredEntry) -> &'e StoredEntry

@@ -9,8 +9,8 @@ use crate::segment::PathSegment;
 use smithy_types::OutOfMemory;
 use std::alloc::Global;
 
-// How many segments of a route the tree tells apart: so no search is deeper, however long a template is.
-const DEEPEST: usize = 32;
+/// How many segments of a route the tree tells apart: so no search is deeper, however long a template is.
+pub const DEEPEST: usize = 32;
 
 /// Entries and the nodes that lead to them. The first node is the root.
 #[derive(Drop)]
@@ -111,9 +111,9 @@ fn first_segments(segments: &[PathSegment]) -> &[PathSegment]
     }
 }
 
-// Whether a route goes on behind its first segments.
+/// Whether a route goes on behind its first segments. Takes no memory.
 #[tactic(auto, using(crate::proofs::Growing::cutting))]
-fn goes_on(route: &StoredRoute) -> bool
+pub fn goes_on(route: &StoredRoute) -> bool
     ensures { result ≡ goes_on (route_seen route.now) }
 {
     route.segments.len() > DEEPEST || route.is_greedy
