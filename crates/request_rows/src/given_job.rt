@@ -1,5 +1,6 @@
 // Jobs as rows give them.
 use serde_json::Value;
+use smithy_job::JobKind;
 use smithy_types::{Blob, Text};
 use std::alloc::Global;
 use test_rows::{Failed, count_of, item_bytes, text_of};
@@ -52,4 +53,20 @@ fn push_numbered(alloc: Global, text: &mut Text, part: &str, turn: usize) -> Res
         is_first = false;
     }
     Ok(())
+}
+
+/// The kind of job that the text under a key names.
+pub fn job_kind(given: &Value, key: &str) -> Result<JobKind, Failed> {
+    match text_of(given, key)? {
+        "request" => Ok(JobKind::Request),
+        "requests" => Ok(JobKind::Requests),
+        "rpc" => Ok(JobKind::Rpc),
+        "response" => Ok(JobKind::Response),
+        "responses" => Ok(JobKind::Responses),
+        "recover" => Ok(JobKind::Recover),
+        "route" => Ok(JobKind::Route),
+        "gateway" => Ok(JobKind::Gateway),
+        "answer" => Ok(JobKind::Answer),
+        _ => Err(Failed),
+    }
 }

@@ -9,7 +9,7 @@ use smithy_job::{
     Recovering, Routing, Sending, read_gateway, read_job, read_named_routing, read_received,
     read_recovering, read_routing,
 };
-use smithy_json::{Scratch, read_json};
+use smithy_json::{JsonValue, Scratch, read_json};
 use smithy_model::{is_full_name, members_of, text_of};
 use smithy_recovery::are_shallow;
 use smithy_schema::Schemas;
@@ -21,59 +21,71 @@ use test_rows::{Failed, count_of, text_of as given_text, told_bytes};
 /// The answer of one of these calls; none of another.
 pub fn answer(alloc: Global, call: &str, given: &Value) -> Result<Option<Text>, Failed> {
     match call {
-        "read_job" => Ok(Some(job(alloc, given)?)),
-        "read_received" => Ok(Some(received(alloc, given)?)),
-        "read_recovering" => Ok(Some(recovering(alloc, given)?)),
-        "read_routing" => Ok(Some(routing(alloc, given)?)),
-        "read_named_routing" => Ok(Some(named_routing(alloc, given)?)),
-        "read_gateway" => Ok(Some(gateway(alloc, given)?)),
         "is_full_name" => {
             let is_name = is_full_name(given_text(given, "name")?);
             Ok(Some(flag_text(alloc, is_name)?))
         }
-        "are_shallow" => Ok(Some(shallow(alloc, given)?)),
-        "WriteList::present" => Ok(Some(present(alloc, given)?)),
-        "members_of" => Ok(Some(members(alloc, given)?)),
+        "read_job"
+        | "read_received"
+        | "read_recovering"
+        | "read_routing"
+        | "read_named_routing"
+        | "read_gateway"
+        | "are_shallow"
+        | "WriteList::present"
+        | "members_of" => Ok(Some(read_answer(alloc, call, given)?)),
         _ => Ok(None),
     }
 }
 
-fn job(alloc: Global, given: &Value) -> Result<Text, Failed> {
+// The answer of a call that is given the bytes of a job.
+fn read_answer(alloc: Global, call: &str, given: &Value) -> Result<Text, Failed> {
     let bytes = job_bytes(alloc, given)?;
     let mut scratch = Scratch::new(alloc);
-    let value = match read_json(alloc, bytes.as_slice(), &mut scratch) {
-        Ok(value) => value,
-        Err(refusal) => return no_job(alloc, refusal.into()),
-    };
-    match read_job(alloc, &value) {
+    match read_json(alloc, bytes.as_slice(), &mut scratch) {
+        Ok(value) => value_answer(alloc, call, given, &value),
+        Err(refusal) => no_job(alloc, refusal.into()),
+    }
+}
+
+// The same, of the value that they are.
+fn value_answer(
+    alloc: Global,
+    call: &str,
+    given: &Value,
+    value: &JsonValue<'_>,
+) -> Result<Text, Failed> {
+    match call {
+        "read_job" => job(alloc, value),
+        "read_received" => received(alloc, value),
+        "read_recovering" => recovering(alloc, value),
+        "read_routing" => routing(alloc, value),
+        "read_named_routing" => named_routing(alloc, value),
+        "read_gateway" => gateway(alloc, value),
+        "are_shallow" => shallow(alloc, value, count_of(given, "levels")?),
+        "WriteList::present" => present(alloc, value),
+        _ => members(alloc, value),
+    }
+}
+
+fn job(alloc: Global, value: &JsonValue<'_>) -> Result<Text, Failed> {
+    match read_job(alloc, value) {
         Ok(job) => job_text(alloc, &job),
         Err(refusal) => no_job(alloc, refusal),
     }
 }
 
 // Whether the writes of a job are nested at most so many levels deep.
-fn shallow(alloc: Global, given: &Value) -> Result<Text, Failed> {
-    let bytes = job_bytes(alloc, given)?;
-    let mut scratch = Scratch::new(alloc);
-    let value = match read_json(alloc, bytes.as_slice(), &mut scratch) {
-        Ok(value) => value,
-        Err(refusal) => return no_job(alloc, refusal.into()),
-    };
-    match read_job(alloc, &value) {
-        Ok(job) => flag_text(alloc, are_shallow(&job.writes, count_of(given, "levels")?)),
+fn shallow(alloc: Global, value: &JsonValue<'_>, levels: usize) -> Result<Text, Failed> {
+    match read_job(alloc, value) {
+        Ok(job) => flag_text(alloc, are_shallow(&job.writes, levels)),
         Err(refusal) => no_job(alloc, refusal),
     }
 }
 
 // The writes of a job without those of null members.
-fn present(alloc: Global, given: &Value) -> Result<Text, Failed> {
-    let bytes = job_bytes(alloc, given)?;
-    let mut scratch = Scratch::new(alloc);
-    let value = match read_json(alloc, bytes.as_slice(), &mut scratch) {
-        Ok(value) => value,
-        Err(refusal) => return no_job(alloc, refusal.into()),
-    };
-    match read_job(alloc, &value) {
+fn present(alloc: Global, value: &JsonValue<'_>) -> Result<Text, Failed> {
+    match read_job(alloc, value) {
         Ok(job) => {
             let nodes = job.further.as_ref().unwrap_or(&job.table);
             both_levels(alloc, nodes, &job.writes.present(alloc)?)
@@ -125,14 +137,8 @@ fn push_settings(
     Ok(())
 }
 
-fn recovering(alloc: Global, given: &Value) -> Result<Text, Failed> {
-    let bytes = job_bytes(alloc, given)?;
-    let mut scratch = Scratch::new(alloc);
-    let value = match read_json(alloc, bytes.as_slice(), &mut scratch) {
-        Ok(value) => value,
-        Err(refusal) => return no_job(alloc, refusal.into()),
-    };
-    match read_recovering(alloc, &value) {
+fn recovering(alloc: Global, value: &JsonValue<'_>) -> Result<Text, Failed> {
+    match read_recovering(alloc, value) {
         Ok(job) => recovering_text(alloc, &job),
         Err(refusal) => no_job(alloc, refusal),
     }
@@ -149,14 +155,8 @@ fn recovering_text(alloc: Global, job: &Recovering<'_>) -> Result<Text, Failed> 
     Ok(text)
 }
 
-fn routing(alloc: Global, given: &Value) -> Result<Text, Failed> {
-    let bytes = job_bytes(alloc, given)?;
-    let mut scratch = Scratch::new(alloc);
-    let value = match read_json(alloc, bytes.as_slice(), &mut scratch) {
-        Ok(value) => value,
-        Err(refusal) => return no_job(alloc, refusal.into()),
-    };
-    match read_routing(alloc, &value) {
+fn routing(alloc: Global, value: &JsonValue<'_>) -> Result<Text, Failed> {
+    match read_routing(alloc, value) {
         Ok(job) => routing_text(alloc, job),
         Err(refusal) => no_job(alloc, refusal),
     }
@@ -183,14 +183,8 @@ fn routing_text(alloc: Global, job: Routing<'_>) -> Result<Text, Failed> {
     Ok(text)
 }
 
-fn named_routing(alloc: Global, given: &Value) -> Result<Text, Failed> {
-    let bytes = job_bytes(alloc, given)?;
-    let mut scratch = Scratch::new(alloc);
-    let value = match read_json(alloc, bytes.as_slice(), &mut scratch) {
-        Ok(value) => value,
-        Err(refusal) => return no_job(alloc, refusal.into()),
-    };
-    match read_named_routing(alloc, &value) {
+fn named_routing(alloc: Global, value: &JsonValue<'_>) -> Result<Text, Failed> {
+    match read_named_routing(alloc, value) {
         Ok(job) => named_text(alloc, &job),
         Err(refusal) => no_job(alloc, refusal),
     }
@@ -233,14 +227,8 @@ fn push_operation(alloc: Global, text: &mut Text, operation: &Operation<'_>) -> 
     Ok(())
 }
 
-fn gateway(alloc: Global, given: &Value) -> Result<Text, Failed> {
-    let bytes = job_bytes(alloc, given)?;
-    let mut scratch = Scratch::new(alloc);
-    let value = match read_json(alloc, bytes.as_slice(), &mut scratch) {
-        Ok(value) => value,
-        Err(refusal) => return no_job(alloc, refusal.into()),
-    };
-    match read_gateway(alloc, &value) {
+fn gateway(alloc: Global, value: &JsonValue<'_>) -> Result<Text, Failed> {
+    match read_gateway(alloc, value) {
         Ok(job) => gateway_text(alloc, &job),
         Err(refusal) => no_job(alloc, refusal),
     }
@@ -258,14 +246,8 @@ fn gateway_text(alloc: Global, job: &Gateway<'_>) -> Result<Text, Failed> {
     Ok(Text::from_string(format!(in alloc; "to {side} \"{endpoint}\" {recovering}")?))
 }
 
-fn received(alloc: Global, given: &Value) -> Result<Text, Failed> {
-    let bytes = job_bytes(alloc, given)?;
-    let mut scratch = Scratch::new(alloc);
-    let value = match read_json(alloc, bytes.as_slice(), &mut scratch) {
-        Ok(value) => value,
-        Err(refusal) => return no_job(alloc, refusal.into()),
-    };
-    match read_received(alloc, &value) {
+fn received(alloc: Global, value: &JsonValue<'_>) -> Result<Text, Failed> {
+    match read_received(alloc, value) {
         Ok(received) => received_text(alloc, &received),
         Err(refusal) => no_job(alloc, refusal),
     }
@@ -319,17 +301,11 @@ fn push_coded(text: &mut Text, table: &Schemas, coded: &CodedError<'_>) -> Resul
 }
 
 // How many members an object has, and the text under a key.
-fn members(alloc: Global, given: &Value) -> Result<Text, Failed> {
-    let bytes = job_bytes(alloc, given)?;
-    let mut scratch = Scratch::new(alloc);
-    let value = match read_json(alloc, bytes.as_slice(), &mut scratch) {
-        Ok(value) => value,
-        Err(refusal) => return no_job(alloc, refusal.into()),
-    };
-    let Some(members) = members_of(&value) else {
+fn members(alloc: Global, value: &JsonValue<'_>) -> Result<Text, Failed> {
+    let Some(members) = members_of(value) else {
         return Ok(Text::from_str(alloc, "None")?);
     };
     let count = members.len();
-    let found = text_of(&value, "key").unwrap_or("no text");
+    let found = text_of(value, "key").unwrap_or("no text");
     Ok(Text::from_string(format!(in alloc; "{count} members, {found}")?))
 }

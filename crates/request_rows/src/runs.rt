@@ -1,11 +1,11 @@
 // Runs of commands, over sources and sinks that may fail, and over bytes that are at hand.
 ghost use Rattle.std.specs.Prelude.{◌<◌, IfOk};
 
-use crate::given_job::job_bytes;
+use crate::given_job::{job_bytes, job_kind};
 use crate::told::with_short_runs;
 use serde_json::Value;
 use smithy_bind::{
-    Command, Ended, JobKind, Scratch, Status, answer_bytes, answer_bytes_over, run, run_request,
+    Command, Ended, Scratch, Status, answer_bytes, answer_bytes_over, run, run_request,
 };
 use smithy_document::{JsonCodec, json_is_lawful};
 use smithy_io::{MemorySink, MemorySource, Source};
@@ -99,29 +99,13 @@ fn command_of(given: &Value) -> Result<Command, Failed> {
         "route" => Ok(Command::Route),
         "gateway" => Ok(Command::Gateway),
         "answer" => Ok(Command::Answer),
-        "explain" => Ok(Command::Explain(kind_of(given)?)),
+        "explain" => Ok(Command::Explain(job_kind(given, "of")?)),
         "generate" => {
             let count = count_of(given, "count")?;
             Ok(Command::Generate(u32::try_from(count).map_err(|_| Failed)?))
         }
         "help" => Ok(Command::Help),
         "version" => Ok(Command::Version),
-        _ => Err(Failed),
-    }
-}
-
-// Whose job is explained.
-fn kind_of(given: &Value) -> Result<JobKind, Failed> {
-    match text_of(given, "of")? {
-        "request" => Ok(JobKind::Request),
-        "requests" => Ok(JobKind::Requests),
-        "rpc" => Ok(JobKind::Rpc),
-        "response" => Ok(JobKind::Response),
-        "responses" => Ok(JobKind::Responses),
-        "recover" => Ok(JobKind::Recover),
-        "route" => Ok(JobKind::Route),
-        "gateway" => Ok(JobKind::Gateway),
-        "answer" => Ok(JobKind::Answer),
         _ => Err(Failed),
     }
 }

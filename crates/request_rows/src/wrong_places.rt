@@ -1,8 +1,8 @@
 // The first wrong places of values that are no jobs.
-use crate::given_job::job_bytes;
+use crate::given_job::{job_bytes, job_kind};
 use crate::told::no_job;
 use serde_json::Value;
-use smithy_job::{JobKind, wrong_in_job};
+use smithy_job::wrong_in_job;
 use smithy_json::{JsonValue, Scratch, read_json};
 use smithy_model::{
     Asked, ModelShapes, Wrong, asked_at, asked_here, found_at, in_item, in_key, is_object,
@@ -40,23 +40,8 @@ fn found_text(alloc: Global, found: &Option<Wrong>) -> Result<Text, Failed> {
     }
 }
 
-fn kind_of(given: &Value) -> Result<JobKind, Failed> {
-    match given_text(given, "command")? {
-        "request" => Ok(JobKind::Request),
-        "requests" => Ok(JobKind::Requests),
-        "rpc" => Ok(JobKind::Rpc),
-        "response" => Ok(JobKind::Response),
-        "responses" => Ok(JobKind::Responses),
-        "recover" => Ok(JobKind::Recover),
-        "route" => Ok(JobKind::Route),
-        "gateway" => Ok(JobKind::Gateway),
-        "answer" => Ok(JobKind::Answer),
-        _ => Err(Failed),
-    }
-}
-
 fn of_job(alloc: Global, given: &Value) -> Result<Text, Failed> {
-    let kind = kind_of(given)?;
+    let kind = job_kind(given, "command")?;
     let bytes = job_bytes(alloc, given)?;
     let mut scratch = Scratch::new(alloc);
     let value = match read_json(alloc, bytes.as_slice(), &mut scratch) {

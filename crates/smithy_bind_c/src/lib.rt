@@ -150,13 +150,7 @@ pub extern "C" fn smithy_bind_explain_request(
 ) -> u8
     ensures { Answers (Command.Explain JobKind.Request) job.now result text_len.new text.old text.new }
 {
-    answer_into(
-        alloc,
-        Command::Explain(JobKind::Request),
-        job,
-        text,
-        text_len,
-    )
+    explain_into(alloc, JobKind::Request, job, text, text_len)
 }
 
 /// The same of the command `requests`: the line that `explain requests` writes. What it answers and leaves is as
@@ -170,13 +164,7 @@ pub extern "C" fn smithy_bind_explain_requests(
 ) -> u8
     ensures { Answers (Command.Explain JobKind.Requests) job.now result text_len.new text.old text.new }
 {
-    answer_into(
-        alloc,
-        Command::Explain(JobKind::Requests),
-        job,
-        text,
-        text_len,
-    )
+    explain_into(alloc, JobKind::Requests, job, text, text_len)
 }
 
 /// The same of the command `rpc`: the line that `explain rpc` writes. What it answers and leaves is as
@@ -190,7 +178,7 @@ pub extern "C" fn smithy_bind_explain_rpc(
 ) -> u8
     ensures { Answers (Command.Explain JobKind.Rpc) job.now result text_len.new text.old text.new }
 {
-    answer_into(alloc, Command::Explain(JobKind::Rpc), job, text, text_len)
+    explain_into(alloc, JobKind::Rpc, job, text, text_len)
 }
 
 /// The same of the command `response`: the line that `explain response` writes. What it answers and leaves is as
@@ -204,13 +192,7 @@ pub extern "C" fn smithy_bind_explain_response(
 ) -> u8
     ensures { Answers (Command.Explain JobKind.Response) job.now result text_len.new text.old text.new }
 {
-    answer_into(
-        alloc,
-        Command::Explain(JobKind::Response),
-        job,
-        text,
-        text_len,
-    )
+    explain_into(alloc, JobKind::Response, job, text, text_len)
 }
 
 /// The same of the command `responses`: the line that `explain responses` writes. What it answers and leaves is as
@@ -224,13 +206,7 @@ pub extern "C" fn smithy_bind_explain_responses(
 ) -> u8
     ensures { Answers (Command.Explain JobKind.Responses) job.now result text_len.new text.old text.new }
 {
-    answer_into(
-        alloc,
-        Command::Explain(JobKind::Responses),
-        job,
-        text,
-        text_len,
-    )
+    explain_into(alloc, JobKind::Responses, job, text, text_len)
 }
 
 /// The same of the command `recover`: the line that `explain recover` writes. What it answers and leaves is as
@@ -244,13 +220,7 @@ pub extern "C" fn smithy_bind_explain_recover(
 ) -> u8
     ensures { Answers (Command.Explain JobKind.Recover) job.now result text_len.new text.old text.new }
 {
-    answer_into(
-        alloc,
-        Command::Explain(JobKind::Recover),
-        job,
-        text,
-        text_len,
-    )
+    explain_into(alloc, JobKind::Recover, job, text, text_len)
 }
 
 /// The same of the command `route`: the line that `explain route` writes. What it answers and leaves is as
@@ -264,7 +234,7 @@ pub extern "C" fn smithy_bind_explain_route(
 ) -> u8
     ensures { Answers (Command.Explain JobKind.Route) job.now result text_len.new text.old text.new }
 {
-    answer_into(alloc, Command::Explain(JobKind::Route), job, text, text_len)
+    explain_into(alloc, JobKind::Route, job, text, text_len)
 }
 
 /// The same of the command `gateway`: the line that `explain gateway` writes. What it answers and leaves is as
@@ -278,13 +248,7 @@ pub extern "C" fn smithy_bind_explain_gateway(
 ) -> u8
     ensures { Answers (Command.Explain JobKind.Gateway) job.now result text_len.new text.old text.new }
 {
-    answer_into(
-        alloc,
-        Command::Explain(JobKind::Gateway),
-        job,
-        text,
-        text_len,
-    )
+    explain_into(alloc, JobKind::Gateway, job, text, text_len)
 }
 
 /// The same of the command `answer`: the line that `explain answer` writes. What it answers and leaves is as
@@ -298,13 +262,20 @@ pub extern "C" fn smithy_bind_explain_answer(
 ) -> u8
     ensures { Answers (Command.Explain JobKind.Answer) job.now result text_len.new text.old text.new }
 {
-    answer_into(
-        alloc,
-        Command::Explain(JobKind::Answer),
-        job,
-        text,
-        text_len,
-    )
+    explain_into(alloc, JobKind::Answer, job, text, text_len)
+}
+
+// Answers the command `explain` of such a job.
+fn explain_into(
+    alloc: Global,
+    kind: JobKind,
+    job: &[u8],
+    text: &mut [u8],
+    text_len: &mut usize,
+) -> u8
+    ensures { Answers (Command.Explain kind) job.now result text_len.new text.old text.new }
+{
+    answer_into(alloc, Command::Explain(kind), job, text, text_len)
 }
 
 // Answers the command: the code of its end, the length of its text, and the text where it fits.

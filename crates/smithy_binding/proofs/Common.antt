@@ -98,8 +98,7 @@ pub use Rattle.smithy_serde.specs.Writes.{Resolved, all_resolved, firsts, firsts
 pub use Rattle.smithy_serde.specs.Writing.{Tells, label}
 pub use Rattle.smithy_serde.specs.declared.error.SerdeError.{SerdeError}
 pub use Rattle.smithy_serde.specs.declared.value.OneWrite.{OneWrite}
-pub use Rattle.smithy_types.specs.Grammars.{is_between, is_header_value, is_header_value_byte, is_legal_target, is_short_target, is_target, is_token, is_token_byte}
-pub use Rattle.smithy_types.specs.Grammars.{max_target_len}
+pub use Rattle.smithy_types.specs.Grammars.{is_header_value, is_header_value_byte, is_legal_target, is_short_target, is_target, is_token, is_token_byte}
 pub use Rattle.smithy_types.specs.Results.{each, first_of_all, then_give, then_try, unless}
 pub use Rattle.smithy_types.specs.Texts.{AreDistinct, are_distinct, found, has_byte, is_one_of, same_text}
 pub use Rattle.std.proofs.Common.{All, Bool, Err, IfErr, IfOk, IfSome, IsErr, IsSome, IsTrue, List, MatchOption, None, Ok, Option, Result}

@@ -1,9 +1,10 @@
 -- A number in decimal may stand as a header's value.
-use Rattle.smithy_binding.proofs.Common.{◌≡◌, refl, ◌∙◌, arith, ℕ, ◌+◌, ◌<◌, ◌≤◌, ◌^◌, ◌%◌, Bool, true, false, ◌&&◌, ◌||◌, ◌==◌, List, [], ◌∷◌, ◌++◌, decimal, nat_le, le-leb, list_all-append, is_header_value, is_header_value_byte, is_between}
+use Rattle.smithy_binding.proofs.Common.{◌≡◌, refl, ◌∙◌, arith, ℕ, ◌+◌, ◌<◌, ◌≤◌, ◌^◌, ◌%◌, Bool, true, false, ◌&&◌, ◌||◌, ◌==◌, List, [], ◌∷◌, ◌++◌, decimal, nat_le, le-leb, list_all-append, is_header_value, is_header_value_byte}
+use Rattle.std.specs.Int.{is_in_range}
 use Rattle.std.proofs.lemmas.Fmt.{decimal_by_steps}
 
 visible : (b : ℕ) → 48 ≤ b → b ≤ 57 → is_header_value_byte b ≡ true
-visible b low high = go (b == 9) (nat_le 32 b) (nat_le b 126) (is_between 128 255 b) (le-leb 32 b (omega arith)) (le-leb b 126 (omega arith))
+visible b low high = go (b == 9) (nat_le 32 b) (nat_le b 126) (is_in_range 128 255 b) (le-leb 32 b (omega arith)) (le-leb b 126 (omega arith))
   where
     go : (w x y z : Bool) → x ≡ true → y ≡ true → (w || (x && y) || z) ≡ true
     go true x y z e f = refl

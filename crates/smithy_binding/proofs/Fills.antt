@@ -1,5 +1,5 @@
 -- A template, cut and filled hole by hole.
-use Rattle.smithy_binding.proofs.Common.{◌≡◌, refl, ap, sym, ◌∙◌, ℕ, ◌+◌, ◌<◌, Bool, true, false, List, [], ◌∷◌, ◌++◌, append_assoc, length, Result, Ok, Err, if◌then◌else◌, arith, not, Option, Some, None, append-nil, length-append, has_byte, then_try, then_give, Hole, Template, behind_hole, literal_alone, fill_rest, filled_by, Fault, filled_fault, long_fault, too_long, unless, is_text, max_target_len, is_short_target, separator, target_behind, ◌==◌, ne_eqb, text_in}
+use Rattle.smithy_binding.proofs.Common.{◌≡◌, refl, ap, sym, ◌∙◌, ℕ, ◌+◌, ◌<◌, Bool, true, false, List, [], ◌∷◌, ◌++◌, append_assoc, length, Result, Ok, Err, if◌then◌else◌, arith, not, Option, Some, None, append-nil, length-append, has_byte, then_try, then_give, Hole, Template, behind_hole, literal_alone, fill_rest, filled_by, Fault, filled_fault, long_fault, too_long, unless, is_text, is_short_target, separator, target_behind, ◌==◌, ne_eqb, text_in}
 use Rattle.smithy_binding.specs.Filling.{filled_hole}
 use Rattle.std.proofs.lemmas.Bool.Decides.{nat_tests}
 use Rattle.std.specs.Result.{result_err}
@@ -57,13 +57,13 @@ missing-end texts rest u e = rw e refl
 
 -- what is too long stays so with more behind it
 
-past : (text : List ℕ) → max_target_len < length text → is_short_target text ≡ false
+past : (text : List ℕ) → 65534 < length text → is_short_target text ≡ false
 past text long = grind (arith, nat_tests)
 
-past-is : (text : List ℕ) → is_short_target text ≡ false → max_target_len < length text
+past-is : (text : List ℕ) → is_short_target text ≡ false → 65534 < length text
 past-is text e = grind (arith, nat_tests)
 
-longer : (text more : List ℕ) → max_target_len < length text → is_short_target (text ++ more) ≡ false
+longer : (text more : List ℕ) → 65534 < length text → is_short_target (text ++ more) ≡ false
 longer text more long = let n : length (text ++ more) ≡ length text + length more = length-append text more in past (text ++ more) (omega (arith, n, long))
 
 behind-long : (path query : List ℕ) → is_short_target path ≡ false → is_short_target (target_behind path query) ≡ false
@@ -75,7 +75,7 @@ behind-long path (b ∷ query) e = go (b == 38)
     go false = e
 
 -- a target that is too long before a hole has the fault of what is left
-pub long-before : (rest whole : Result (List ℕ) (List ℕ)) (out : List ℕ) → max_target_len < length out → then_give rest (λ t. out ++ t) ≡ whole → (f : Fault) → f ≡ long_fault rest → filled_fault whole ≡ Some f
+pub long-before : (rest whole : Result (List ℕ) (List ℕ)) (out : List ℕ) → 65534 < length out → then_give rest (λ t. out ++ t) ≡ whole → (f : Fault) → f ≡ long_fault rest → filled_fault whole ≡ Some f
 long-before (Err h) whole out long e f same = sym (ap filled_fault e) ∙ ap (λ (x : Fault). Some x) (sym same)
 long-before (Ok t) whole out long e f same = sym (ap filled_fault e) ∙ ap (λ b. unless b too_long) (longer out t long) ∙ ap (λ (x : Fault). Some x) (sym same)
 

@@ -1,5 +1,5 @@
 -- The fault of the first write of a member in a header, the query or a label.
-use Rattle.smithy_binding.proofs.Common.{◌≡◌, refl, ap, ◌∙◌, ℕ, true, List, [], ◌∷◌, Option, Some, None, option_map, is_some, if◌then◌else◌, option_or, first_of_all, unless, Schema, Binding, to_header, to_query, to_label, binding_of, Value, list, texts, inserted_at, place_at, member_text, Fault, item_fault, key_fault, value_fault, pairs_fault, is_placed_at, is_text_binding, first_fault, IsSingle, no_year}
+use Rattle.smithy_binding.proofs.Common.{◌≡◌, refl, ap, ◌∙◌, ℕ, true, List, [], ◌∷◌, Option, Some, None, option_map, is_some, if◌then◌else◌, option_or, unless, Schema, Binding, to_header, to_query, to_label, binding_of, Value, list, texts, inserted_at, place_at, member_text, Fault, item_fault, key_fault, value_fault, pairs_fault, is_placed_at, is_text_binding, first_fault, IsSingle, no_year}
 use Rattle.smithy_serde.specs.Values as value
 
 pub text-placed : (b : Binding) → is_text_binding b ≡ true → is_placed_at b ≡ true
@@ -33,7 +33,7 @@ texts-single m (value.map ws) p = absurd p
 texts-single m _ p = refl
 
 faults : Option Fault → Option Fault → Option (List (List ℕ)) → Option Fault
-faults item key ts = first_of_all (item ∷ key ∷ unless (is_some ts) no_year ∷ [])
+faults item key ts = option_or item (option_or key (unless (is_some ts) no_year))
 
 -- where it has none, that is its fault
 pub single-no_year : (m : Schema) (v : Value) → IsSingle v → member_text (place_at (binding_of m)) m v ≡ None → value_fault m v ≡ Some no_year

@@ -1,5 +1,5 @@
 -- The first write of a list in the query.
-use Rattle.smithy_binding.proofs.Common.{◌≡◌, refl, ap, sym, ◌∙◌, ℕ, List, [], ◌∷◌, ◌++◌, Option, Some, None, option_map, unwrap_or, is_some, if◌then◌else◌, option_or, append-nil, each, first_of_all, unless, Schema, Binding, to_query, binding_of, list, Writes, list_of, put_all, place_at, texts, pairs_with, inserted_at, pairs_at, query_names, labelled_at, Fault, item_fault, no_year, pairs_fault, is_placed_at, Gathered, placed_first, first_fault, element_text, queries}
+use Rattle.smithy_binding.proofs.Common.{◌≡◌, refl, ap, sym, ◌∙◌, ℕ, List, [], ◌++◌, Option, Some, None, option_map, unwrap_or, is_some, if◌then◌else◌, option_or, append-nil, each, unless, Schema, Binding, to_query, binding_of, list, Writes, list_of, put_all, place_at, texts, pairs_with, inserted_at, pairs_at, query_names, labelled_at, Fault, item_fault, no_year, pairs_fault, is_placed_at, Gathered, placed_first, first_fault, element_text, queries}
 use Rattle.smithy_strings.specs.declared.wire.Place.TheVariants.{Query}
 
 module _ (m : Schema) (ws : Writes) (name : List ℕ) (bound : to_query name ≡ binding_of m) where
@@ -8,7 +8,7 @@ module _ (m : Schema) (ws : Writes) (name : List ℕ) (bound : to_query name ≡
 
   abbrev fault_of : Binding → Option Fault → Option (List (List ℕ)) → Option Fault
   fault_of b item ts =
-      if is_placed_at b then option_or (first_of_all (item ∷ None ∷ unless (is_some ts) no_year ∷ [])) (pairs_fault m (inserted_at b m (list ws))) else None
+      if is_placed_at b then option_or (option_or item (unless (is_some ts) no_year)) (pairs_fault m (inserted_at b m (list ws))) else None
 
   by_texts : item_fault m (list ws) ≡ None → (o : Option (List (List ℕ))) → each (element_text Query) (list_of ws) ≡ o → first_fault m (list ws) ≡ fault_of (to_query name) None o
   by_texts item o e = λ j. fault_of (sym bound j) (item j) ((query_texts ∙ e) j)

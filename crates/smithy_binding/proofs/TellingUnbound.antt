@@ -1,12 +1,9 @@
 -- A loop that tells the writes of the body.
-use Rattle.smithy_binding.proofs.Common.{◌≡◌, refl, ap, sym, ◌∙◌, arith, ℕ, ◌<◌, List, [], ◌∷◌, ◌++◌, length, get_or, Option, Some, None, Result, Ok, Err, IfOk, IfErr, option_map, subst, zero, suc, unwrap_or, map-append, result_ok, result_err, Table, SerdeError, Value, write, Write, writes_of, appended, DocumentFault, document_fault, document_fault_text, IsFaultRefusal, IsTextOf, IsDefined, TellsInOrder, text_of_document, custom, fault_of_document, TellsFault, write_in, unbound_in, told, AreDefinedWrites}
+use Rattle.smithy_binding.proofs.Common.{◌≡◌, refl, ap, sym, ◌∙◌, arith, ℕ, ◌<◌, List, [], ◌∷◌, length, get_or, Option, Some, None, Result, Ok, Err, IfOk, IfErr, option_map, subst, zero, suc, unwrap_or, map-append, result_ok, result_err, Table, SerdeError, Value, writes_of, DocumentFault, document_fault, document_fault_text, IsFaultRefusal, IsTextOf, IsDefined, TellsInOrder, text_of_document, custom, fault_of_document, TellsFault, write_in, unbound_in, told, AreDefinedWrites}
 use Rattle.smithy_types.specs.Documents.{Document}
+use Rattle.smithy_serde.proofs.InOrder.{writes_of-append}
 use Rattle.smithy_serde.specs.declared.error.SerdeError.TheVariants.{Custom, OutOfMemory}
 use Rattle.smithy_binding.specs.declared.body_writes.BodyWrite.{BodyWrite}
-
-writes_of-append : (vs ws : List Write) → writes_of (vs ++ ws) ≡ appended (writes_of vs) (writes_of ws)
-writes_of-append [] ws = refl
-writes_of-append (v ∷ vs) ws = ap (write v.label v.value) (writes_of-append vs ws)
 
 pub told_in_order : (t : Table) → TellsInOrder (told t)
 told_in_order t = record { none = refl; more = λ us vs. ap writes_of (map-append (write_in t) us vs) ∙ writes_of-append (unbound_in t us) (unbound_in t vs) }

@@ -2,6 +2,7 @@
 use Rattle.std.specs.Prelude.{◌≡◌, ℕ, ◌+◌, nat_eq, nat_le, Bool, true, false, not, ◌&&◌, ◌||◌, ◌==◌, codes, List, length, map, filter, filter_map, Option, is_some, is_none, IsTrue, All}
 use Rattle.smithy_binding.specs.Words.{list_all, list_any, starts_with, option_eq, option_map_or, str_to_ascii_lowercase, TimestampFormat, are_distinct, AreDistinct, is_token, ShapeType, same_kind, is_scalar, is_unwritable, is_structure_or_union, Schema, Traits, at_place, cites_nodes, members_of, element_of, key_of, value_of}
 use denote.Enum.Declared.{tag_of}
+use Rattle.std.specs.Int.{from_bool}
 use Rattle.smithy_ids.specs.contracts.traits.TimestampFormat.{the_type}
 use Rattle.smithy_ids.specs.declared.shape_type.ShapeType.TheVariants as kind
 use Rattle.smithy_ids.specs.declared.payload_hint.PayloadHint.{PayloadHint}
@@ -19,17 +20,12 @@ has_cited_nodes schema =
 abbrev pub member_names : Schema → List (List ℕ)
 member_names schema = filter_map (λ m. m.node.member_name) (members_of schema)
 
--- 1 where the test passes, so that passed tests can be counted
-abbrev pub one_if : Bool → ℕ
-one_if true = 1
-one_if false = 0
-
 -- a member has at most one of the six request bindings (httpHeader, httpQuery, httpLabel, httpPrefixHeaders, httpQueryParams, httpPayload)
 abbrev pub is_bound_once : Schema → Bool
 is_bound_once m =
     let t = m.node.traits in
-    nat_le (one_if (is_some t.http_header) + one_if (is_some t.http_query) + one_if t.http_label
-    + one_if (is_some t.http_prefix_headers) + one_if t.http_query_params + one_if t.http_payload) 1
+    nat_le (from_bool (is_some t.http_header) + from_bool (is_some t.http_query) + from_bool t.http_label
+    + from_bool (is_some t.http_prefix_headers) + from_bool t.http_query_params + from_bool t.http_payload) 1
 
 -- a list whose element's kind passes the test
 abbrev pub has_element : (ShapeType → Bool) → Schema → Bool

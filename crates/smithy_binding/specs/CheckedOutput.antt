@@ -1,14 +1,15 @@
 -- Schemas that a response can be read by: the rules of an input, for the bindings of a response.
 use Rattle.std.specs.Prelude.{◌≡◌, ◌+◌, nat_le, Bool, not, ◌&&◌, ◌||◌, Option, is_some, is_none, option_map, find, IsTrue, All}
+use Rattle.std.specs.Int.{from_bool}
 use Rattle.smithy_binding.specs.Words.{list_all, list_any, AreDistinct, ShapeType, same_kind, is_unwritable, Schema, cites_nodes, members_of, is_response_bound}
 use Rattle.smithy_ids.specs.declared.shape_type.ShapeType.TheVariants as kind
-use Rattle.smithy_binding.specs.Checked.{has_cited_nodes, has_named_members, member_names, one_if, is_writable, has_header_kind, is_element_plain, members_with, has_at_most_one, is_sound_payload, is_text_map, has_prefix_kind, has_sound_headers}
+use Rattle.smithy_binding.specs.Checked.{has_cited_nodes, has_named_members, member_names, is_writable, has_header_kind, is_element_plain, members_with, has_at_most_one, is_sound_payload, is_text_map, has_prefix_kind, has_sound_headers}
 
 -- a member has at most one of the four response bindings (httpHeader, httpPrefixHeaders, httpResponseCode, httpPayload)
 abbrev pub is_response_bound_once : Schema → Bool
 is_response_bound_once m =
     let t = m.node.traits in
-    nat_le (one_if (is_some t.http_header) + one_if (is_some t.http_prefix_headers) + one_if t.http_response_code + one_if t.http_payload) 1
+    nat_le (from_bool (is_some t.http_header) + from_bool (is_some t.http_prefix_headers) + from_bool t.http_response_code + from_bool t.http_payload) 1
 
 -- the elements of a list in a header are plain
 abbrev pub has_plain_header_elements : Schema → Bool

@@ -1,6 +1,6 @@
 -- What is wrong with an input, or an output: the first fault in one order, as a variant and a text.
 use Rattle.std.specs.Prelude.{ℕ, Bool, true, false, not, ◌&&◌, codes, List, [], ◌∷◌, ◌++◌, Result, Ok, Err, Option, Some, None, option_map, option_and_then, option_to_list, unwrap_or, is_some, if◌then◌else◌}
-use Rattle.smithy_binding.specs.Words.{option_map_or, option_or, is_token, is_header_value, is_short_target, is_target, first_of_all, unless, ShapeType, kind_word, Schema, element_of, key_of, value_of, name_of, Binding, to_payload, to_body, binding_of, Label, Value, list, Writes, no_writes, write, Write, fits, fits_member, written_word, document_fault, document_fault_text, Resolved, resolve, resolved, has_seen}
+use Rattle.smithy_binding.specs.Words.{option_map_or, option_or, is_token, is_header_value, is_short_target, is_target, unless, ShapeType, kind_word, Schema, element_of, key_of, value_of, name_of, Binding, to_payload, to_body, binding_of, Label, Value, list, Writes, no_writes, write, Write, fits, fits_member, written_word, document_fault, document_fault_text, Resolved, resolve, resolved, has_seen}
 use Rattle.std.specs.Result.{result_err}
 use Rattle.smithy_serde.specs.Values as value
 use Rattle.smithy_binding.specs.Bindings.{kind_or_none, texts, inserted}
@@ -74,22 +74,17 @@ key_fault m _ = None
 abbrev pub no_year : Fault
 no_year = custom (codes "failed to format timestamp: year outside 1 to 9999")
 
--- a value without a text: of the kinds that were tested before, such a time
-abbrev pub year_fault : Schema → Value → Option Fault
-year_fault m v = unless (is_some (texts m v)) no_year
-
--- whether a header or an entry behind a prefix was to be made
-abbrev pub header_words : Schema → List ℕ
-header_words m = option_map_or (λ name. codes " to header `") m.node.traits.http_header (codes " to headers with prefix `")
-
--- the header's name or the prefix, as the trait spells it
-abbrev pub header_or_prefix : Schema → List ℕ
-header_or_prefix m = option_map_or (λ name. name) m.node.traits.http_header (unwrap_or m.node.traits.http_prefix_headers [])
+-- that a header or an entry behind a prefix was to be made, and the header's name or the prefix, as the trait spells it
+abbrev pub header_words : Schema → List ℕ × List ℕ
+header_words m =
+    option_map_or (λ name. (codes " to header `", name)) m.node.traits.http_header
+    (codes " to headers with prefix `", unwrap_or m.node.traits.http_prefix_headers [])
 
 -- a header that can't stand in a request
 abbrev pub wrong_header : Schema → List ℕ → Fault
 wrong_header m what =
-    invalid_input (message (codes "cannot serialize " ∷ name_of m ∷ header_words m ∷ header_or_prefix m ∷ codes "`: " ∷ what ∷ []))
+    let words = header_words m in
+    invalid_input (message (codes "cannot serialize " ∷ name_of m ∷ words.0 ∷ words.1 ∷ codes "`: " ∷ what ∷ []))
 
 -- the name is no token, or else the value has a byte that no header value has (RFC 7230, section 3.2)
 abbrev pub pair_fault : Schema → List ℕ × List ℕ → Option Fault
@@ -104,7 +99,7 @@ pairs_fault m (p ∷ ps) = option_or (pair_fault m p) (pairs_fault m ps)
 
 -- what keeps a value from having texts: a part's kind, then a key without a value, then a year
 abbrev pub value_fault : Schema → Value → Option Fault
-value_fault m v = first_of_all (item_fault m v ∷ key_fault m v ∷ year_fault m v ∷ [])
+value_fault m v = option_or (item_fault m v) (option_or (key_fault m v) (unless (is_some (texts m v)) no_year))
 
 -- the fault of the first write of a bound member other than a payload
 abbrev pub bound_fault : Resolved → Option Fault

@@ -2,7 +2,7 @@
 ghost use Rattle.std.specs.Prelude.{◌≡◌, ◌||◌, option_map};
 ghost use Rattle.smithy_binding.specs.Words.{same_kind, is_scalar, is_unwritable, is_structure_or_union, binding_of, schema_of};
 ghost use Rattle.smithy_ids.specs.declared.shape_type.ShapeType.TheVariants as kind;
-ghost use Rattle.smithy_binding.specs.Checked.{one_if, is_bound_once, is_header_kind, has_label_kind, has_query_kind, has_header_kind, is_element_plain, has_plain_elements, is_plain_string, is_plain_list, is_text_map, is_query_map, has_prefix_kind, has_map_kind, is_sound_member};
+ghost use Rattle.smithy_binding.specs.Checked.{is_bound_once, is_header_kind, has_label_kind, has_query_kind, has_header_kind, is_element_plain, has_plain_elements, is_plain_string, is_plain_list, is_text_map, is_query_map, has_prefix_kind, has_map_kind, is_sound_member};
 ghost use Rattle.smithy_binding.specs.CheckedOutput.{is_response_bound_once, has_plain_header_elements, has_code_kind, is_sound_response_member};
 ghost use Rattle.smithy_binding.specs.Broken.{has_query_map_kind};
 ghost use Rattle.smithy_binding.specs.views.Checking.{list_element, is_sound_in, is_payload_in, is_bound_in};
@@ -15,22 +15,16 @@ use smithy_ids::ShapeType;
 use smithy_schema::{Binding, SchemaRef};
 use smithy_strings::format_in;
 
-fn one_if(test: bool) -> u8
-    ensures { result ≡ one_if test }
-{
-    if test { 1 } else { 0 }
-}
-
 /// Whether it has at most one binding of a request.
 pub fn is_bound_once(member: SchemaRef<'_>) -> bool
     ensures { result ≡ is_bound_once (schema_of member.entry) }
 {
-    let count = one_if(member.http_header().is_some())
-        + one_if(member.http_query().is_some())
-        + one_if(member.http_label().is_some())
-        + one_if(member.http_prefix_headers().is_some())
-        + one_if(member.http_query_params().is_some())
-        + one_if(member.http_payload().is_some());
+    let count = u8::from(member.http_header().is_some())
+        + u8::from(member.http_query().is_some())
+        + u8::from(member.http_label().is_some())
+        + u8::from(member.http_prefix_headers().is_some())
+        + u8::from(member.http_query_params().is_some())
+        + u8::from(member.http_payload().is_some());
     count <= 1
 }
 
@@ -38,10 +32,10 @@ pub fn is_bound_once(member: SchemaRef<'_>) -> bool
 pub fn is_response_bound_once(member: SchemaRef<'_>) -> bool
     ensures { result ≡ is_response_bound_once (schema_of member.entry) }
 {
-    let count = one_if(member.http_header().is_some())
-        + one_if(member.http_prefix_headers().is_some())
-        + one_if(member.http_response_code().is_some())
-        + one_if(member.http_payload().is_some());
+    let count = u8::from(member.http_header().is_some())
+        + u8::from(member.http_prefix_headers().is_some())
+        + u8::from(member.http_response_code().is_some())
+        + u8::from(member.http_payload().is_some());
     count <= 1
 }
 

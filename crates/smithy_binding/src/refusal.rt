@@ -1,7 +1,7 @@
 // The refusals of placing a message.
 ghost use Rattle.std.specs.Prelude.{◌≡◌};
 ghost use Rattle.smithy_binding.specs.Words.{Table, schema_of, value_in, label_of};
-ghost use Rattle.smithy_binding.specs.Faults.{wrong_kind, wrong_item_kind, wrong_header, header_words, header_or_prefix, missing_hole, too_long, not_legal, no_year, unmatched_key, no_member};
+ghost use Rattle.smithy_binding.specs.Faults.{wrong_kind, wrong_item_kind, wrong_header, header_words, missing_hole, too_long, not_legal, no_year, unmatched_key, no_member};
 ghost use Rattle.smithy_binding.specs.ResponseCodes.{no_status};
 ghost use Rattle.smithy_binding.specs.Refusing.{Says};
 
@@ -75,27 +75,18 @@ pub fn no_year(alloc: Global) -> SerdeError
     SerdeError::custom(alloc, YEAR_OUT_OF_RANGE)
 }
 
-// What stands before the name or the prefix of the member's trait.
-fn header_words(member: SchemaRef<'_>) -> &'static str
-    ensures { result.now ≡ header_words (schema_of member.entry) }
-{
-    match member.http_header() {
-        Some(_) => " to header `",
-        None => " to headers with prefix `",
-    }
-}
-
-// The name or the prefix of the member's trait.
-fn header_or_prefix<'t>(member: SchemaRef<'t>) -> &'t str
-    ensures { result.now ≡ header_or_prefix (schema_of member.entry) }
+// What was to be made, and the name or the prefix of the member's trait.
+fn header_words<'t>(member: SchemaRef<'t>) -> (&'static str, &'t str)
+    ensures words { result.0.now ≡ (header_words (schema_of member.entry)).0 }
+    ensures given { result.1.now ≡ (header_words (schema_of member.entry)).1 }
 {
     if let Some(header) = member.http_header() {
-        return header.value();
+        return (" to header `", header.value());
     }
-    if let Some(prefix) = member.http_prefix_headers() {
-        return prefix.value();
+    match member.http_prefix_headers() {
+        Some(prefix) => (" to headers with prefix `", prefix.value()),
+        None => (" to headers with prefix `", ""),
     }
-    ""
 }
 
 /// A header of the member has a name or a value that no header has.
@@ -103,8 +94,7 @@ pub fn wrong_header(alloc: Global, member: SchemaRef<'_>, what: &str) -> SerdeEr
     ensures { Says result (wrong_header (schema_of member.entry) what.now) }
 {
     let name = name_of(member);
-    let words = header_words(member);
-    let given = header_or_prefix(member);
+    let (words, given) = header_words(member);
     match format!(in alloc; "cannot serialize {name}{words}{given}`: {what}") {
         Ok(text) => SerdeError::invalid_input(alloc, text.as_str()),
         Err(_) => SerdeError::OutOfMemory,

@@ -1,5 +1,5 @@
 -- Texts read as big numbers.
-use Rattle.smithy_document.proofs.Common.{◌≡◌, ℕ, List, Bool, true, false, Some, None, Result, Ok, Err, inr, refl, sym, ◌∙◌, ap, subst, codes, IsTrue, is_big_integer_in_range, is_big_decimal_in_range, then_give, Document, Number, string_in, number_in, whole_text, is_negative, big_integer_of_text, big_decimal_of_text, truncated, scalar_of_document, mismatch, SerdeError, OutOfMemory, Gives, IsRefusal, Scalar, big_integer, big_decimal, only_if, whole_part, too_large}
+use Rattle.smithy_document.proofs.Common.{◌≡◌, ℕ, List, Bool, true, false, Some, None, Result, Ok, Err, inr, refl, sym, ◌∙◌, ap, subst, codes, IsTrue, is_big_integer_in_range, is_big_decimal_in_range, then_give, Document, Number, string_in, number_in, whole_text, is_negative, big_integer_of_text, big_decimal_of_text, truncated, scalar_of_document, mismatch, SerdeError, OutOfMemory, Gives, IsRefusal, Scalar, big_integer, big_decimal, then_some, whole_part, too_large}
 use Rattle.smithy_ids.specs.declared.shape_type.ShapeType.TheVariants as kind
 use Rattle.std.specs.Option.{ok_or}
 use Rattle.smithy_types.specs.Documents as doc
@@ -10,28 +10,28 @@ pub gives_memory : {A : Type 0} (see : A → Scalar) (r : Result Scalar SerdeErr
 gives_memory see (Ok v) e h = h
 gives_memory see (Err x) e h = inr h
 
-pub none_passes : (b : Bool) (text : List ℕ) → None ≡ only_if b text → b ≡ false
+pub none_passes : (b : Bool) (text : List ℕ) → None ≡ then_some b text → b ≡ false
 none_passes true text h = absurd (cc h)
 none_passes false text h = refl
 
-pub passed : (b : Bool) (text n : List ℕ) → Some n ≡ only_if b text → (b ≡ true) × (n ≡ text)
+pub passed : (b : Bool) (text n : List ℕ) → Some n ≡ then_some b text → (b ≡ true) × (n ≡ text)
 passed true text n h = (refl, cc h)
 passed false text n h = absurd (cc h)
 
-pub integer_given : (text n : List ℕ) → Some n ≡ only_if (is_big_integer_in_range text) text → Gives {A = List ℕ} big_integer (Some (big_integer_of_text text)) (Ok n)
+pub integer_given : (text n : List ℕ) → Some n ≡ then_some (is_big_integer_in_range text) text → Gives {A = List ℕ} big_integer (Some (big_integer_of_text text)) (Ok n)
 integer_given text n h = let p = passed (is_big_integer_in_range text) text n h in rw p.0 (ap big_integer p.1)
 
-pub decimal_given : (text n : List ℕ) → Some n ≡ only_if (is_big_decimal_in_range text) text → Gives {A = List ℕ} big_decimal (Some (big_decimal_of_text text)) (Ok n)
+pub decimal_given : (text n : List ℕ) → Some n ≡ then_some (is_big_decimal_in_range text) text → Gives {A = List ℕ} big_decimal (Some (big_decimal_of_text text)) (Ok n)
 decimal_given text n h = let p = passed (is_big_decimal_in_range text) text n h in rw p.0 (ap big_decimal p.1)
 
-pub decimal_none : (text : List ℕ) (e : SerdeError) → None ≡ only_if (is_big_decimal_in_range text) text → IsRefusal (not_parsed text (codes " as bigDecimal")) e → Gives {A = List ℕ} big_decimal (Some (big_decimal_of_text text)) (Err e)
+pub decimal_none : (text : List ℕ) (e : SerdeError) → None ≡ then_some (is_big_decimal_in_range text) text → IsRefusal (not_parsed text (codes " as bigDecimal")) e → Gives {A = List ℕ} big_decimal (Some (big_decimal_of_text text)) (Err e)
 decimal_none text e h refusal = rw (none_passes (is_big_decimal_in_range text) text h) refusal
 
-pub part_none : (text : List ℕ) (e : SerdeError) → is_big_integer_in_range text ≡ false → None ≡ only_if (is_big_decimal_in_range text) text → IsRefusal (not_parsed text (codes " as bigInteger")) e
+pub part_none : (text : List ℕ) (e : SerdeError) → is_big_integer_in_range text ≡ false → None ≡ then_some (is_big_decimal_in_range text) text → IsRefusal (not_parsed text (codes " as bigInteger")) e
     → Gives {A = List ℕ} big_integer (Some (big_integer_of_text text)) (Err e)
 part_none text e wide h refusal = rw (wide, none_passes (is_big_decimal_in_range text) text h) refusal
 
-pub part_given : (text n : List ℕ) (r : Result (List ℕ) SerdeError) → is_big_integer_in_range text ≡ false → Some n ≡ only_if (is_big_decimal_in_range text) text → Gives {A = List ℕ} big_integer (Some (truncated n)) r
+pub part_given : (text n : List ℕ) (r : Result (List ℕ) SerdeError) → is_big_integer_in_range text ≡ false → Some n ≡ then_some (is_big_decimal_in_range text) text → Gives {A = List ℕ} big_integer (Some (truncated n)) r
     → Gives {A = List ℕ} big_integer (Some (big_integer_of_text text)) r
 part_given text n r wide h gives = let p = passed (is_big_decimal_in_range text) text n h in rw (wide, p.0, ← p.1) gives
 

@@ -64,7 +64,7 @@ pub use Rattle.smithy_serde.specs.Told.{Open, State, appended, begun, empty_stat
 pub use Rattle.smithy_serde.specs.ValueRead.{all_read, entry_by, list_by, map_by, value_by_kind, value_of_structure, value_read, write_by}
 pub use Rattle.smithy_serde.specs.Values.{Label, Scalar, Value, Width, Write, Writes, big_decimal, big_integer, byte, integer, keys_of}
 pub use Rattle.smithy_serde.specs.Values.{label_of, list, list_of, long, no_writes, scalar, short, structure, text_of_key, write, writes_of}
-pub use Rattle.smithy_serde.specs.Writes.{only_if}
+pub use Rattle.std.specs.Bool.{then_some}
 pub use Rattle.smithy_serde.specs.Writing.{Calls, IsByRule, label, scalar_of}
 pub use Rattle.smithy_serde.specs.declared.error.SerdeError.{SerdeError}
 pub use Rattle.smithy_serde.specs.declared.error.SerdeError.TheVariants.{Custom, InvalidInput, OutOfMemory}

@@ -1,5 +1,5 @@
 -- How a cursor moves, as a reader is seen.
-use Rattle.smithy_document.proofs.Common.{◌≡◌, ℕ, ◌+◌, ◌-◌, ◌<◌, Bool, true, false, List, [], ◌∷◌, ◌++◌, map, length, slice_get, Option, Some, None, option_map, Ok, Err, inl, inr, refl, sym, ap, ◌∙◌, subst, arith, flat_map, IfSome, option_map_or, unwrap_or, Document, list_of_items, nesting, Schema, mismatch, SerdeError, OutOfMemory, Group, Held, walked, elements, entries, fields, known, IsIn, NotOpened, IsRefused, IsRefusedAt, Hands, SettlesBy, Advanced, MemberAdvanced, Closed, Halted, NextElement, IsRefusal, only_if, Spot, spot_list, document_in, name_in, opened_in, seen, ClosesAt, StepsTo, Advances, ClosesBehind, StepsToMember, Part, nameless, parts_of, opens_as, kind_of_group, handed_out, told_out, frame_of, reading, Names, name_at, part_in, rest_in, step_in, at_path, opened_at, last_name}
+use Rattle.smithy_document.proofs.Common.{◌≡◌, ℕ, ◌+◌, ◌-◌, ◌<◌, Bool, true, false, List, [], ◌∷◌, ◌++◌, map, length, slice_get, Option, Some, None, option_map, Ok, Err, inl, inr, refl, sym, ap, ◌∙◌, subst, arith, flat_map, IfSome, option_map_or, unwrap_or, Document, list_of_items, nesting, Schema, mismatch, SerdeError, OutOfMemory, Group, Held, walked, elements, entries, fields, known, IsIn, NotOpened, IsRefused, IsRefusedAt, Hands, SettlesBy, Advanced, MemberAdvanced, Closed, Halted, NextElement, IsRefusal, then_some, Spot, spot_list, document_in, name_in, opened_in, seen, ClosesAt, StepsTo, Advances, ClosesBehind, StepsToMember, Part, nameless, parts_of, opens_as, kind_of_group, handed_out, told_out, frame_of, reading, Names, name_at, part_in, rest_in, step_in, at_path, opened_at, last_name}
 use Rattle.std.proofs.lemmas.List.Sums.{fold_push}
 use Rattle.smithy_types.specs.Documents as doc
 use Rattle.smithy_serde.specs.declared.scalar.Group.TheVariants as group
@@ -25,11 +25,11 @@ listed group.Map node (doc.object ms) h = refl
 listed group.Structure node (doc.object ms) h = refl
 listed _ node _ h = absurd (cc h)
 
-told_listed : (tells : Bool) (g : Group) (node : Schema) (d : Document) → opens_as g d ≡ true → told_out tells g (parts_of d) (asked g node) ≡ contents_at (only_if tells (held.document d)) g node
+told_listed : (tells : Bool) (g : Group) (node : Schema) (d : Document) → opens_as g d ≡ true → told_out tells g (parts_of d) (asked g node) ≡ contents_at (then_some tells (held.document d)) g node
 told_listed true g node d h = listed g node d h
 told_listed false g node d h = refl
 
-same_container : (tells : Bool) (d : Document) → only_if tells (held.document d) ≡ option_map walked (only_if tells (held.document d))
+same_container : (tells : Bool) (d : Document) → then_some tells (held.document d) ≡ option_map walked (then_some tells (held.document d))
 same_container true d = refl
 same_container false d = refl
 
@@ -66,7 +66,7 @@ refused_listing group.Map node d e h is = record { none_left = refl; ended = ap 
 refused_listing group.Structure node (doc.object ms) e h is = absurd (cc h)
 refused_listing group.Structure node d e h is = record { none_left = refl; ended = ap (λ (x : SerdeError). Some x) (sym is) }
 
-told_refused : (tells : Bool) (g : Group) (node : Schema) (d : Document) (e : SerdeError) → opens_as g d ≡ false → IsRefusal (mismatch (kind_of_group g) d) e → IsRefused (contents_at (only_if tells (held.document d)) g node) e
+told_refused : (tells : Bool) (g : Group) (node : Schema) (d : Document) (e : SerdeError) → opens_as g d ≡ false → IsRefusal (mismatch (kind_of_group g) d) e → IsRefused (contents_at (then_some tells (held.document d)) g node) e
 told_refused tells g node d e h (inr memory) = inl memory
 told_refused true g node d e h (inl is) = inr (refused_listing g node d e h is)
 told_refused false g node d e h (inl is) = inr tt
@@ -153,7 +153,7 @@ settles : {A : Type 0} (named : A → Slot × Held) (xs : List A) (slot : Slot) 
 settles named xs slot = (λ e. Err e, refl, λ e. refl)
 
 pub record Handing (tells : Bool) (g : Group) (by : Option Schema) (rest more : List Part) (slot : Slot) (d : Document) : Type 0 where
-  pub hands : Hands (told_out tells g rest by) slot (only_if tells (held.document d)) (told_out tells g more by)
+  pub hands : Hands (told_out tells g rest by) slot (then_some tells (held.document d)) (told_out tells g more by)
   pub settles : SettlesBy (told_out tells g rest by) slot (Some (λ e. Err e))
 
 element_out : (tells : Bool) (g : Group) (rest more : List Part) (name : List ℕ) (d : Document) → g ≡ group.List → rest ≡ (name, d) ∷ more → Handing tells g None rest more at_element d
@@ -211,7 +211,7 @@ closed : (tells : Bool) (by : Option Schema) (d0 d : Document) (before after : L
 closed tells by d0 d before after top was again left = record {
   top = frame_of tells top;
   was = ap (map (frame_of tells)) was;
-  held = ap (λ x. only_if tells (held.document x)) again;
+  held = ap (λ x. then_some tells (held.document x)) again;
   levels = ap nesting again;
   none_left = left.none_left;
   not_refused = left.not_refused;

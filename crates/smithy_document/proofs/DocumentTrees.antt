@@ -11,7 +11,7 @@ use Rattle.smithy_document.specs.declared.json_tree.Node.{Bool as TheBool, Numbe
 use Rattle.smithy_document.proofs.NodeLemmas.{view-Text as node_text, view-Array as node_array, view-Object as node_object}
 use Rattle.smithy_document.proofs.JsonTreeLemmas.{node_null, node_bool, node_number}
 use Rattle.smithy_document.proofs.PrintLemmas.{view-Array, view-Object}
-use Rattle.smithy_document.proofs.TreeDocuments.{Texts, one_stays, field_view, text_pushed}
+use Rattle.smithy_document.proofs.TreeDocuments.{Texts, one_stays, text_pushed}
 use Rattle.smithy_document.proofs.ValueLemmas.{Pair, members_from, members_from_list}
 
 -- ---- what is seen of the parts that are found

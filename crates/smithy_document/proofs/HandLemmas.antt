@@ -1,6 +1,6 @@
 -- Readers of documents, as they are seen.
 use Rattle.std.specs.Prelude.{option_map}
-use Rattle.smithy_document.proofs.Common.{◌≡◌, ℕ, Bool, true, false, List, [], ◌∷◌, ◌++◌, map, Option, Some, None, Result, Ok, Err, inl, inr, refl, sym, ap, IfSome, OnErr, is_none, Document, Schema, scalar_of_document, SerdeError, InvalidInput, Group, ReadScalar, Held, Answer, IsAnswer, is_null_document, is_null_held, read_scalar, elements, entries, fields, Gives, Answered, NotOpened, Reads, scalar_of_read, read_at, type_of, IsRefusal, only_if, spot_list, seen, refusing, Opened, frame_of, reading, at_path, Coercions, ReadsBy}
+use Rattle.smithy_document.proofs.Common.{◌≡◌, ℕ, Bool, true, false, List, [], ◌∷◌, ◌++◌, map, Option, Some, None, Result, Ok, Err, inl, inr, refl, sym, ap, IfSome, OnErr, is_none, Document, Schema, scalar_of_document, SerdeError, InvalidInput, Group, ReadScalar, Answer, is_null_document, is_null_held, read_scalar, elements, entries, fields, Gives, Answered, NotOpened, Reads, scalar_of_read, read_at, type_of, IsRefusal, then_some, spot_list, seen, refusing, Opened, frame_of, reading, at_path, Coercions, ReadsBy}
 use Rattle.smithy_serde.specs.declared.scalar.Group.TheVariants as group
 use Rattle.smithy_serde.specs.declared.read_scalar.ScalarKind.{ScalarKind}
 use Rattle.smithy_serde.specs.Held as held
@@ -15,7 +15,7 @@ read_gives k node d r h = h
 
 -- with settings of a caller's own nothing is told
 pub read_by : {X S : Type 0} (f : X → S) (by : S → Coercions) (settings : Option X) (k : ScalarKind) (node : Schema) (d : Document) (r : Result ReadScalar SerdeError)
-    → ReadsBy by (option_map f settings) k d r → Gives scalar_of_read (read_at k node (only_if (is_none settings) (held.document d))) r
+    → ReadsBy by (option_map f settings) k d r → Gives scalar_of_read (read_at k node (then_some (is_none settings) (held.document d))) r
 unfolding read_scalar
 read_by f by None k node d r h = h
 read_by f by (Some s) k node d r h = tt
@@ -51,7 +51,7 @@ answered tells d os refusal = record {
   settled = λ above below frame form is. rw (settled_in tells os above below frame is) (inl refl);
 }
 
-pub null_told : (tells : Bool) (d : Document) (b : Bool) → b ≡ is_null_document d → IfSome (only_if tells (held.document d)) (λ h. b ≡ is_null_held h)
+pub null_told : (tells : Bool) (d : Document) (b : Bool) → b ≡ is_null_document d → IfSome (then_some tells (held.document d)) (λ h. b ≡ is_null_held h)
 null_told true d b h = h
 null_told false d b h = tt
 

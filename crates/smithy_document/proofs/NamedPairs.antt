@@ -1,6 +1,6 @@
 -- Names with their values beside names with their documents.
 use Rattle.std.proofs.Common.{unwrap_or}
-use Rattle.smithy_document.proofs.Common.{◌≡◌, refl, sym, ap, subst, ◌∙◌, ℕ, true, ◌&&◌, List, [], ◌∷◌, Option, Some, None, is_some, ok_or, Result, Ok, Err, nat_cmp, match_ordering, Ordering, Less, Equal, Greater, slice_cmp, and_parts, with_value, then_try, then_give, Document, Members, items_of, put, put_all, members_of, list_of_items, list_of_members, Schema, Label, Scalar, Value, Write, Writes, scalar, list, structure, no_writes, write, list_of, writes_of, label_of, text_of_key, keys_of, is_in_range, fits, fits_in_range, DocumentFault, no_member_name, document_of, entries_of, entries_behind, fields_of, field_name, key_text, settled, settled_fields, settled_entries, settled_behind, in_key_order, is_shaped, are_fields_shaped, are_entries_shaped, are_values_shaped, named_member}
+use Rattle.smithy_document.proofs.Common.{◌≡◌, refl, sym, ap, subst, ◌∙◌, ℕ, true, ◌&&◌, List, [], ◌∷◌, Option, Some, None, is_some, ok_or, Result, Ok, Err, nat_cmp, match_ordering, Ordering, Less, Equal, Greater, slice_cmp, and_parts, with_value, then_try, then_give, Document, Members, put, put_all, members_of, list_of_members, Schema, Label, Value, Writes, scalar, no_writes, write, text_of_key, is_in_range, fits, fits_in_range, DocumentFault, no_member_name, document_of, entries_of, entries_behind, fields_of, field_name, key_text, settled, settled_fields, settled_entries, settled_behind, in_key_order, is_shaped, are_fields_shaped, are_entries_shaped, are_values_shaped, named_member}
 use Rattle.smithy_types.specs.Documents as doc
 use Rattle.smithy_ids.specs.declared.shape_type.ShapeType.TheVariants as kind
 use Rattle.smithy_serde.specs.Values as value

@@ -1,5 +1,5 @@
 -- A tree of JSON beside the document that it is, a level at a time.
-use Rattle.smithy_document.proofs.Common.{◌≡◌, ℕ, min, List, [], ◌∷◌, length, map, slice_get, Option, Some, None, option_map, Vec, Global, refl, sym, ap, ◌∙◌, rules, option_map_or, length-map, slice_get-map, Document, items_of, list_of_members, Node, the_lemmas, text_at, node_view, nodes_view, fields_view, part_name, Part, nameless, parts_of}
+use Rattle.smithy_document.proofs.Common.{◌≡◌, ℕ, min, List, [], ◌∷◌, length, map, slice_get, Option, Some, None, option_map, Vec, Global, refl, sym, ap, ◌∙◌, rules, option_map_or, length-map, slice_get-map, Document, list_of_members, Node, the_lemmas, text_at, node_view, nodes_view, fields_view, part_name, Part, nameless, parts_of}
 use Rattle.smithy_types.specs.Documents as doc
 use Rattle.smithy_document.specs.declared.json_tree.Node.TheVariants.{Text, Array, Object}
 use Rattle.smithy_document.specs.Sizes.{container_size}

@@ -1,5 +1,5 @@
 -- The normal form of a value that follows its node has the value's document.
-use Rattle.smithy_document.proofs.Common.{◌≡◌, refl, sym, ap, subst, ◌∙◌, ℕ, Bool, true, false, cond, ◌&&◌, List, [], ◌∷◌, find, filter_map, Option, Some, None, option_map, option_and_then, is_some, ok_or, Ok, cons_option, option_map_or, option_or, and_parts, same_text, are_distinct, then_try, then_give, Document, Members, items_of, put, put_all, members_of, list_of_items, list_of_members, Schema, element_of, key_of, value_of, Label, Scalar, Value, Write, Writes, scalar, list, structure, no_writes, write, list_of, writes_of, label_of, text_of_key, keys_of, no_member_name, document_of, elements_of, entries_of, fields_of, field_name, settled, settled_elements, settled_fields, settled_entries, own_label, entry_writes, is_shaped, are_shaped, are_fields_shaped, are_entries_shaped, fits_at, fields_at, has_distinct_fields, named_member, is_named, is_kind, no_label, last_named, field_of, same_self, Pairs, last_of, all_put, look_ordered, all_ascend, last_ascending, known_by_names, or_none}
+use Rattle.smithy_document.proofs.Common.{◌≡◌, refl, sym, ap, ◌∙◌, ℕ, Bool, true, false, cond, ◌&&◌, List, [], ◌∷◌, find, filter_map, Option, Some, None, option_map, option_and_then, is_some, ok_or, Ok, cons_option, option_map_or, option_or, and_parts, same_text, are_distinct, then_try, then_give, Document, Members, items_of, members_of, list_of_members, Schema, element_of, key_of, value_of, Label, Scalar, Value, Write, Writes, scalar, list, structure, no_writes, write, writes_of, label_of, keys_of, no_member_name, document_of, elements_of, entries_of, fields_of, field_name, settled, settled_elements, settled_fields, settled_entries, own_label, entry_writes, is_shaped, are_shaped, are_fields_shaped, are_entries_shaped, fits_at, fields_at, has_distinct_fields, named_member, is_named, is_kind, no_label, last_named, field_of, same_self, Pairs, last_of, all_put, look_ordered, all_ascend, last_ascending, known_by_names, or_none}
 use Rattle.std.specs.Cmp.Lexicographic.{same_text as same_from_test}
 use Rattle.smithy_types.specs.Documents as doc
 use Rattle.smithy_ids.specs.declared.shape_type.ShapeType.TheVariants as kind

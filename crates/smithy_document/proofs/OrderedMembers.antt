@@ -1,5 +1,5 @@
 -- The members of ordered data are an object's members as they stand.
-use Rattle.smithy_document.proofs.Common.{◌≡◌, ℕ, List, [], ◌∷◌, IsTrue, Option, None, Some, refl, sym, ap, ◌∙◌, subst, IfSome, Document, list_of_members, of_data, pairs_of_data}
+use Rattle.smithy_document.proofs.Common.{◌≡◌, ℕ, List, [], ◌∷◌, IsTrue, Option, None, Some, refl, sym, ap, ◌∙◌, subst, IfSome, list_of_members, of_data, pairs_of_data}
 use Rattle.serde_json.specs.Data as parsed
 use Rattle.smithy_types.specs.Documents as doc
 use Rattle.smithy_json.specs.Ordered.{is_before}

@@ -1,10 +1,9 @@
 -- What settings that answer as `NoSettings` read.
-use Rattle.smithy_document.proofs.Common.{◌≡◌, ℕ, ℤ, List, Some, Result, Ok, Err, inl, inr, subst, Document, or_document_refusal, scalar_of_document, Gives, scalar_of_read, type_of, Scalar, SerdeError, OutOfMemory, ReadScalar, plain_coercions, Coerced, ReadsWith, ReadsPlainly}
+use Rattle.smithy_document.proofs.Common.{◌≡◌, Some, Result, Ok, Err, inl, inr, subst, or_document_refusal, Gives, scalar_of_read, Scalar, SerdeError, OutOfMemory, Coerced, ReadsPlainly}
 use Rattle.smithy_types.specs.Documents as doc
 use Rattle.smithy_types.specs.Settings.{plain_blob, plain_number_timestamp, plain_text_timestamp}
 use Rattle.smithy_types.specs.declared.error.DocumentError.{DocumentError}
 use Rattle.smithy_serde.specs.Values as value
-use Rattle.smithy_serde.specs.declared.read_scalar.ScalarKind.{ScalarKind}
 use Rattle.smithy_serde.specs.declared.read_scalar.ScalarKind.TheVariants as of
 
 by_memory : {A : Type 0} (f : A → Scalar) (expected : Result Scalar SerdeError) (e : SerdeError) → e ≡ OutOfMemory → Gives f (Some expected) (Err e)

@@ -1,5 +1,5 @@
 -- A value that follows its node has a document.
-use Rattle.smithy_document.proofs.Common.{◌≡◌, refl, sym, ap, ◌∙◌, ℕ, true, false, ◌&&◌, List, [], ◌∷◌, find, Option, Some, None, option_and_then, is_some, ok_or, Result, Ok, and_parts, are_distinct, then_try, then_give, Document, Members, items_of, put, put_all, members_of, list_of_items, list_of_members, Schema, element_of, key_of, value_of, Label, Scalar, Value, Write, Writes, scalar, list, structure, no_writes, write, list_of, writes_of, label_of, text_of_key, keys_of, is_in_range, fits, fits_in_range, DocumentFault, no_member_name, document_of, elements_of, entries_of, entries_behind, fields_of, field_name, key_text, scalar_document, known, is_shaped, are_shaped, are_fields_shaped, are_entries_shaped, are_values_shaped, fits_at, fields_at, has_distinct_fields, named_member, is_named, is_kind}
+use Rattle.smithy_document.proofs.Common.{◌≡◌, refl, sym, ap, ◌∙◌, ℕ, true, false, ◌&&◌, List, [], ◌∷◌, find, Option, Some, None, option_and_then, is_some, ok_or, Result, Ok, and_parts, are_distinct, then_try, then_give, Document, items_of, members_of, Schema, element_of, key_of, value_of, Label, Value, Writes, scalar, list, structure, no_writes, write, keys_of, is_in_range, fits, fits_in_range, DocumentFault, no_member_name, document_of, elements_of, entries_of, entries_behind, fields_of, field_name, key_text, scalar_document, known, is_shaped, are_shaped, are_fields_shaped, are_entries_shaped, are_values_shaped, fits_at, fields_at, has_distinct_fields, named_member, is_named, is_kind}
 use Rattle.smithy_types.specs.Documents as doc
 use Rattle.smithy_ids.specs.declared.shape_type.ShapeType.TheVariants as kind
 use Rattle.smithy_serde.specs.Values as value

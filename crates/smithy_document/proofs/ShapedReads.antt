@@ -1,5 +1,5 @@
 -- The document of a value that follows its node, read by the node, gives the value's normal form.
-use Rattle.smithy_document.proofs.Common.{◌≡◌, refl, sym, ap, ap₂, subst, ◌∙◌, ℕ, true, ◌&&◌, List, [], ◌∷◌, ◌++◌, map, find, Option, Some, None, option_and_then, is_some, Result, Ok, flat_map, AllByRecursion, option_map_or, result_err, and_parts, are_distinct, then_try, then_give, Document, Members, items_of, put, put_all, members_of, list_of_items, list_of_members, Schema, element_of, key_of, value_of, shape, Label, Scalar, Value, Write, Writes, scalar, list, structure, no_writes, write, list_of, writes_of, label_of, text_of_key, keys_of, is_in_range, kind_takes, fits, document_of, elements_of, entries_of, fields_of, scalar_document, Held, elements, entries, fields, known, settled, settled_elements, settled_fields, settled_entries, own_label, in_key_order, entry_writes, is_shaped, are_shaped, are_fields_shaped, are_entries_shaped, fits_at, has_distinct_fields, named_member, is_named, is_kind, no_label, all_read, write_by, entry_by, value_read, value_of_structure, list_by, map_by, SerdeError, Stands, Follows, HasDocument, HasCanonicalDocument, NormalFormHasDocument, ReadsNormalForm, ReadsNormalStructure, TellsNormalForm, TellsApartNormalForms}
+use Rattle.smithy_document.proofs.Common.{◌≡◌, refl, sym, ap, ap₂, subst, ◌∙◌, ℕ, true, ◌&&◌, List, [], ◌∷◌, ◌++◌, map, find, Option, Some, None, option_and_then, is_some, Result, Ok, flat_map, AllByRecursion, option_map_or, result_err, and_parts, are_distinct, then_try, then_give, Document, Members, items_of, members_of, list_of_items, Schema, element_of, key_of, value_of, shape, Scalar, Value, Write, Writes, scalar, list, structure, no_writes, write, list_of, writes_of, label_of, keys_of, is_in_range, kind_takes, fits, document_of, elements_of, entries_of, fields_of, scalar_document, Held, elements, entries, fields, known, settled, settled_elements, settled_fields, settled_entries, own_label, in_key_order, entry_writes, is_shaped, are_shaped, are_fields_shaped, are_entries_shaped, fits_at, has_distinct_fields, named_member, is_named, is_kind, no_label, all_read, write_by, entry_by, value_read, value_of_structure, list_by, map_by, SerdeError, Stands, Follows, HasDocument, HasCanonicalDocument, NormalFormHasDocument, ReadsNormalForm, ReadsNormalStructure, TellsNormalForm, TellsApartNormalForms}
 use Rattle.smithy_types.specs.Documents as doc
 use Rattle.smithy_ids.specs.declared.shape_type.ShapeType.{ShapeType}
 use Rattle.smithy_ids.specs.declared.shape_type.ShapeType.TheVariants as kind

@@ -1,6 +1,6 @@
 -- Parts whose names are no member's are passed over.
 use Rattle.std.specs.Prelude.{option_and_then}
-use Rattle.smithy_document.proofs.Common.{◌≡◌, ℕ, ◌<◌, ◌≤◌, List, [], ◌∷◌, ◌++◌, length, Option, Some, None, refl, sym, ap, ◌∙◌, subst, arith, flat_map, option_map_or, Document, nesting, Schema, member_named, member_at, position_of_name, Held, known, IsMember, Spot, ClosesAt, StepsTo, ClosesBehind, StepsToMember, Part, Opened, step_in, opened_at}
+use Rattle.smithy_document.proofs.Common.{◌≡◌, ℕ, ◌<◌, ◌≤◌, List, [], ◌∷◌, ◌++◌, length, Option, Some, None, refl, sym, ap, ◌∙◌, subst, arith, flat_map, option_map_or, Document, nesting, Schema, member_named, member_at, position_of_name, known, IsMember, Spot, ClosesAt, StepsTo, ClosesBehind, StepsToMember, Part, Opened, step_in, opened_at}
 use Rattle.smithy_serde.specs.Held as held
 use Rattle.smithy_document.specs.views.Paths.{opened_along}
 

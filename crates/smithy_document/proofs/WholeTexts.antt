@@ -1,24 +1,9 @@
 -- The decimal texts of whole numbers are big numbers.
-use Rattle.smithy_document.proofs.Common.{◌≡◌, refl, ap, ◌∙◌, ℕ, ◌+◌, ◌<◌, ◌≤◌, ◌^◌, ◌==◌, ◌≢◌, suc, nat_eq, codes, Bool, true, false, List, [], ◌∷◌, length, ℤ, pos, negsuc, arith, FitsSigned, to_z, of_z, digit_value, signed_decimal, IsInRange, w128, list_all, starts_with, position_or_len, AllDigits, digits_value, and_parts, and_from, le-leb, ne_eqb, decimal_is_IsNumeral_wide, to_z-of_z, append-nil, take_all, drop_all, is_digit-in_range, signed_digits-mantissa, is_mantissa, is_exponent, mantissa_of, exponent_of, is_digit, is_sign, is_exponent_mark, unsigned, are_digits, is_signed_digits, is_big_decimal, coefficient, has_narrow_coefficient, is_big_integer_in_range, is_big_decimal_in_range}
+use Rattle.smithy_document.proofs.Common.{◌≡◌, refl, ap, ◌∙◌, ℕ, ◌+◌, ◌<◌, ◌≤◌, ◌^◌, ◌==◌, suc, nat_eq, codes, true, false, List, [], ◌∷◌, length, ℤ, pos, negsuc, arith, FitsSigned, to_z, of_z, digit_value, signed_decimal, w128, list_all, starts_with, AllDigits, digits_value, and_parts, and_from, le-leb, ne_eqb, decimal_is_IsNumeral_wide, to_z-of_z, append-nil, take_all, drop_all, is_digit-in_range, signed_digits-mantissa, is_mantissa, is_exponent, mantissa_of, exponent_of, is_digit, is_sign, is_exponent_mark, unsigned, are_digits, is_signed_digits, is_big_decimal, coefficient, has_narrow_coefficient, is_big_integer_in_range, is_big_decimal_in_range}
 use Rattle.std.specs.Fmt.{decimal}
 use Rattle.std.proofs.lemmas.Bool.{lt-ltb}
 use Rattle.std.proofs.lemmas.Str.Parse.{digit_from_value}
-
-not_equal : (b other : ℕ) → is_digit b ≡ true → (IsInRange 48 57 b → b ≢ other) → (b == other) ≡ false
-not_equal b other e apart = ne_eqb b other (apart (is_digit-in_range b e))
-
-no_point : (b : ℕ) → is_digit b ≡ true → (b == 46) ≡ false
-no_point b e = not_equal b 46 e (λ r same. omega arith)
-
-no_mark : (b : ℕ) → is_digit b ≡ true → is_exponent_mark b ≡ false
-no_mark b e = rw (not_equal b 101 e (λ r same. omega arith), not_equal b 69 e (λ r same. omega arith)) refl
-
--- digits have no byte that is no digit
-uncut : (p : ℕ → Bool) → ((b : ℕ) → is_digit b ≡ true → p b ≡ false) → (ds : List ℕ) → list_all is_digit ds ≡ true → position_or_len p ds ≡ length ds
-uncut p none [] all = refl
-uncut p none (d ∷ ds) all =
-    let parts = and_parts (is_digit d) (list_all is_digit ds) all in
-    rw (none d parts.0) (let more : 1 + position_or_len p ds ≡ suc (length ds) = omega (arith, uncut p none ds parts.1) in more)
+use Rattle.smithy_types.proofs.Coefficients.{place_in_digits, not_equal, no_point, no_mark}
 
 digit : (b : ℕ) → digit_value b < 10 → is_digit b ≡ true
 digit b h = let r = digit_from_value b h in and_from _ _ (le-leb 48 b r.0) (le-leb b 57 r.1)
@@ -50,8 +35,8 @@ are_some ds all some = rw (ne_eqb (length ds) 0 (λ none. omega arith)) all
 whole_at : (text ds : List ℕ) → unsigned text ≡ ds → list_all is_digit ds ≡ true → are_digits ds ≡ true → IsWhole text ds
 whole_at text ds e all digits =
     let signed : is_signed_digits text ≡ true = rw e digits in
-    let marks = uncut is_exponent_mark no_mark ds all in
-    let points = uncut (λ b. b == 46) no_point ds all in
+    let marks = place_in_digits is_exponent_mark no_mark ds all in
+    let points = place_in_digits (λ b. b == 46) no_point ds all in
     record {
       digits = signed;
       number = and_from (is_mantissa (mantissa_of text)) (is_exponent (exponent_of text)) (signed_digits-mantissa text signed) (rw (e, marks, drop_all (length ds) ds (omega arith)) refl);

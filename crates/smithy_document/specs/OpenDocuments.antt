@@ -1,6 +1,6 @@
 -- A reader of documents, with the containers that are open.
 use Rattle.std.specs.Prelude.{ℕ, Bool, true, false, List, [], ◌∷◌, map, flat_map, length, Option, Some, None, option_map, Ok, Err}
-use Rattle.smithy_document.specs.Words.{Document, Items, nesting, list_of_members, ShapeType, Schema, Group, Held, known, Frame, AtHand, only_if}
+use Rattle.smithy_document.specs.Words.{Document, Items, nesting, list_of_members, ShapeType, Schema, Group, Held, known, Frame, AtHand, then_some}
 use Rattle.smithy_types.specs.Documents as doc
 use Rattle.smithy_ids.specs.declared.shape_type.ShapeType.TheVariants as kind
 use Rattle.smithy_serde.specs.declared.scalar.Group.TheVariants as group
@@ -54,7 +54,7 @@ told_out false g ps by = None
 abbrev pub frame_of : Bool → Opened → Frame
 frame_of tells o = record {
   form = o.form;
-  container = only_if tells (held.document o.container);
+  container = then_some tells (held.document o.container);
   depth = nesting o.container;
   to_come = told_out tells o.form o.rest;
   left = λ by. length o.rest;
@@ -64,7 +64,7 @@ frame_of tells o = record {
 -- a reader with this document at hand inside these containers, the innermost first
 abbrev pub reading : Bool → Document → List Opened → AtHand
 reading tells d os =
-    let h = only_if tells (held.document d) in
+    let h = then_some tells (held.document d) in
     record {
       held = h;
       levels = nesting d;

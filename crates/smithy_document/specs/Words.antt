@@ -18,7 +18,7 @@ pub use Rattle.smithy_serde.specs.Steps.{Faults, Step, adds, after, closes, move
 pub use Rattle.smithy_serde.specs.Told.{Open, State, all_written, begun, empty_state, grouped, written}
 pub use Rattle.smithy_serde.specs.Values.{Label, Scalar, Value, Width, Writes, integer, label_of, no_writes, scalar, structure, write}
 pub use Rattle.smithy_serde.specs.Values.{whole}
-pub use Rattle.smithy_serde.specs.Writes.{only_if}
+pub use Rattle.std.specs.Bool.{then_some}
 pub use Rattle.smithy_serde.specs.Writing.{Carries, IsByRule, Seen, TellsOne, label, scalar_of}
 pub use Rattle.smithy_serde.specs.declared.error.SerdeError.{SerdeError}
 pub use Rattle.smithy_serde.specs.declared.error.SerdeError.TheVariants.{Custom, InvalidInput, NumericCoercionOverflow, OutOfMemory}

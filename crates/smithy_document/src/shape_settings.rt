@@ -1,6 +1,6 @@
 // Settings by which documents are read as shapes.
 ghost use Rattle.std.specs.Prelude.{Bool, true, IsTrue};
-ghost use Rattle.smithy_document.specs.Words.{view, is_canonical, Begins, only_if};
+ghost use Rattle.smithy_document.specs.Words.{view, is_canonical, Begins, then_some};
 ghost use Rattle.smithy_serde.specs.Held as held;
 ghost use Rattle.smithy_document.specs.views.DocumentHand.{hand};
 
@@ -16,7 +16,7 @@ pub trait ShapeSettings: DocumentSettings + Sized {
     /// A reader of the document by these settings. Condition: the document is canonical. Takes no memory.
     fn reader<'a>(&'a self, document: &'a Document) -> DocumentShapeDeserializer<'a, Self>
         requires { IsTrue (is_canonical (view document.now)) }
-        ensures { Begins (only_if tells (held.document (view document.entry.now))) (hand result) };
+        ensures { Begins (then_some tells (held.document (view document.entry.now))) (hand result) };
 }
 
 impl ShapeSettings for NoSettings {

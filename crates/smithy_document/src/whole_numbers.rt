@@ -1,6 +1,6 @@
 // Texts and whole numbers as big numbers.
 ghost use Rattle.std.specs.Prelude.{◌≡◌, Some, Ok, IfOk, IfErr};
-ghost use Rattle.smithy_document.specs.Words.{is_big_integer_in_range, is_big_decimal_in_range, Gives, only_if};
+ghost use Rattle.smithy_document.specs.Words.{is_big_integer_in_range, is_big_decimal_in_range, Gives, then_some};
 ghost use Rattle.std.specs.Fmt.{signed_decimal};
 ghost use Rattle.smithy_serde.specs.Values as value;
 
@@ -10,7 +10,7 @@ use std::alloc::Global;
 
 /// The big integer of a text, none where it is not one within 128 bits. Takes memory for a copy of the text.
 pub(crate) fn parsed_integer(alloc: Global, text: &str) -> Result<Option<BigInteger>, SerdeError>
-    ensures parsed { IfOk result (λ o. o ≡ only_if (is_big_integer_in_range text.now) text.now) }
+    ensures parsed { IfOk result (λ o. o ≡ then_some (is_big_integer_in_range text.now) text.now) }
     ensures memory { IfErr result (λ e. e ≡ SerdeError.OutOfMemory) }
 {
     match BigInteger::parse(alloc, text) {
@@ -24,7 +24,7 @@ pub(crate) fn parsed_integer(alloc: Global, text: &str) -> Result<Option<BigInte
 
 /// The big decimal of a text, likewise.
 pub(crate) fn parsed_decimal(alloc: Global, text: &str) -> Result<Option<BigDecimal>, SerdeError>
-    ensures parsed { IfOk result (λ o. o ≡ only_if (is_big_decimal_in_range text.now) text.now) }
+    ensures parsed { IfOk result (λ o. o ≡ then_some (is_big_decimal_in_range text.now) text.now) }
     ensures memory { IfErr result (λ e. e ≡ SerdeError.OutOfMemory) }
 {
     match BigDecimal::parse(alloc, text) {

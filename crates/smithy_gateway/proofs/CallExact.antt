@@ -1,5 +1,5 @@
 -- What a posted request is read as is the typed input in normal form that it posts.
-use Rattle.smithy_gateway.proofs.Common.{◌≡◌, refl, sym, ◌∙◌, ap, codes, nat_le, Bool, true, false, ◌&&◌, List, [], Option, Some, None, option_map, option_and_then, if◌then◌else◌, IsTrue, option_map_or, result_ok, and_parts, leb-true, nesting, same_text, facts, Request, max_nesting, IsLawfulText, Write, writes_of, only_if, same_text_self, place, request_at, pairs, with_query, is_shallow, OmitFlags, placed_request, held_writes, Reading, recovered, IsSoundReading, recovered_is_exact}
+use Rattle.smithy_gateway.proofs.Common.{◌≡◌, refl, sym, ◌∙◌, ap, codes, nat_le, Bool, true, false, ◌&&◌, List, [], Option, Some, None, option_map, option_and_then, if◌then◌else◌, IsTrue, option_map_or, result_ok, and_parts, leb-true, nesting, same_text, facts, Request, max_nesting, IsLawfulText, Write, writes_of, then_some, same_text_self, place, request_at, pairs, with_query, is_shallow, OmitFlags, placed_request, held_writes, Reading, recovered, IsSoundReading, recovered_is_exact}
 use Rattle.std.proofs.lemmas.Option.{option_and_then_some}
 use Rattle.std.specs.Cmp.Lexicographic.{same_text as same_from_test}
 use Rattle.smithy_serde.specs.Held as held
@@ -53,7 +53,7 @@ module _ (r : Reading) (omit : OmitFlags) (ws : List Write) (sound : IsSoundRead
 -- What is recovered of the request of what was read, and posted again, is such an input.
 pub form_is : (r : Reading) (omit : OmitFlags) (calling : Calling) (q : Request) (us ws : List Write) → IsSoundReading r → q.method ≡ codes "POST" → posted_form r omit calling q us ≡ Some ws → IsCall r.protocol r.schema r.endpoint omit calling.protocol.text_of q ws
 form_is r omit calling q us ws sound method e =
-    option_and_then_some (λ vs. only_if (posts_writes calling.protocol (writes_of vs) q) vs) (normal_form r omit us) ws e (λ vs is gives.
+    option_and_then_some (λ vs. then_some (posts_writes calling.protocol (writes_of vs) q) vs) (normal_form r omit us) ws e (λ vs is gives.
     let k = kept (posts_writes calling.protocol (writes_of vs) q) vs ws gives in
     option_and_then_some (recovered r omit) (place r.protocol r.schema us r.endpoint omit) ws (is ∙ ap Some k.1) (λ p at recovers.
     let own = (recovered_is_exact r sound.lawful omit p ws sound.checked sound.well_made).0 recovers in
@@ -76,7 +76,7 @@ called_exactly r calling lawful call_lawful omit q ws checked well_made = (forth
         (λ us read gives. form_is r omit calling q us ws sound (is_post (same_text q.method (codes "POST")) (option_and_then (held_writes r.schema) (calling.holds q.body)) us refl read) gives)
 
     tested : Option (List Write) → Option (List Write)
-    tested o = option_and_then (λ us. only_if (posts_writes calling.protocol (writes_of us) q) us) o
+    tested o = option_and_then (λ us. then_some (posts_writes calling.protocol (writes_of us) q) us) o
 
     back : IsCall r.protocol r.schema r.endpoint omit calling.protocol.text_of q ws → option_and_then (posted_form r omit calling q) (read_call calling r.schema q) ≡ Some ws
     back is =
@@ -85,4 +85,4 @@ called_exactly r calling lawful call_lawful omit q ws checked well_made = (forth
         ∙ ap (λ o. option_and_then (posted_form r omit calling q) (option_and_then (held_writes r.schema) o)) (body_held r omit ws sound is.input calling q is.posted is.shallow call_lawful)
         ∙ ap (option_and_then (posted_form r omit calling q)) (document r omit ws sound is.input).back
         ∙ ap (λ o. tested (option_and_then (recovered r omit) o)) own.1 ∙ ap tested own.2
-        ∙ ap (λ t. only_if t ws) (passes r omit ws sound is.input calling q is.posted is.shallow)
+        ∙ ap (λ t. then_some t ws) (passes r omit ws sound is.input calling q is.posted is.shallow)

@@ -1,5 +1,5 @@
 -- What code reads of a posted request, and what its outcomes say of the whole's.
-use Rattle.smithy_gateway.proofs.Common.{◌≡◌, refl, sym, ◌∙◌, ap, subst, codes, Bool, true, false, List, Option, Some, None, option_and_then, if◌then◌else◌, Result, Ok, Err, IfOk, same_text, Request, Table, Held, IsLawfulText, writes_in, Write, Writes, list_of, writes_of, only_if, WriteList, place, OmitFlags, held_writes, Finds, Reading, recovered, Tells, RecoverError, NotPlaced, OutOfMemory, KeepsMembers, IsSoundReading}
+use Rattle.smithy_gateway.proofs.Common.{◌≡◌, refl, sym, ◌∙◌, ap, subst, codes, Bool, true, false, List, Option, Some, None, option_and_then, if◌then◌else◌, Result, Ok, Err, IfOk, same_text, Request, Table, Held, IsLawfulText, writes_in, Write, Writes, list_of, writes_of, then_some, WriteList, place, OmitFlags, held_writes, Finds, Reading, recovered, Tells, RecoverError, NotPlaced, OutOfMemory, KeepsMembers, IsSoundReading}
 use Rattle.std.specs.Cmp.Lexicographic.{same_text as same_from_test}
 use Rattle.smithy_serde.specs.Held as held
 use Rattle.smithy_gateway.specs.Calls.{Calling}
@@ -10,13 +10,13 @@ use Rattle.smithy_gateway.proofs.CallExact.{document, body_held, form_is}
 -- What is made of what was read, by its parts.
 
 abbrev pub tested : Calling → Request → Option (List Write) → Option (List Write)
-tested calling q o = option_and_then (λ ws. only_if (posts_writes calling.protocol (writes_of ws) q) ws) o
+tested calling q o = option_and_then (λ ws. then_some (posts_writes calling.protocol (writes_of ws) q) ws) o
 
 pub form_by : (r : Reading) (omit : OmitFlags) (calling : Calling) (q : Request) (us : List Write) (p : Request) (ms : Writes) (b : Bool) → place r.protocol r.schema us r.endpoint omit ≡ Some p → recovered r omit p ≡ Some (list_of ms) → posts_writes calling.protocol ms q ≡ b
-    → posted_form r omit calling q us ≡ only_if b (list_of ms)
+    → posted_form r omit calling q us ≡ then_some b (list_of ms)
 form_by r omit calling q us p ms b placed recovers test =
     ap (λ o. tested calling q (option_and_then (recovered r omit) o)) placed ∙ ap (tested calling q) recovers
-    ∙ ap (λ ws. only_if (posts_writes calling.protocol ws q) (list_of ms)) (writes_listed ms) ∙ ap (λ t. only_if t (list_of ms)) test
+    ∙ ap (λ ws. then_some (posts_writes calling.protocol ws q) (list_of ms)) (writes_listed ms) ∙ ap (λ t. then_some t (list_of ms)) test
 
 -- Of a post the whole is what code makes of what it read, of another request it is nothing.
 module _ (r : Reading) (omit : OmitFlags) (calling : Calling) (q : Request) where

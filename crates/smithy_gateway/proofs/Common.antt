@@ -43,7 +43,7 @@ pub use Rattle.smithy_unambiguity.proofs.Common.{is_plain_list, is_plain_string,
 pub use Rattle.smithy_unambiguity.proofs.Common.{is_short_target, is_some, is_sound, is_target, is_well_made, item_fault, key_of}
 pub use Rattle.smithy_unambiguity.proofs.Common.{kind_or_none, known_by_names, last_ascending, last_of, leb-true, legal_fault, length}
 pub use Rattle.smithy_unambiguity.proofs.Common.{list_of, look_ordered, map_value, max_nesting, member_at, member_view, nat_le}
-pub use Rattle.smithy_unambiguity.proofs.Common.{nested_fault, nesting, no_label, no_writes, not, not_legal, only_if, option_and_then}
+pub use Rattle.smithy_unambiguity.proofs.Common.{nested_fault, nesting, no_label, no_writes, not, not_legal, then_some, option_and_then}
 pub use Rattle.smithy_unambiguity.proofs.Common.{option_map, option_map_or, option_or, or_cases, own_label, part_fault, place, query_names}
 pub use Rattle.smithy_unambiguity.proofs.Common.{refl, request_at, result_err, result_ok, same_kind, same_text, same_text_self, settled}
 pub use Rattle.smithy_unambiguity.proofs.Common.{settled_elements, settled_entries, subst, sym, then_give, to_body, to_header, to_label}

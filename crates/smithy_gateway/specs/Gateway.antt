@@ -7,7 +7,7 @@ use Rattle.smithy_http.specs.Requests.{Request}
 use Rattle.smithy_schema.specs.Nodes.{Schema}
 use Rattle.smithy_serde.specs.Lawful.{max_nesting}
 use Rattle.smithy_serde.specs.Values.{structure, Write, Writes, writes_of}
-use Rattle.smithy_serde.specs.Writes.{only_if}
+use Rattle.std.specs.Bool.{then_some}
 use Rattle.smithy_binding.specs.Answer.{place}
 use Rattle.smithy_binding.specs.Placing.{OmitFlags, Protocol}
 use Rattle.smithy_binding.specs.Rpc.{rpc_answer}
@@ -46,7 +46,7 @@ posts_writes protocol ws q =
 -- the normal form of what was read, where the request posts just that
 abbrev pub posted_form : Reading → OmitFlags → Calling → Request → List Write → Option (List Write)
 posted_form r omit calling q ws =
-    option_and_then (λ us. only_if (posts_writes calling.protocol (writes_of us) q) us) (normal_form r omit ws)
+    option_and_then (λ us. then_some (posts_writes calling.protocol (writes_of us) q) us) (normal_form r omit ws)
 
 -- The input that a request posts.
 unfoldable pub called : Reading → OmitFlags → Calling → Request → Option (List Write)

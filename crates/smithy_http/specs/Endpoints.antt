@@ -6,7 +6,7 @@ use Rattle.std.specs.Str.{str_to_ascii_lowercase}
 use Rattle.http_uri.specs.Uri.{Spells, uri_scheme, uri_authority, uri_path}
 use Rattle.http_uri.specs.declared.uri.Uri.{Uri}
 use Rattle.smithy_types.specs.Grammars.{before_query, scheme_len, is_legal_target}
-use Rattle.smithy_types.specs.Texts.{hyphen, full_stop, slash}
+use Rattle.smithy_types.specs.Texts.{ascii}
 use Rattle.smithy_http.specs.declared.error.HttpError.{HttpError}
 use Rattle.smithy_http.specs.declared.error.HttpError.TheVariants as error
 
@@ -18,7 +18,7 @@ pub record Endpoint : Type 0 where
 
 -- a byte of host labels and the points between them
 abbrev pub is_prefix_byte : ℕ → Bool
-is_prefix_byte b = is_ascii_alphanumeric b || (b == hyphen) || (b == full_stop)
+is_prefix_byte b = is_ascii_alphanumeric b || (b == ascii "-") || (b == ascii ".")
 
 -- what may stand before the authority of an address
 abbrev pub is_endpoint_prefix : List ℕ → Bool
@@ -50,7 +50,7 @@ abbrev pub IsNoAddress : List ℕ → Type 0
 IsNoAddress text = (address : Address) → ¬ (IsAddress text address)
 
 abbrev pub is_slash : ℕ → Bool
-is_slash b = b == slash
+is_slash b = b == ascii "/"
 
 -- a path without one slash at its end
 abbrev pub without_last_slash : List ℕ → List ℕ

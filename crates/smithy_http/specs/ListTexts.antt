@@ -4,13 +4,13 @@ use Rattle.std.specs.List.{before_first, after_first}
 use Rattle.std.specs.Option.{ok_or}
 use Rattle.std.specs.Str.{trim}
 use Rattle.smithy_types.specs.Results.{then_try, then_give}
-use Rattle.smithy_types.specs.Texts.{comma, quotation_mark, backslash}
+use Rattle.smithy_types.specs.Texts.{ascii}
 use Rattle.smithy_http.specs.declared.error.ListFault.{ListFault}
 use Rattle.smithy_http.specs.declared.error.ListFault.TheVariants as fault
 use Rattle.smithy_http.specs.Spelling.{is_blank, Spells}
 
 abbrev pub is_comma : ℕ → Bool
-is_comma b = b == comma
+is_comma b = b == ascii ","
 
 -- what stands behind the blanks at the front (`OWS` of RFC 7230, section 3.2.3)
 abbrev pub behind_blanks : List ℕ → List ℕ
@@ -27,8 +27,8 @@ abbrev pub quoted_text : Bool → List ℕ → Option (List ℕ × List ℕ)
 quoted_text paired [] = None
 quoted_text true (b ∷ bytes) = option_map (with_first b) (quoted_text false bytes)
 quoted_text false (b ∷ bytes) =
-    if b == quotation_mark then Some ([], bytes)
-    else if b == backslash then quoted_text true bytes
+    if b == ascii "\"" then Some ([], bytes)
+    else if b == ascii "\\" then quoted_text true bytes
     else option_map (with_first b) (quoted_text false bytes)
 
 -- what stands behind the comma that follows a quoted text; nothing at the end
@@ -49,7 +49,7 @@ bare_item bytes = (trim (before_first is_comma bytes), after_first is_comma byte
 -- an item that no blank precedes
 abbrev pub item_at : List ℕ → Result (List ℕ × List ℕ) ListFault
 item_at [] = Ok (bare_item [])
-item_at (b ∷ bytes) = if b == quotation_mark then quoted_item bytes else Ok (bare_item (b ∷ bytes))
+item_at (b ∷ bytes) = if b == ascii "\"" then quoted_item bytes else Ok (bare_item (b ∷ bytes))
 
 -- the text of the first item, and what stands behind it and its comma
 unfoldable pub first_item : List ℕ → Result (List ℕ × List ℕ) ListFault

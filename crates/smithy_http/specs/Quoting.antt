@@ -4,7 +4,7 @@ use Rattle.std.specs.Str.{chars}
 use Rattle.std.specs.Char.{is_whitespace}
 use Rattle.std.specs.List.{last_or, list_any}
 use Rattle.std.specs.Option.{option_map_or}
-use Rattle.smithy_types.specs.Texts.{has_byte, quotation_mark, backslash}
+use Rattle.smithy_types.specs.Texts.{ascii, has_byte}
 
 abbrev pub begins_with_white_space : List ℕ → Bool
 begins_with_white_space [] = false
@@ -22,21 +22,17 @@ abbrev pub needs_quotes : List ℕ → Bool
 needs_quotes text =
     begins_with_white_space (chars text) || ends_with_white_space (chars text) || list_any is_delimiter text
 
--- a `"` or a `\`
-abbrev pub is_paired : ℕ → Bool
-is_paired b = (b == quotation_mark) || (b == backslash)
-
--- what stands before a character between quotes
+-- what stands before a character between quotes: a `\` before a `"` or a `\` (`quoted-pair` of RFC 7230, section 3.2.6)
 abbrev pub mark_before : ℕ → List ℕ
-mark_before b = if is_paired b then backslash ∷ [] else []
+mark_before b = if (b == ascii "\"") || (b == ascii "\\") then codes "\\" else []
 
--- `\` before each `"` and `\` (`quoted-pair` of RFC 7230, section 3.2.6)
+-- a character between quotes
 abbrev pub paired : ℕ → List ℕ
 paired b = mark_before b ++ b ∷ []
 
 -- `quoted-string` of RFC 7230, section 3.2.6
 abbrev pub quoted : List ℕ → List ℕ
-quoted text = quotation_mark ∷ flat_map paired text ++ quotation_mark ∷ []
+quoted text = ascii "\"" ∷ flat_map paired text ++ codes "\""
 
 -- a text as an item of a list: in quotes where it needs them
 abbrev pub list_item : List ℕ → List ℕ

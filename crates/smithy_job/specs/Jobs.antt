@@ -102,6 +102,10 @@ schema_among asked k = schema_at asked (operation_among k)
 abbrev pub errors_among : List (List ℕ) → Keys → Option Errors
 errors_among service k = errors_at service (operation_among k)
 
+-- as the operation's output
+abbrev pub expected_output : Keys → Option Expected
+expected_output k = option_map output (schema_among models.output k)
+
 -- as the error of this name
 abbrev pub expected_error : List ℕ → Keys → Option Expected
 expected_error name k = option_map error (schema_among (models.error name) k)
@@ -112,7 +116,7 @@ expected_coded code service k = option_map (coded code) (errors_among service k)
 
 -- without an error's name: as the error of the code, where there is one
 abbrev pub by_code : Keys → List (List ℕ) → Option Data → Option Expected
-by_code k service None = option_map output (schema_among models.output k)
+by_code k service None = expected_output k
 by_code k service (Some code) = option_and_then (λ c. expected_coded c service k) (as_str code)
 
 abbrev pub expected_by_code : List (List ℕ) → Keys → Option Expected

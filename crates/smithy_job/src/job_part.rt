@@ -41,86 +41,93 @@ pub enum JobPart {
     OperationCode,
 }
 
+static INPUT: [JobPart; 7] = [
+    JobPart::Object,
+    JobPart::Model,
+    JobPart::Operation,
+    JobPart::Input,
+    JobPart::Endpoint,
+    JobPart::Omit,
+    JobPart::InputShapes,
+];
+
+static INPUTS: [JobPart; 7] = [
+    JobPart::Object,
+    JobPart::Model,
+    JobPart::Operation,
+    JobPart::Inputs,
+    JobPart::Endpoint,
+    JobPart::Omit,
+    JobPart::InputShapes,
+];
+
+static RESPONSE: [JobPart; 9] = [
+    JobPart::Object,
+    JobPart::Model,
+    JobPart::Operation,
+    JobPart::Response,
+    JobPart::Error,
+    JobPart::Code,
+    JobPart::ServiceErrors,
+    JobPart::Policy,
+    JobPart::ExpectedShapes,
+];
+
+static RESPONSES: [JobPart; 3] = [JobPart::Object, JobPart::Model, JobPart::Responses];
+
+static RECOVER: [JobPart; 7] = [
+    JobPart::Object,
+    JobPart::Model,
+    JobPart::Operation,
+    JobPart::Endpoint,
+    JobPart::Omit,
+    JobPart::Request,
+    JobPart::InputShapes,
+];
+
+static ROUTE: [JobPart; 5] = [
+    JobPart::Object,
+    JobPart::AnyModel,
+    JobPart::Omit,
+    JobPart::Request,
+    JobPart::Operations,
+];
+
+static GATEWAY: [JobPart; 9] = [
+    JobPart::Object,
+    JobPart::Model,
+    JobPart::Operation,
+    JobPart::Endpoint,
+    JobPart::Omit,
+    JobPart::Request,
+    JobPart::To,
+    JobPart::RpcEndpoint,
+    JobPart::InputShapes,
+];
+
+static ANSWER: [JobPart; 7] = [
+    JobPart::Object,
+    JobPart::Model,
+    JobPart::Operation,
+    JobPart::Output,
+    JobPart::Status,
+    JobPart::OutputShapes,
+    JobPart::OperationCode,
+];
+
 /// The parts of a command's job, in the order in which they are read.
 #[tactic(auto, unfolding(crate::specs::WrongJobs::parts_of))]
 pub fn parts_of(kind: JobKind) -> &'static [JobPart]
     ensures { result.now ≡ parts_of kind }
 {
     match kind {
-        JobKind::Request => &[
-            JobPart::Object,
-            JobPart::Model,
-            JobPart::Operation,
-            JobPart::Input,
-            JobPart::Endpoint,
-            JobPart::Omit,
-            JobPart::InputShapes,
-        ],
-        JobKind::Requests => &[
-            JobPart::Object,
-            JobPart::Model,
-            JobPart::Operation,
-            JobPart::Inputs,
-            JobPart::Endpoint,
-            JobPart::Omit,
-            JobPart::InputShapes,
-        ],
-        JobKind::Rpc => &[
-            JobPart::Object,
-            JobPart::Model,
-            JobPart::Operation,
-            JobPart::Input,
-            JobPart::Endpoint,
-            JobPart::Omit,
-            JobPart::InputShapes,
-        ],
-        JobKind::Response => &[
-            JobPart::Object,
-            JobPart::Model,
-            JobPart::Operation,
-            JobPart::Response,
-            JobPart::Error,
-            JobPart::Code,
-            JobPart::ServiceErrors,
-            JobPart::Policy,
-            JobPart::ExpectedShapes,
-        ],
-        JobKind::Responses => &[JobPart::Object, JobPart::Model, JobPart::Responses],
-        JobKind::Recover => &[
-            JobPart::Object,
-            JobPart::Model,
-            JobPart::Operation,
-            JobPart::Endpoint,
-            JobPart::Omit,
-            JobPart::Request,
-            JobPart::InputShapes,
-        ],
-        JobKind::Route => &[
-            JobPart::Object,
-            JobPart::AnyModel,
-            JobPart::Omit,
-            JobPart::Request,
-            JobPart::Operations,
-        ],
-        JobKind::Gateway => &[
-            JobPart::Object,
-            JobPart::Model,
-            JobPart::Operation,
-            JobPart::Endpoint,
-            JobPart::Omit,
-            JobPart::Request,
-            JobPart::To,
-            JobPart::RpcEndpoint,
-            JobPart::InputShapes,
-        ],
-        JobKind::Answer => &[
-            JobPart::Object,
-            JobPart::Model,
-            JobPart::Operation,
-            JobPart::Output,
-            JobPart::Status,
-            JobPart::OutputShapes,
-            JobPart::OperationCode,
-        ],
+        JobKind::Request | JobKind::Rpc => &INPUT,
+        JobKind::Requests => &INPUTS,
+        JobKind::Response => &RESPONSE,
+        JobKind::Responses => &RESPONSES,
+        JobKind::Recover => &RECOVER,
+        JobKind::Route => &ROUTE,
+        JobKind::Gateway => &GATEWAY,
+        JobKind::Answer => &ANSWER,
     }
 }

@@ -85,12 +85,12 @@ pub fn schema_asked<'t>(
 #[tactic(auto, unfolding(crate::specs::Jobs::errors_at))]
 pub fn errors_at<'t>(
     alloc: Global,
-    operation: Option<(&JsonValue<'t>, &'t str)>,
+    given: Option<(&JsonValue<'t>, &'t str)>,
     service: &[&'t str],
 ) -> Result<PlacedErrors, JobError>
-    ensures { PlacesErrors (errors_at (texts service.now) (option_map operation_seen operation.entry)) result }
+    ensures { PlacesErrors (errors_at (texts service.now) (option_map operation_seen given.entry)) result }
 {
-    match operation {
+    match given {
         Some((model, name)) => errors_of_operation(alloc, model, name, service),
         None => Err(JobError::NoJob),
     }

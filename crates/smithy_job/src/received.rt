@@ -6,8 +6,7 @@ ghost use Rattle.smithy_model.specs.views.NameView.{texts};
 ghost use Rattle.smithy_model.specs.Reads.{Reads};
 ghost use Rattle.smithy_model.specs.views.ModelView.{asked_view};
 ghost use Rattle.smithy_model.specs.views.PlacedView.{Places, PlacesErrors};
-ghost use Rattle.smithy_model.specs.Models as models;
-ghost use Rattle.smithy_job.specs.Jobs.{output, full_name_in, names_given, errors_among, schema_among, expected_coded, expected_error, expected_by_code, expected_by_name, expected, message, received, received_by};
+ghost use Rattle.smithy_job.specs.Jobs.{full_name_in, names_given, errors_among, schema_among, expected_output, expected_coded, expected_error, expected_by_code, expected_by_name, expected, message, received, received_by};
 ghost use Rattle.smithy_job.specs.views.KeysView.{keys_seen, value_seen};
 ghost use Rattle.smithy_job.specs.views.ReceivedView.{message_seen, IsExpectedIn, IsReceived};
 ghost use Rattle.smithy_job.specs.views.Tables.{ReadsAs};
@@ -123,7 +122,7 @@ fn errors_among<'t>(
 }
 
 fn expected_output<'t>(alloc: Global, keys: &Keys<'_, 't>) -> Result<ExpectedIn<'t>, JobError>
-    ensures { ReadsAs IsExpectedIn (option_map output (schema_among models.output (keys_seen keys.now))) result }
+    ensures { ReadsAs IsExpectedIn (expected_output (keys_seen keys.now)) result }
 {
     let placed = schema_among(alloc, keys, Asked::Output)?;
     Ok(ExpectedIn {

@@ -1,8 +1,8 @@
 -- What may stand next in a JSON text, byte by byte (RFC 8259). Its texts are in UTF-8 (RFC 3629), and half a surrogate pair is no escape.
 use Rattle.std.specs.Prelude.{ℕ, ◌==◌, ◌||◌, ◌&&◌, Bool, true, false, Option, Some, None, option_map, if◌then◌else◌}
+use Rattle.std.specs.Int.{is_in_range}
 use Rattle.json.specs.Ascii as ascii
 use Rattle.smithy_types.specs.BigNumbers.{is_digit, is_sign}
-use Rattle.smithy_types.specs.Grammars.{is_between}
 use Rattle.smithy_json.specs.declared.places.Bracket.{Bracket}
 use Rattle.smithy_json.specs.declared.places.Bracket.TheVariants.{Array, Object}
 use Rattle.smithy_json.specs.declared.places.TextPlace.{TextPlace}
@@ -24,7 +24,7 @@ at false place = None
 -- ---- texts
 
 abbrev pub is_hex_digit : ℕ → Bool
-is_hex_digit b = is_digit b || is_between 65 70 b || is_between 97 102 b
+is_hex_digit b = is_digit b || is_in_range 65 70 b || is_in_range 97 102 b
 
 -- `D` or `d`
 abbrev pub is_d : ℕ → Bool
@@ -32,28 +32,28 @@ is_d b = (b == 68) || (b == 100)
 
 -- a digit from 8 to B
 abbrev pub is_high_digit : ℕ → Bool
-is_high_digit b = is_between 56 57 b || is_between 65 66 b || is_between 97 98 b
+is_high_digit b = is_in_range 56 57 b || is_in_range 65 66 b || is_in_range 97 98 b
 
 -- a digit from C to F
 abbrev pub is_low_digit : ℕ → Bool
-is_low_digit b = is_between 67 70 b || is_between 99 102 b
+is_low_digit b = is_in_range 67 70 b || is_in_range 99 102 b
 
 -- a byte of a character of more than one (`UTF8-tail` of RFC 3629)
 abbrev pub is_tail : ℕ → Bool
-is_tail b = is_between 128 191 b
+is_tail b = is_in_range 128 191 b
 
 -- behind the first byte of a character, or a backslash
 abbrev pub plain_next : ℕ → Option TextPlace
 plain_next b =
     if b == ascii.backslash then Some text.Escape
-    else if is_between 32 127 b then Some text.Plain
-    else if is_between 194 223 b then Some text.Tail1
+    else if is_in_range 32 127 b then Some text.Plain
+    else if is_in_range 194 223 b then Some text.Tail1
     else if b == 224 then Some text.BehindE0
     else if b == 237 then Some text.BehindEd
-    else if is_between 225 239 b then Some text.Tail2
+    else if is_in_range 225 239 b then Some text.Tail2
     else if b == 240 then Some text.BehindF0
     else if b == 244 then Some text.BehindF4
-    else at (is_between 241 243 b) text.Tail3
+    else at (is_in_range 241 243 b) text.Tail3
 
 -- the byte behind a backslash, but for `u`
 abbrev pub is_escape : ℕ → Bool
@@ -70,7 +70,7 @@ unit_next b = if is_d b then Some text.UnitD else at (is_hex_digit b) text.Digit
 
 -- behind the second digit of `\u`, where the first is a D: the first half of a pair has one from 8 to B
 abbrev pub unit_d_next : ℕ → Option TextPlace
-unit_d_next b = if is_high_digit b then Some text.High2 else at (is_between 48 55 b) text.Digits2
+unit_d_next b = if is_high_digit b then Some text.High2 else at (is_in_range 48 55 b) text.Digits2
 
 -- behind a byte of a text that isn't its end
 abbrev pub text_next : TextPlace → ℕ → Option TextPlace
@@ -90,10 +90,10 @@ text_next text.LowDigit b = at (is_low_digit b) text.Digits2
 text_next text.Tail3 b = at (is_tail b) text.Tail2
 text_next text.Tail2 b = at (is_tail b) text.Tail1
 text_next text.Tail1 b = at (is_tail b) text.Plain
-text_next text.BehindE0 b = at (is_between 160 191 b) text.Tail1
-text_next text.BehindEd b = at (is_between 128 159 b) text.Tail1
-text_next text.BehindF0 b = at (is_between 144 191 b) text.Tail2
-text_next text.BehindF4 b = at (is_between 128 143 b) text.Tail2
+text_next text.BehindE0 b = at (is_in_range 160 191 b) text.Tail1
+text_next text.BehindEd b = at (is_in_range 128 159 b) text.Tail1
+text_next text.BehindF0 b = at (is_in_range 144 191 b) text.Tail2
+text_next text.BehindF4 b = at (is_in_range 128 143 b) text.Tail2
 
 -- a quote ends the text
 abbrev pub ends_text : TextPlace → ℕ → Bool

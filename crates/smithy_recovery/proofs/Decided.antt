@@ -11,7 +11,7 @@ use Rattle.smithy_schema.specs.Nodes.{Schema, members_of, Binding, to_header, bi
 use Rattle.smithy_schema.specs.WellMade.{is_well_made}
 use Rattle.smithy_serde.specs.Lawful.{IsLawfulText}
 use Rattle.smithy_serde.specs.Values.{Write}
-use Rattle.smithy_serde.specs.Writes.{only_if}
+use Rattle.std.specs.Bool.{then_some}
 use Rattle.smithy_binding.specs.Answer.{answer, place, request_at}
 use Rattle.smithy_binding.specs.Bindings.{headers, pairs}
 use Rattle.smithy_binding.specs.Bodies.{Body, body, is_codec}
@@ -92,9 +92,9 @@ typed_bare protocol schema endpoint ws checked typed conforming =
 abbrev passes : Reading → OmitFlags → Request → List Write → Bool
 passes r omit q ws = is_typed r.protocol r.schema r.endpoint omit ws && is_placed_so r omit q ws
 
-by_test : (r : Reading) (omit : OmitFlags) (q : Request) (ws : List Write) (b : Bool) → read_writes r q ≡ Some ws → passes r omit q ws ≡ b → recovered r omit q ≡ only_if b ws
+by_test : (r : Reading) (omit : OmitFlags) (q : Request) (ws : List Write) (b : Bool) → read_writes r q ≡ Some ws → passes r omit q ws ≡ b → recovered r omit q ≡ then_some b ws
 unfolding recovered
-by_test r omit q ws b read test = ap (option_and_then (λ us. only_if (passes r omit q us) us)) read ∙ ap (λ t. only_if t ws) test
+by_test r omit q ws b read test = ap (option_and_then (λ us. then_some (passes r omit q us) us)) read ∙ ap (λ t. then_some t ws) test
 
 -- of what passes as it is run
 pub input_recovered : (r : Reading) (omit : OmitFlags) (q : Request) (ws : List Write) → IsSoundReading r → (IsTrue (is_body_told r q) → read_writes r q ≡ Some ws) → are_typed r.schema r.endpoint ws ≡ true → is_placed_so r omit q ws ≡ true
@@ -120,14 +120,14 @@ none_untold : (r : Reading) (omit : OmitFlags) (q : Request) → (IsTrue (is_bod
 unfolding recovered
 none_untold r omit q none = go (is_body_told r q) refl
   where
-    go : (t : Bool) → is_body_told r q ≡ t → option_and_then (λ us. only_if (passes r omit q us) us) (read_writes r q) ≡ None
+    go : (t : Bool) → is_body_told r q ≡ t → option_and_then (λ us. then_some (passes r omit q us) us) (read_writes r q) ≡ None
     go true told = none told
-    go false untold = ap (option_and_then (λ us. only_if (passes r omit q us) us)) (untold_is_none r q untold)
+    go false untold = ap (option_and_then (λ us. then_some (passes r omit q us) us)) (untold_is_none r q untold)
 
 -- so nothing is where nothing is read
 pub none_read : (r : Reading) (omit : OmitFlags) (q : Request) → (IsTrue (is_body_told r q) → read_writes r q ≡ None) → recovered r omit q ≡ None
 unfolding recovered
-none_read r omit q none = none_untold r omit q (λ told. ap (option_and_then (λ us. only_if (passes r omit q us) us)) (none told))
+none_read r omit q none = none_untold r omit q (λ told. ap (option_and_then (λ us. then_some (passes r omit q us) us)) (none told))
 
 -- nor where one of the tests fails
 fails : (r : Reading) (omit : OmitFlags) (q : Request) (ws : List Write) → (IsTrue (is_body_told r q) → read_writes r q ≡ Some ws) → passes r omit q ws ≡ false → recovered r omit q ≡ None

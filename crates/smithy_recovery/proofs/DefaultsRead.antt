@@ -15,7 +15,8 @@ use Rattle.smithy_schema.specs.WellMade.{is_well_made}
 use Rattle.smithy_serde.specs.IndexOrder.{put_by, position_of, in_order}
 use Rattle.smithy_serde.specs.Values.{Value, Write}
 use Rattle.smithy_serde.specs.ValueRead.{write_by}
-use Rattle.smithy_serde.specs.Writes.{Resolved, resolve, all_resolved, is_of, position_in, only_if}
+use Rattle.smithy_serde.specs.Writes.{Resolved, resolve, all_resolved, is_of, position_in}
+use Rattle.std.specs.Bool.{then_some}
 use Rattle.smithy_binding.proofs.Tests.{same_text_self}
 use Rattle.smithy_binding.specs.Bindings.{headers}
 use Rattle.smithy_binding.specs.Bodies.{Body, body}
@@ -226,7 +227,7 @@ first_there schema i m (w ∷ ws) at e = go (resolve schema w.label) e (first_th
 own_write : (schema : Schema) (i : ℕ) (m : Schema) (v : Value) → member_at schema i ≡ Some m → m.node.member_index ≡ Some i → is_for schema i (write_by m v) ≡ true
 own_write schema i m v at index =
     ap (λ o. option_map_or (λ p. p == i) (position_in schema o m.node.member_name) false) index
-    ∙ ap (λ (o : Option Schema). option_map_or (λ p. p == i) (only_if (is_some o) i) false) at
+    ∙ ap (λ (o : Option Schema). option_map_or (λ p. p == i) (then_some (is_some o) i) false) at
     ∙ eq-eqb i i refl
 
 -- A header that stands in the request is read.

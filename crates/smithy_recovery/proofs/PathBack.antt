@@ -11,7 +11,7 @@ use Rattle.percent_encoding.specs.Percent.{percent_decode}
 use Rattle.smithy_types.specs.Texts.{found, has_byte, same_text}
 use Rattle.smithy_types.specs.Grammars.{before_query}
 use Rattle.smithy_schema.specs.Templates.{Hole, Piece, Template}
-use Rattle.smithy_serde.specs.Writes.{only_if}
+use Rattle.std.specs.Bool.{then_some}
 use Rattle.smithy_strings.specs.Escapes.{escape, decoded}
 use Rattle.smithy_strings.proofs.EscapeLaws.{decode-escape}
 use Rattle.smithy_binding.specs.Filling.{hole_text, fill, fill_rest, keep_slashes}
@@ -35,7 +35,7 @@ HaveUtf8 ps = AllByRecursion (λ p. is_utf8 p.1 ≡ true) ps
 -- The text of a hole.
 
 hole_decoded : (hole : Hole) (text : List ℕ) → is_utf8 text ≡ true → decoded (hole_text hole text) ≡ Some text
-hole_decoded hole text utf8 = ap (λ t. only_if (is_utf8 t) t) (go hole.greedy) ∙ ap (λ b. only_if b text) utf8
+hole_decoded hole text utf8 = ap (λ t. then_some (is_utf8 t) t) (go hole.greedy) ∙ ap (λ b. then_some b text) utf8
   where
     go : (greedy : Bool) → percent_decode (cond greedy (keep_slashes text) (escape text)) ≡ text
     go true = decode-keep_slashes text (AreBytes-from_utf8 text utf8)

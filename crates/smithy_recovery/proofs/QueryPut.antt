@@ -14,7 +14,7 @@ use Rattle.smithy_schema.specs.Nodes.{Schema, value_of}
 use Rattle.smithy_schema.specs.Templates.{Template}
 use Rattle.smithy_serde.specs.NormalBody.{in_key_order, map_value}
 use Rattle.smithy_serde.specs.Values.{Value}
-use Rattle.smithy_serde.specs.Writes.{only_if}
+use Rattle.std.specs.Bool.{then_some}
 use Rattle.smithy_strings.specs.Escapes.{escape, unescaped}
 use Rattle.smithy_strings.proofs.UnescapeLaws.{unescape_is_exact}
 use Rattle.smithy_binding.specs.NormalForm.{unless_empty}
@@ -83,7 +83,7 @@ value_entry key (Some v) es = refl
 -- a key's value is put where it is to come, and where it is there it is put again
 key_put : (key : List ℕ) (here : Option Schema) (ps : List (List ℕ)) (es : Entries) (b : Bool) (o : Option Value) → lookup (same_text key) es ≡ o → Ascends es
     → ((v : Value) → o ≡ Some v → cond b (Some None) (as_entry key (value_under here ps)) ≡ Some (Some (key, v)))
-    → value_put here ps es (only_if (cond b false (not (is_some o))) key) ≡ put_entry (cond b (Some None) (as_entry key (value_under here ps))) es
+    → value_put here ps es (then_some (cond b false (not (is_some o))) key) ≡ put_entry (cond b (Some None) (as_entry key (value_under here ps))) es
 key_put key here ps es true o at up met = refl
 key_put key here ps es false None at up met = value_entry key (value_under here ps) es
 key_put key here ps es false (Some v) at up met = ap Some (sym (put_again key v es up at)) ∙ ap (λ x. put_entry x es) (sym (met v refl))
@@ -130,7 +130,7 @@ module _ (t : Template) (all : List (List ℕ)) (here : Option Schema) (ps : Lis
       → option_and_then (value_put here xs es) (key_to_come names es name) ≡ put_entry (option_and_then (of_key xs) (unescaped name)) es
   some_put name es up all_own xs is whole = go (unescaped name) refl
     where
-      go : (o : Option (List ℕ)) → unescaped name ≡ o → option_and_then (value_put here xs es) (option_map (λ key. only_if (is_to_come names es key) key) o) ≡ put_entry (option_and_then (of_key xs) o) es
+      go : (o : Option (List ℕ)) → unescaped name ≡ o → option_and_then (value_put here xs es) (option_map (λ key. then_some (is_to_come names es key) key) o) ≡ put_entry (option_and_then (of_key xs) o) es
       go None u = refl
       go (Some key) u =
           key_put key here xs es (is_named names key) (lookup (same_text key) es) refl up

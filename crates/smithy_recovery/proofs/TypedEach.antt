@@ -13,7 +13,8 @@ use Rattle.smithy_serde.specs.Ranges.{is_in_range, are_in_range}
 use Rattle.smithy_serde.specs.Shaped.{is_shaped}
 use Rattle.smithy_serde.specs.Values as value
 use Rattle.smithy_serde.specs.Values.{Value, Write, structure, label_of, keys_of}
-use Rattle.smithy_serde.specs.Writes.{Resolved, all_resolved, firsts, position_in, only_if}
+use Rattle.smithy_serde.specs.Writes.{Resolved, all_resolved, firsts, position_in}
+use Rattle.std.specs.Bool.{then_some}
 use Rattle.smithy_binding.specs.declared.body_form.BodyForm.{BodyForm}
 use Rattle.smithy_binding.specs.declared.body_form.BodyForm.TheVariants as form
 use Rattle.smithy_binding.specs.Bindings.{inserted_at}
@@ -40,12 +41,12 @@ HasTypedValue r = is_typed_value r.member r.value ≡ true
 
 -- a write that is resolved by the index of its node
 indexed_typed : (schema : Schema) (w : Write) (i : ℕ) (rest : List Resolved) (n : Option Schema) → member_at schema i ≡ n → option_map_or (λ m. is_typed_value m w.value) n false ≡ true → AllByRecursion HasTypedValue rest
-    → AllByRecursion HasTypedValue (cons_option (option_and_then (λ (j : ℕ). option_map (λ m. at_member j m w.value) (member_at schema j)) (only_if (is_some (member_at schema i)) i)) rest)
+    → AllByRecursion HasTypedValue (cons_option (option_and_then (λ (j : ℕ). option_map (λ m. at_member j m w.value) (member_at schema j)) (then_some (is_some (member_at schema i)) i)) rest)
 indexed_typed schema w i rest None at h all = absurd (cc h)
 indexed_typed schema w i rest (Some m) at h all =
     let one : Resolved = at_member i m w.value in
-    let is : option_and_then (λ (j : ℕ). option_map (λ m. at_member j m w.value) (member_at schema j)) (only_if (is_some (member_at schema i)) i) ≡ Some one =
-    ap (λ (o : Option Schema). option_and_then (λ (j : ℕ). option_map (λ m. at_member j m w.value) (member_at schema j)) (only_if (is_some o) i)) at
+    let is : option_and_then (λ (j : ℕ). option_map (λ m. at_member j m w.value) (member_at schema j)) (then_some (is_some (member_at schema i)) i) ≡ Some one =
+    ap (λ (o : Option Schema). option_and_then (λ (j : ℕ). option_map (λ m. at_member j m w.value) (member_at schema j)) (then_some (is_some o) i)) at
     ∙ ap (option_map (λ m. at_member i m w.value)) at in
     subst (λ o. AllByRecursion HasTypedValue (cons_option o rest)) (sym is) (h, all)
 

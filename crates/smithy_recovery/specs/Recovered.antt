@@ -11,7 +11,7 @@ use Rattle.smithy_schema.specs.Templates.{Template, pieces}
 use Rattle.smithy_schema.specs.WellMade.{is_well_made}
 use Rattle.smithy_serde.specs.Held.{Held}
 use Rattle.smithy_serde.specs.Values.{Value, Write}
-use Rattle.smithy_serde.specs.Writes.{only_if}
+use Rattle.std.specs.Bool.{then_some}
 use Rattle.smithy_strings.specs.Escapes.{escape}
 use Rattle.smithy_binding.specs.Answer.{place}
 use Rattle.smithy_binding.specs.Bindings.{headers, query_names}
@@ -91,7 +91,7 @@ is_placed_so r omit q ws = option_map_or (λ p. has_same_facts p q) (place r.pro
 -- The writes that are read, where they are a typed input's whose request has the same facts.
 unfoldable pub recovered : Reading → OmitFlags → Request → Option (List Write)
 recovered r omit q =
-    option_and_then (λ ws. only_if (is_typed r.protocol r.schema r.endpoint omit ws && is_placed_so r omit q ws) ws) (read_writes r q)
+    option_and_then (λ ws. then_some (is_typed r.protocol r.schema r.endpoint omit ws && is_placed_so r omit q ws) ws) (read_writes r q)
 
 -- a typed input in normal form whose request has the same facts
 pub record IsRecovered (r : Reading) (omit : OmitFlags) (q : Request) (ws : List Write) : Type 0 where

@@ -7,7 +7,7 @@ ghost use Rattle.smithy_serde.specs.StoredValues.{HasNode, AreDefined};
 ghost use Rattle.smithy_serde.specs.StructValues.{table_of, node_of};
 ghost use Rattle.smithy_binding.specs.Checked.{checked_input};
 ghost use Rattle.smithy_recovery.specs.Recovering.{IsCheckedAt, Recovers, IsInputOf, Lacks};
-ghost use Rattle.smithy_recovery.specs.views.Stages.{TellsTyped, Answers, Places, TellsSame, RecoversNode};
+ghost use Rattle.smithy_recovery.specs.views.Stages.{StandsAt, TellsTyped, Answers, Places, TellsSame, RecoversNode};
 
 use crate::error::RecoverError;
 use crate::laws::recovered_is_exact;
@@ -93,7 +93,7 @@ fn recover_input<'t, C: Codec>(
     requires well_made { IsTrue (is_well_made (schema_of setting.schema)) }
     requires lawful { C.lawful protocol.now.codec }
     ensures table { IfOk result (λ v. table_of v ≡ setting.entry.table.now) }
-    ensures node { IfOk result (λ v. Some (node_of v) ≡ at_place setting.entry.table.now setting.entry.place.0) }
+    ensures node { IfOk result (StandsAt setting.entry) }
     ensures value { RecoversNode C.text C.holds protocol.now setting.entry request.now result }
 {
     let (table, schema, endpoint) = (setting.table, setting.schema, setting.endpoint);

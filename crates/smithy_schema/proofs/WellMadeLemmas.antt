@@ -8,9 +8,12 @@ use Rattle.smithy_schema.specs.declared.schema_ref.SchemaRef.{SchemaRef}
 use Rattle.smithy_schema.specs.declared.schema_ref.TableRef.{TableRef}
 use Rattle.smithy_schema.specs.declared.schema_ref.Spot.{Spot}
 use Rattle.smithy_schema.specs.declared.schema_ref.Spot.TheVariants as spot
+use Rattle.smithy_ids.specs.ShapeIds.{has_hash}
 use Rattle.smithy_ids.specs.declared.shape_type.ShapeType.{ShapeType}
+use Rattle.smithy_ids.specs.declared.shape_type.ShapeType.TheVariants as kind
 use Rattle.smithy_schema.specs.Nodes.{Node, Table, Schema, node_at, at_place}
 use Rattle.smithy_schema.specs.Defining.{is_member, IsSound}
+use Rattle.smithy_schema.specs.PreludeNodes.{prelude_name}
 use Rattle.smithy_schema.specs.views.References.{schema_in, schema_of}
 use Rattle.smithy_schema.specs.WellMade.{is_whole, are_in_place, is_node_well_made, is_table_well_made, is_well_made}
 
@@ -62,10 +65,15 @@ found-well_made table place (Some s) sound e = go (node_at table place) refl e
 pub table-well_made : (s : SchemaRef) (r : TableRef) (node : Node) → s.spot ≡ spot.Table r → IsSound r.table.now → node_at r.table.now r.index.0 ≡ Some node → is_well_made (schema_of s) ≡ true
 table-well_made s r node is sound at = rw is (rw at (well_made-from_IsSound r.table.now r.index.0 node sound at))
 
+-- the prelude's names are absolute
+prelude_hash : (shape_type : ShapeType) → has_hash (prelude_name shape_type) ≡ true
+prelude_hash kind.Boolean = refl
+prelude_hash _ = refl
+
 -- a reference to a node of the prelude, whose name is UTF-8
 pub prelude-well_made : (s : SchemaRef) (shape_type : ShapeType) → s.spot ≡ spot.Prelude shape_type → is_utf8 (schema_of s).node.full_name ≡ true → is_well_made (schema_of s) ≡ true
 prelude-well_made s shape_type is text = go s.spot is text
   where
     go : (at : Spot) → at ≡ spot.Prelude shape_type → is_utf8 (schema_in at).node.full_name ≡ true → is_well_made (schema_in at) ≡ true
     go (spot.Table r) is text = absurd (cc is)
-    go (spot.Prelude k) is text = rw text refl
+    go (spot.Prelude k) is text = rw (text, prelude_hash k) refl

@@ -6,24 +6,21 @@ use Rattle.smithy_ids.specs.declared.payload_hint.PayloadHint.TheVariants.{Unkno
 use Rattle.smithy_schema.specs.Nodes.{Node, Table, bare_node, no_traits}
 
 -- the name of the shape of a simple kind, and of the unit structure
-abbrev pub prelude_word : ShapeType → List ℕ
-prelude_word kind.Boolean = codes "Boolean"
-prelude_word kind.Byte = codes "Byte"
-prelude_word kind.Short = codes "Short"
-prelude_word kind.Integer = codes "Integer"
-prelude_word kind.Long = codes "Long"
-prelude_word kind.Float = codes "Float"
-prelude_word kind.Double = codes "Double"
-prelude_word kind.BigInteger = codes "BigInteger"
-prelude_word kind.BigDecimal = codes "BigDecimal"
-prelude_word kind.String = codes "String"
-prelude_word kind.Blob = codes "Blob"
-prelude_word kind.Timestamp = codes "Timestamp"
-prelude_word kind.Document = codes "Document"
-prelude_word _ = codes "Unit"
-
 abbrev pub prelude_name : ShapeType → List ℕ
-prelude_name shape_type = codes "smithy.api#" ++ prelude_word shape_type
+prelude_name kind.Boolean = codes "smithy.api#Boolean"
+prelude_name kind.Byte = codes "smithy.api#Byte"
+prelude_name kind.Short = codes "smithy.api#Short"
+prelude_name kind.Integer = codes "smithy.api#Integer"
+prelude_name kind.Long = codes "smithy.api#Long"
+prelude_name kind.Float = codes "smithy.api#Float"
+prelude_name kind.Double = codes "smithy.api#Double"
+prelude_name kind.BigInteger = codes "smithy.api#BigInteger"
+prelude_name kind.BigDecimal = codes "smithy.api#BigDecimal"
+prelude_name kind.String = codes "smithy.api#String"
+prelude_name kind.Blob = codes "smithy.api#Blob"
+prelude_name kind.Timestamp = codes "smithy.api#Timestamp"
+prelude_name kind.Document = codes "smithy.api#Document"
+prelude_name _ = codes "smithy.api#Unit"
 
 -- the prelude's node of a kind; it has no traits
 abbrev pub prelude_node : ShapeType → Node

@@ -1,9 +1,9 @@
 -- How the members that a reader hands out are read as the writes of one structure.
-use Rattle.std.proofs.Common.{◌≡◌, ℕ, List, [], ◌∷◌, Option, Some, None, Result, Ok, Err, inl, inr, refl, sym, ap, subst, ◌∙◌}
+use Rattle.std.proofs.Common.{◌≡◌, List, [], ◌∷◌, Option, Some, None, Result, Ok, Err, inl, inr, refl, sym, ap, subst, ◌∙◌}
 use Rattle.std.specs.Prelude.{IfErr, MatchResult}
 use Rattle.smithy_types.specs.Results.{then_give}
 use Rattle.smithy_schema.specs.Nodes.{Table, Schema}
-use Rattle.smithy_serde.specs.Values.{Value, Write, Writes, no_writes}
+use Rattle.smithy_serde.specs.Values.{Value, Writes, no_writes}
 use Rattle.smithy_serde.specs.declared.error.SerdeError.{SerdeError}
 use Rattle.smithy_serde.specs.declared.error.SerdeError.TheVariants.{OutOfMemory}
 use Rattle.smithy_serde.specs.declared.scalar.Group.TheVariants as group
@@ -14,11 +14,11 @@ use Rattle.smithy_serde.specs.views.Handing.{HandsOut, AllHanded, settled_by, en
 use Rattle.smithy_serde.specs.Held.{Held, Answer, IsAnswer}
 use Rattle.smithy_serde.specs.IndexOrder.{in_index_order}
 use Rattle.smithy_serde.specs.Listings.{Slot, at_member, at_element, at_key, Listing}
-use Rattle.smithy_serde.specs.MembersRead.{with_answer, with_value, at_end, values_in, values_of_listing, structure_listed, ArePlaced, PassesMemory, structure_in, ReadsListed, ReadsStruct}
-use Rattle.smithy_serde.specs.ReadCalls.{AtHand, Gives}
+use Rattle.smithy_serde.specs.MembersRead.{with_answer, with_value, at_end, values_in, values_of_listing, structure_listed, ArePlaced, PassesMemory, structure_in, ReadsStruct}
+use Rattle.smithy_serde.specs.ReadCalls.{AtHand}
 use Rattle.smithy_serde.specs.StoredValues.{writes_in, AreDefined}
 use Rattle.smithy_serde.specs.views.ValueBuilding.{add_write, TakesMember, BuildsStructure}
-use Rattle.smithy_serde.specs.ValueRead.{value_read, value_of_structure, write_by}
+use Rattle.smithy_serde.specs.ValueRead.{value_read, write_by}
 use Rattle.smithy_serde.proofs.ReadCollect.{built_memory, one_more, given_ok, given_err}
 use Rattle.smithy_serde.proofs.ReadValue.{gives_memory, structure_total, is_structure, structure_ok, structure_err}
 

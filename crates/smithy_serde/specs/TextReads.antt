@@ -10,12 +10,12 @@ use Rattle.smithy_ids.specs.declared.shape_type.ShapeType.TheVariants as kind
 use Rattle.smithy_serde.specs.Ranges.{is_in_width}
 use Rattle.smithy_serde.specs.Values as value
 use Rattle.smithy_serde.specs.Values.{Scalar, Width, byte, short, integer, long}
-use Rattle.smithy_serde.specs.Writes.{only_if}
+use Rattle.std.specs.Bool.{then_some}
 
 -- an optional sign and digits, in the range of the width
 abbrev pub whole_of_text : Width → List ℕ → Option Scalar
 whole_of_text width text =
-    if is_signed_digits text then only_if (is_in_width width (signed_digits_value 10 text)) (value.whole width (signed_digits_value 10 text)) else None
+    if is_signed_digits text then then_some (is_in_width width (signed_digits_value 10 text)) (value.whole width (signed_digits_value 10 text)) else None
 
 abbrev pub boolean_of_text : List ℕ → Option Scalar
 boolean_of_text text =
@@ -33,8 +33,8 @@ scalar_of_text kind.Byte text = whole_of_text byte text
 scalar_of_text kind.Short text = whole_of_text short text
 scalar_of_text kind.Integer text = whole_of_text integer text
 scalar_of_text kind.Long text = whole_of_text long text
-scalar_of_text kind.BigInteger text = only_if (is_big_integer_in_range text) (value.big_integer text)
-scalar_of_text kind.BigDecimal text = only_if (is_big_decimal_in_range text) (value.big_decimal text)
+scalar_of_text kind.BigInteger text = then_some (is_big_integer_in_range text) (value.big_integer text)
+scalar_of_text kind.BigDecimal text = then_some (is_big_decimal_in_range text) (value.big_decimal text)
 scalar_of_text kind.String text = Some (value.text text)
 scalar_of_text kind.Blob text = blob_of_text text
 scalar_of_text _ text = None

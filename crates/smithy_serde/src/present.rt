@@ -24,7 +24,7 @@ fn present(alloc: Global, value: ShapeValue) -> Result<ShapeValue, OutOfMemory>
 
 #[cycle(present)]
 fn present_parts(alloc: Global, parts: WriteList) -> Result<WriteList, OutOfMemory>
-    ensures writes { (t : Table) → IfOk result (λ ws. writes_in t ws ≡ present_parts (writes_in t parts)) }
+    ensures writes { (t : Table) → IfOk result (λ w. writes_in t w ≡ present_parts (writes_in t parts)) }
     ensures defined { IfOk result (λ ws. StaysDefined parts ws) }
 {
     let mut kept = WriteList::new(alloc);
@@ -36,7 +36,7 @@ fn present_parts(alloc: Global, parts: WriteList) -> Result<WriteList, OutOfMemo
 
 #[cycle(present)]
 fn present_members(alloc: Global, members: WriteList) -> Result<WriteList, OutOfMemory>
-    ensures writes { (t : Table) → IfOk result (λ ws. writes_in t ws ≡ present_members (writes_in t members)) }
+    ensures writes { (t : Table) → IfOk result (λ w. writes_in t w ≡ present_members (writes_in t members)) }
     ensures defined { IfOk result (λ ws. StaysDefined members ws) }
 {
     let mut kept = WriteList::new(alloc);
@@ -58,7 +58,7 @@ impl WriteList {
     /// The writes of a structure without those that are null, at every depth: a member without a value is not there (Smithy, data
     /// model, structure). Items of lists and entries of maps stay. Takes memory for the lists of writes.
     pub fn present(self, alloc: Global) -> Result<WriteList, OutOfMemory>
-        ensures writes { (t : Table) → IfOk result (λ ws. writes_in t ws ≡ present_members (writes_in t self)) }
+        ensures writes { (t : Table) → IfOk result (λ w. writes_in t w ≡ present_members (writes_in t self)) }
         ensures defined { IfOk result (λ ws. StaysDefined self ws) }
     {
         present_members(alloc, self)

@@ -1,5 +1,5 @@
 -- A schema as a response has it: its members and their first writes are the schema's own.
-use Rattle.smithy_served.proofs.Common.{◌≡◌, refl, ◌∙◌, ap, ℕ, Bool, true, false, cond, ◌||◌, List, [], ◌∷◌, map, filter, filter_map, find, Option, Some, None, option_map, option_and_then, is_some, list_all, list_any, cons_option, Schema, Table, at_place, element_of, member_at, members_of, Label, Write, Resolved, only_if, position_in, resolve, resolved, all_resolved, is_of, first, as_output, at-in, cited-in, member-in, position-in, first_value, list_all-map}
+use Rattle.smithy_served.proofs.Common.{◌≡◌, refl, ◌∙◌, ap, ℕ, Bool, true, false, cond, ◌||◌, List, [], ◌∷◌, map, filter, filter_map, find, Option, Some, None, option_map, option_and_then, is_some, list_all, list_any, cons_option, Schema, Table, at_place, element_of, member_at, members_of, Label, Write, Resolved, then_some, position_in, resolve, resolved, all_resolved, is_of, first, as_output, at-in, cited-in, member-in, position-in, first_value, list_all-map}
 use Rattle.smithy_binding.specs.Directions.{directed_table}
 use Rattle.smithy_binding.specs.declared.direction.Direction.TheVariants as direction
 
@@ -10,12 +10,12 @@ out_write r = record { position = r.position; member = as_output r.member; value
 resolve-out : (schema : Schema) (l : Label) → resolve (as_output schema) l ≡ resolve schema l
 resolve-out schema l = go l.member_index l.member_name
   where
-    there : (i : ℕ) (o : Option Schema) → only_if (is_some (option_map as_output o)) i ≡ only_if (is_some o) i
+    there : (i : ℕ) (o : Option Schema) → then_some (is_some (option_map as_output o)) i ≡ then_some (is_some o) i
     there i None = refl
     there i (Some m) = refl
 
     go : (index : Option ℕ) (name : Option (List ℕ)) → position_in (as_output schema) index name ≡ position_in schema index name
-    go (Some i) name = ap (λ o. only_if (is_some o) i) (member-in direction.Response schema i) ∙ there i (member_at schema i)
+    go (Some i) name = ap (λ o. then_some (is_some o) i) (member-in direction.Response schema i) ∙ there i (member_at schema i)
     go None None = refl
     go None (Some name) = position-in direction.Response schema name
 

@@ -2,7 +2,7 @@
 pub use Rattle.base64.specs.Engines.{standard}
 pub use Rattle.smithy_binding.proofs.CheckedOutputLaws.{IsCheckedOutput-from_test, code_kinds}
 pub use Rattle.smithy_binding.proofs.Directions.{at-in, cited-in, map_fault-in, member-in, position-in}
-pub use Rattle.smithy_binding.specs.Checked.{has_prefix_kind, is_element_plain, one_if}
+pub use Rattle.smithy_binding.specs.Checked.{has_prefix_kind, is_element_plain}
 pub use Rattle.smithy_binding.specs.CheckedOutput.{IsCheckedOutput, checked_output, has_code_kind, has_plain_header_elements}
 pub use Rattle.smithy_binding.specs.CheckedOutput.{has_response_body_member, is_response_bound_once, response_payload_kind}
 unfoldable pub use Rattle.smithy_binding.specs.Messages.{message_fault, message_headers}
@@ -67,7 +67,7 @@ pub use Rattle.smithy_unambiguity.proofs.Common.{at_place, base64, before_first,
 pub use Rattle.smithy_unambiguity.proofs.Common.{body_parts, bound_fault, bytes_by, codes, cond, cons_option, default_names, doc_of}
 pub use Rattle.smithy_unambiguity.proofs.Common.{document_value, drop, each, element_of, element_text, entries_of, entry_writes}
 pub use Rattle.smithy_unambiguity.proofs.Common.{enumerate_from, eq-eqb, eqb-true, false, false_from_ne_true, field_of, filter, filter_map}
-pub use Rattle.smithy_unambiguity.proofs.Common.{find, first, first_of_all, firsts, fits, flat_map, form_at, form_in, has_at_most_one}
+pub use Rattle.smithy_unambiguity.proofs.Common.{find, first, firsts, fits, flat_map, form_at, form_in, has_at_most_one}
 pub use Rattle.smithy_unambiguity.proofs.Common.{has_distinct_keys, has_element, has_header_kind, has_own_formats, has_sound_headers}
 pub use Rattle.smithy_unambiguity.proofs.Common.{has_unbound_member, headers, if◌then◌else◌, in_key_order, in_lower_case}
 pub use Rattle.smithy_unambiguity.proofs.Common.{inl, inr, inserted_at, is_bound, is_codec_kind, is_header_kind, is_in_range, is_none}
@@ -77,14 +77,14 @@ pub use Rattle.smithy_unambiguity.proofs.Common.{is_well_made, item_fault, key_f
 pub use Rattle.smithy_unambiguity.proofs.Common.{last_or, leb-true, length, list_all, list_all-append, list_any, list_of, list_of_members}
 pub use Rattle.smithy_unambiguity.proofs.Common.{lower_header_names, map, map-append, map_entries, member-passes, member_at, member_text}
 pub use Rattle.smithy_unambiguity.proofs.Common.{members_of, members_with, nat_eq, nat_le, nat_lt, negsuc, no_writes, not, not-false}
-pub use Rattle.smithy_unambiguity.proofs.Common.{one_kind, only_if, option_and_then, option_map, option_map_or, option_or, option_to_list}
+pub use Rattle.smithy_unambiguity.proofs.Common.{one_kind, then_some, option_and_then, option_map, option_map_or, option_or, option_to_list}
 pub use Rattle.smithy_unambiguity.proofs.Common.{or_right, own_entries, pairs_fault, payload_kind, place_at, pos, position_in}
 pub use Rattle.smithy_unambiguity.proofs.Common.{position_or_len, prefixes, raw_bytes, refl, resolve, resolved, same_format, same_kind}
 pub use Rattle.smithy_unambiguity.proofs.Common.{same_text, scalar_kind, settled, settled_elements, slice_get, starts_with}
 pub use Rattle.smithy_unambiguity.proofs.Common.{str_to_ascii_lowercase, subst, suc, sym, take, text_of_document, text_of_key, texts}
 pub use Rattle.smithy_unambiguity.proofs.Common.{then_give, then_try, to_header, to_label, to_payload, to_prefix, true, unless}
 pub use Rattle.smithy_unambiguity.proofs.Common.{unless_empty, unwrap_or, value_fault, value_of, values_at, wire, with_own_elements, write}
-pub use Rattle.smithy_unambiguity.proofs.Common.{writes_default, writes_fault_by, writes_of, year_fault, zero, ℕ, ℤ, ◌&&◌, ◌++◌, ◌+◌, ◌==◌}
+pub use Rattle.smithy_unambiguity.proofs.Common.{writes_default, writes_fault_by, writes_of, zero, ℕ, ℤ, ◌&&◌, ◌++◌, ◌+◌, ◌==◌}
 pub use Rattle.smithy_unambiguity.proofs.Common.{append-nil, kind_takes, text_form, ◌||◌, ◌∙◌, ◌∷◌, ◌≡◌, ◌≢◌, ◌≤◌, ◌⊎◌}
 pub use Rattle.smithy_unambiguity.proofs.Conforming.{IsFittingWrite, first_unfaulted, fitting_by, no_first, resolved_at}
 pub use Rattle.smithy_unambiguity.proofs.Defaults.{all_headers_at, leaves-elsewhere}

@@ -1,5 +1,5 @@
 -- The fields of a response's body are read as the normal form of the members that stand there.
-use Rattle.smithy_served.proofs.Common.{◌≡◌, refl, sym, ◌∙◌, ap, subst, ℕ, ◌+◌, zero, suc, nat_lt, Bool, true, false, not, cond, List, [], ◌∷◌, ◌++◌, map, filter, filter_map, flat_map, slice_get, Option, Some, None, Result, Ok, Err, option_map, option_and_then, if◌then◌else◌, AllByRecursion, option_map_or, Document, list_of_members, then_try, then_give, Schema, is_bound, is_response_bound, member_at, members_of, position_of_name, is_well_made, Held, fields, known, in_order, position_of, put_by, IsLawfulText, Slot, at_member, contents, listing_of, field_of, last_named, value_read, value_of_structure, all_read, write_by, Value, Write, label_of, list_of, writes_of, Resolved, all_resolved, unbound, SerdeError, form_in, body_parts, body, text_of_document, bytes_by, IsCheckedOutput, as_output, Protocol, reads_normal_structure, all_made, by_positions, member_in_place, HasOwnText, own_bytes, body_bytes, document_value_is, own_text, has_unbound, is_unbound, only_unbound, member_view, AreReadAs, IsTypedOutput, sound, resolved_at, members_by_position, list_of-writes_of}
+use Rattle.smithy_served.proofs.Common.{◌≡◌, refl, sym, ◌∙◌, ap, subst, ℕ, ◌+◌, zero, suc, nat_lt, Bool, true, false, not, cond, List, [], ◌∷◌, ◌++◌, map, filter, filter_map, flat_map, slice_get, Option, Some, None, Result, Ok, Err, option_map, option_and_then, if◌then◌else◌, AllByRecursion, option_map_or, Document, list_of_members, then_try, then_give, Schema, is_bound, is_response_bound, member_at, members_of, position_of_name, is_well_made, Held, fields, known, in_order, position_of, put_by, IsLawfulText, Slot, at_member, contents, listing_of, field_of, last_named, value_read, value_of_structure, all_read, write_by, Value, Write, label_of, list_of, writes_of, Resolved, all_resolved, unbound, SerdeError, form_in, body_parts, body, text_of_document, bytes_by, IsCheckedOutput, as_output, Protocol, reads_normal_structure, all_made, by_positions, member_in_place, HasOwnText, own_bytes, body_bytes, document_value_is, own_text, has_unbound, is_unbound, only_unbound, member_view, AreReadAs, IsTypedOutput, resolved_at, members_by_position, list_of-writes_of}
 use Rattle.smithy_types.specs.Documents as doc
 use Rattle.smithy_serde.specs.Held as held
 use Rattle.smithy_serde.specs.Values as value

@@ -1,5 +1,6 @@
 -- What a checked output says of its responses: their headers tell members apart, and one payload, or the unbound members, are the body.
-use Rattle.smithy_served.proofs.Common.{◌≡◌, refl, sym, ◌∙◌, ap, ℕ, ◌==◌, nat_eq, nat_le, ◌+◌, Bool, true, false, not, ◌&&◌, ◌||◌, List, length, map, filter, filter_map, find, slice_get, Option, Some, None, option_map, is_some, AllByRecursion, list_all, list_any, starts_with, str_to_ascii_lowercase, and_from, and_parts, length-map, list_all-from_AllPass, are_distinct, Schema, Traits, binding_at, binding_of, is_bound, is_outside_body, is_response_bound, members_of, has_unbound_member, is_payload, payload_kind, has_at_most_one, has_sound_headers, is_sound_payload, is_text_map, lower_header_names, members_with, one_if, prefixes, IsCheckedOutput, has_response_body_member, is_response_bound_once, response_payload_kind, as_output, member-in, all_apply, all_from_test, HasOwnNames, IsSoundMessage, members_by_position, find_same}
+use Rattle.smithy_served.proofs.Common.{◌≡◌, refl, sym, ◌∙◌, ap, ℕ, ◌==◌, nat_eq, nat_le, ◌+◌, Bool, true, false, not, ◌&&◌, ◌||◌, List, length, map, filter, filter_map, find, slice_get, Option, Some, None, option_map, is_some, AllByRecursion, list_all, list_any, starts_with, str_to_ascii_lowercase, and_from, and_parts, length-map, list_all-from_AllPass, are_distinct, Schema, Traits, binding_at, binding_of, is_bound, is_outside_body, is_response_bound, members_of, has_unbound_member, is_payload, payload_kind, has_at_most_one, has_sound_headers, is_sound_payload, is_text_map, lower_header_names, members_with, prefixes, IsCheckedOutput, has_response_body_member, is_response_bound_once, response_payload_kind, as_output, member-in, all_apply, all_from_test, HasOwnNames, IsSoundMessage, members_by_position, find_same}
+use Rattle.std.specs.Int.{from_bool}
 use Rattle.std.proofs.lemmas.Option.{slice_get-map}
 use Rattle.smithy_types.specs.Grammars.{is_token}
 use Rattle.smithy_binding.specs.declared.direction.Direction.TheVariants as direction
@@ -23,7 +24,7 @@ bound_out m = let t = m.node.traits in go t.http_header t.http_prefix_headers t.
 payload_out : (m : Schema) → is_response_bound_once m ≡ true → is_payload (binding_of (as_output m)) ≡ m.node.traits.http_payload
 payload_out m once = let t = m.node.traits in go t.http_header t.http_prefix_headers t.http_response_code t.http_payload once
   where
-    go : (header prefix : Option (List ℕ)) (code payload : Bool) → nat_le (one_if (is_some header) + one_if (is_some prefix) + one_if code + one_if payload) 1 ≡ true → is_payload (binding_at header prefix None false code payload) ≡ payload
+    go : (header prefix : Option (List ℕ)) (code payload : Bool) → nat_le (from_bool (is_some header) + from_bool (is_some prefix) + from_bool code + from_bool payload) 1 ≡ true → is_payload (binding_at header prefix None false code payload) ≡ payload
     go header prefix code false e = none header prefix code
       where
         none : (header prefix : Option (List ℕ)) (code : Bool) → is_payload (binding_at header prefix None false code false) ≡ false

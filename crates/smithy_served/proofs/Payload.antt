@@ -1,5 +1,5 @@
 -- The body of a response is read as the payload that was written.
-use Rattle.smithy_served.proofs.Common.{◌≡◌, ◌≢◌, refl, sym, ◌∙◌, ap, subst, ℕ, ◌⊎◌, inl, inr, Bool, true, false, not, ◌&&◌, ◌||◌, List, [], ◌∷◌, Option, Some, None, Ok, option_map, option_and_then, unwrap_or, IsTrue, if◌then◌else◌, is_utf8, IsUtf8-from_is_utf8, utf8_lossy-IsUtf8, Document, ShapeType, Schema, binding_at, binding_of, to_payload, is_bound, is_outside_body, member_at, is_well_made, fits, is_null, Held, read_scalar, IsLawfulText, settled, is_in_range, value_read, value_within, value_by_kind, Value, Write, has_unbound_member, is_codec_kind, form_at, form_in, body_parts, body, raw_bytes, text_of_document, bytes_by, IsCheckedOutput, unless_empty, as_output, Protocol, reads_normal_form, member_in_place, HasOwnText, own_bytes, blob_form, data_kind, codec_form, body_bytes, document_value_is, own_text, payload_form, payload_is_data, payload_value, bound_fits, first_has, sound, handed_out, handed_body, passed_over, is_raw, body_route, payload_route, first_value, payload_view, IsTypedOutput, is_codec_payload, is_shaped_payload, IsSoundMessage}
+use Rattle.smithy_served.proofs.Common.{◌≡◌, ◌≢◌, refl, sym, ◌∙◌, ap, subst, ℕ, ◌⊎◌, inl, inr, Bool, true, false, not, ◌&&◌, ◌||◌, List, [], ◌∷◌, Option, Some, None, Ok, option_map, option_and_then, unwrap_or, IsTrue, if◌then◌else◌, is_utf8, IsUtf8-from_is_utf8, utf8_lossy-IsUtf8, ShapeType, Schema, binding_at, binding_of, to_payload, is_bound, is_outside_body, member_at, is_well_made, fits, is_null, Held, read_scalar, IsLawfulText, settled, is_in_range, value_read, value_within, value_by_kind, Value, Write, has_unbound_member, is_codec_kind, form_at, form_in, body_parts, body, raw_bytes, text_of_document, bytes_by, IsCheckedOutput, unless_empty, as_output, Protocol, reads_normal_form, member_in_place, HasOwnText, own_bytes, blob_form, data_kind, codec_form, body_bytes, document_value_is, own_text, payload_form, payload_is_data, payload_value, bound_fits, first_has, handed_out, handed_body, passed_over, is_raw, body_route, payload_route, first_value, payload_view, IsTypedOutput, is_codec_payload, is_shaped_payload, IsSoundMessage}
 use Rattle.smithy_ids.specs.declared.shape_type.ShapeType.TheVariants as kind
 use Rattle.smithy_serde.specs.Held as held
 use Rattle.smithy_serde.specs.Shaped.{is_shaped}

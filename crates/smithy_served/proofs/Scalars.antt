@@ -1,5 +1,5 @@
 -- A header is read as the scalar that its text was written of.
-use Rattle.smithy_served.proofs.Common.{◌≡◌, ◌≢◌, refl, sym, ◌∙◌, ap, ℕ, ℤ, Bool, true, false, not, cond, ◌&&◌, List, [], ◌∷◌, codes, Option, Some, None, Result, Ok, Err, option_map, option_and_then, is_some, is_none, if◌then◌else◌, ok_or, chars, is_utf8, trim, and_parts, IsUtf8-from_is_utf8, standard, is_signed_digits, is_big_integer_in_range, is_big_decimal_in_range, is_big_decimal, has_narrow_coefficient, then_try, then_give, same_text, ShapeType, TimestampFormat, same_kind, one_text_of, begins_with_white_space, ends_with_white_space, HttpError, Schema, scalar_kind, scalar_of_header, text_of_header, time_of_header, header_format, one_token, one_of, or_parse_refusal, item_of_text, decoded_text, no_value, Held, read_scalar, is_scalar_in_range, is_in_width, value_read, value_within, value_by_kind, Scalar, Value, Width, byte, short, integer, long, only_if, base64, SerdeError, listed, spelled_wire, is_wire_of, unwired, text_of_bytes, text_of_wire, scalar_wire, Header, times_are_read, is_flat, is_plain_text, are_empty, has_nothing, is_trimmed, blob_form, text_form, unwrap_or, kind_takes}
+use Rattle.smithy_served.proofs.Common.{◌≡◌, ◌≢◌, refl, sym, ◌∙◌, ap, ℕ, ℤ, Bool, true, false, not, cond, ◌&&◌, List, [], ◌∷◌, codes, Option, Some, None, Result, Ok, Err, option_map, option_and_then, is_some, is_none, if◌then◌else◌, ok_or, chars, is_utf8, trim, and_parts, IsUtf8-from_is_utf8, standard, is_signed_digits, is_big_integer_in_range, is_big_decimal_in_range, is_big_decimal, has_narrow_coefficient, then_try, then_give, same_text, ShapeType, TimestampFormat, same_kind, one_text_of, begins_with_white_space, ends_with_white_space, HttpError, Schema, scalar_kind, scalar_of_header, text_of_header, time_of_header, header_format, one_token, one_of, or_parse_refusal, item_of_text, decoded_text, no_value, Held, read_scalar, is_scalar_in_range, is_in_width, value_read, value_within, value_by_kind, Scalar, Value, Width, byte, short, integer, long, then_some, base64, SerdeError, listed, spelled_wire, is_wire_of, unwired, text_of_bytes, text_of_wire, scalar_wire, Header, times_are_read, is_flat, is_plain_text, are_empty, has_nothing, is_trimmed, blob_form, text_form, unwrap_or, kind_takes}
 use Rattle.base64.specs.GeneralPurpose.{decoded_of}
 use Rattle.std.specs.Cmp.Lexicographic.{same_text as same_from_test}
 use Rattle.smithy_types.specs.Timestamps.{timestamp_text}
@@ -32,7 +32,7 @@ pub spelled : (format : Option TimestampFormat) (media : Bool) (k : ShapeType) (
 unfolding unwired
 spelled format media k x t is = go (spelled_wire format media Header k t) (unwired-wire format media Header x k t is.range is.kind is.text)
   where
-    go : (o : Option Scalar) → option_and_then (λ y. only_if (is_wire_of format media Header t y) y) o ≡ Some x → o ≡ Some x
+    go : (o : Option Scalar) → option_and_then (λ y. then_some (is_wire_of format media Header t y) y) o ≡ Some x → o ≡ Some x
     go None e = absurd (cc e)
     go (Some y) e = ap Some (kept (is_wire_of format media Header t y) y x e).1
 
@@ -41,7 +41,7 @@ spelled format media k x t is = go (spelled_wire format media Header k t) (unwir
 bare_whole : (w : Width) (t : List ℕ) (x : Scalar) → whole_of_text w t ≡ Some x → are_bare t ≡ true
 bare_whole w t x e = go (is_signed_digits t) refl e
   where
-    go : (b : Bool) → is_signed_digits t ≡ b → cond b (only_if (is_in_width w (signed_digits_value 10 t)) (value.whole w (signed_digits_value 10 t))) None ≡ Some x → are_bare t ≡ true
+    go : (b : Bool) → is_signed_digits t ≡ b → cond b (then_some (is_in_width w (signed_digits_value 10 t)) (value.whole w (signed_digits_value 10 t))) None ≡ Some x → are_bare t ≡ true
     go true is h = bare_signed t is
     go false is h = absurd (cc h)
 
@@ -53,10 +53,10 @@ bare_boolean t x e = go (same_text t (codes "true")) refl (same_text t (codes "f
     go false ea true eb h = ap are_bare (same_from_test t (codes "false") (sym eb))
     go false ea false eb h = absurd (cc h)
 
-bare_integer : (t : List ℕ) (x : Scalar) → only_if (is_big_integer_in_range t) (value.big_integer t) ≡ Some x → are_bare t ≡ true
+bare_integer : (t : List ℕ) (x : Scalar) → then_some (is_big_integer_in_range t) (value.big_integer t) ≡ Some x → are_bare t ≡ true
 bare_integer t x e = bare_signed t (and_parts (is_signed_digits t) (has_narrow_coefficient t) (kept (is_big_integer_in_range t) (value.big_integer t) x e).0).0
 
-bare_big_decimal : (t : List ℕ) (x : Scalar) → only_if (is_big_decimal_in_range t) (value.big_decimal t) ≡ Some x → are_bare t ≡ true
+bare_big_decimal : (t : List ℕ) (x : Scalar) → then_some (is_big_decimal_in_range t) (value.big_decimal t) ≡ Some x → are_bare t ≡ true
 bare_big_decimal t x e = bare_decimal t (and_parts (is_big_decimal t) (has_narrow_coefficient t) (kept (is_big_decimal_in_range t) (value.big_decimal t) x e).0).0
 
 bare_blob : (format : Option TimestampFormat) (media : Bool) (x : Scalar) (t : List ℕ) → scalar_kind x ≡ Some kind.Blob → scalar_wire format media Header x ≡ Some t → are_bare t ≡ true
@@ -88,7 +88,7 @@ media_read : (name t : List ℕ) (x : Scalar) → t ≢ [] → are_bare t ≡ tr
 media_read name t x some bare e =
     ap (λ (r : Result (List ℕ) SerdeError). then_try r decoded_text) (token_is kind.String name t some bare) ∙ go _ _ (decoded_of standard t) e
   where
-    by : (no_text : SerdeError) (bytes : List ℕ) (b : Bool) → only_if b (value.text bytes) ≡ Some x → cond b (Ok (value.text bytes)) (Err no_text) ≡ Ok x
+    by : (no_text : SerdeError) (bytes : List ℕ) (b : Bool) → then_some b (value.text bytes) ≡ Some x → cond b (Ok (value.text bytes)) (Err no_text) ≡ Ok x
     by no_text bytes true q = ap Ok (kept true (value.text bytes) x q).1
     by no_text bytes false q = absurd (cc q)
 

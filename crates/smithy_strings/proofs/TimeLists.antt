@@ -1,8 +1,8 @@
 -- A header list of times is read as these times.
-use Rattle.std.proofs.Common.{◌≡◌, ◌≢◌, refl, sym, ◌∙◌, ap, subst, ℕ, ◌^◌, nat_lt, Bool, true, false, not, cond, ◌==◌, List, [], ◌∷◌, ◌++◌, map, codes, Option, Some, None, option_map, option_and_then, Result, Ok, Err, if◌then◌else◌, ℤ}
-use Rattle.std.specs.List.{AllByRecursion, list_all, onto_first}
+use Rattle.std.proofs.Common.{◌≡◌, ◌≢◌, refl, sym, ◌∙◌, ap, subst, ℕ, ◌^◌, nat_lt, Bool, true, false, not, cond, ◌==◌, List, [], ◌∷◌, ◌++◌, map, codes, Option, Some, None, option_map, option_and_then, Ok, Err, if◌then◌else◌, ℤ}
+use Rattle.std.specs.List.{AllByRecursion, onto_first}
 use Rattle.std.specs.Option.{ok_or}
-use Rattle.std.specs.Str.{chars, is_utf8, trim, trim_start, trim_end, encode_utf8_all, skip_leading_whitespace}
+use Rattle.std.specs.Str.{is_utf8, trim, trim_start, trim_end, encode_utf8_all, skip_leading_whitespace}
 use Rattle.std.proofs.lemmas.Bool.{and_parts, and_from, not-true}
 use Rattle.std.proofs.lemmas.List.{append_assoc, append-nil}
 use Rattle.std.proofs.lemmas.List.Folds.{list_all-append}

@@ -28,7 +28,7 @@ use Rattle.smithy_serde.specs.Fits.{scalar_kind, width_kind}
 use Rattle.smithy_serde.specs.DocumentOf.{base64}
 use Rattle.smithy_serde.specs.TextReads.{scalar_of_text, whole_of_text, blob_of_text, boolean_of_text}
 use Rattle.smithy_serde.specs.StoredValues.{value_in}
-use Rattle.smithy_serde.specs.Writes.{only_if}
+use Rattle.std.specs.Bool.{then_some}
 use Rattle.smithy_serde.specs.declared.value.ShapeValue.{ShapeValue}
 use Rattle.smithy_strings.specs.declared.wire.Place.{Place}
 use Rattle.smithy_strings.specs.declared.wire.Place.TheVariants.{Header}
@@ -62,7 +62,7 @@ boolean_back true = refl
 boolean_back false = refl
 
 string_back : (media : Bool) (s : List ℕ) → is_utf8 s ≡ true → text_of_wire media (if media then base64 s else s) ≡ Some (value.text s)
-string_back true s utf8 = ap (option_and_then (λ bytes. only_if (is_utf8 bytes) (value.text bytes))) (decoded_back s (AreBytes-from_utf8 s utf8)) ∙ ap (λ b. only_if b (value.text s)) utf8
+string_back true s utf8 = ap (option_and_then (λ bytes. then_some (is_utf8 bytes) (value.text bytes))) (decoded_back s (AreBytes-from_utf8 s utf8)) ∙ ap (λ b. then_some b (value.text s)) utf8
 string_back false s utf8 = refl
 
 blob_back : (place : Place) (bytes t : List ℕ) → are_bytes bytes ≡ true → blob_text place bytes ≡ Some t → blob_of_text t ≡ Some (value.blob bytes)
@@ -87,8 +87,8 @@ spelled_back format media place x k t range is e = subst (λ (o : Option ShapeTy
     by : (x : Scalar) → is_scalar_in_range x ≡ true → scalar_wire format media place x ≡ Some t → option_and_then (λ k. spelled_wire format media place k t) (scalar_kind x) ≡ Some x
     by (value.boolean b) range e = let same : (if b then codes "true" else codes "false") ≡ t = cc e in ap boolean_of_text (sym same) ∙ boolean_back b
     by (value.whole w z) range e = let same : signed_decimal z ≡ t = cc e in width_spelled format media place w t ∙ ap (whole_of_text w) (sym same) ∙ whole_read_back w z range
-    by (value.big_integer s) range e = let same : s ≡ t = cc e in ap (scalar_of_text kind.BigInteger) (sym same) ∙ ap (λ b. only_if b (value.big_integer s)) range
-    by (value.big_decimal s) range e = let same : s ≡ t = cc e in ap (scalar_of_text kind.BigDecimal) (sym same) ∙ ap (λ b. only_if b (value.big_decimal s)) range
+    by (value.big_integer s) range e = let same : s ≡ t = cc e in ap (scalar_of_text kind.BigInteger) (sym same) ∙ ap (λ b. then_some b (value.big_integer s)) range
+    by (value.big_decimal s) range e = let same : s ≡ t = cc e in ap (scalar_of_text kind.BigDecimal) (sym same) ∙ ap (λ b. then_some b (value.big_decimal s)) range
     by (value.text s) range e = let same : (if media then base64 s else s) ≡ t = cc e in ap (text_of_wire media) (sym same) ∙ string_back media s range
     by (value.blob bytes) range e = blob_back place bytes t range e
     by (value.timestamp z) range e = ap (option_map (λ z. value.timestamp z)) (time_back (time_format format place) z t range e)
@@ -99,19 +99,19 @@ pub unwired-wire : (format : Option TimestampFormat) (media : Bool) (place : Pla
     → unwired format media place k t ≡ Some x
 unfolding unwired
 unwired-wire format media place x k t range is e =
-    ap (option_and_then (λ x. only_if (is_wire_of format media place t x) x)) (spelled_back format media place x k t range is e)
-    ∙ ap (λ b. only_if b x) (ap (λ (o : Option (List ℕ)). option_map_or (λ s. same_text s t) o false) e ∙ same_self t)
+    ap (option_and_then (λ x. then_some (is_wire_of format media place t x) x)) (spelled_back format media place x k t range is e)
+    ∙ ap (λ b. then_some b x) (ap (λ (o : Option (List ℕ)). option_map_or (λ s. same_text s t) o false) e ∙ same_self t)
 
 -- What is read is of the kind, and has the text.
 
-kept : {X : Type 0} (b : Bool) (y x : X) → only_if b y ≡ Some x → (b ≡ true) × (y ≡ x)
+kept : {X : Type 0} (b : Bool) (y x : X) → then_some b y ≡ Some x → (b ≡ true) × (y ≡ x)
 kept true y x e = (refl, cc e)
 kept false y x e = absurd (cc e)
 
 whole_kind : (w : Width) (t : List ℕ) (x : Scalar) → whole_of_text w t ≡ Some x → scalar_kind x ≡ Some (width_kind w)
 whole_kind w t x e = go (is_signed_digits t) e
   where
-    go : (b : Bool) → cond b (only_if (is_in_width w (signed_digits_value 10 t)) (value.whole w (signed_digits_value 10 t))) None ≡ Some x → scalar_kind x ≡ Some (width_kind w)
+    go : (b : Bool) → cond b (then_some (is_in_width w (signed_digits_value 10 t)) (value.whole w (signed_digits_value 10 t))) None ≡ Some x → scalar_kind x ≡ Some (width_kind w)
     go true h = ap scalar_kind (sym (kept _ _ x h).1)
     go false h = absurd (cc h)
 
@@ -157,7 +157,7 @@ unwired_some : (format : Option TimestampFormat) (media : Bool) (place : Place) 
 unfolding unwired
 unwired_some format media place k t x e = go (spelled_wire format media place k t) refl e
   where
-    go : (o : Option Scalar) → spelled_wire format media place k t ≡ o → option_and_then (λ x. only_if (is_wire_of format media place t x) x) o ≡ Some x → (scalar_kind x ≡ Some k) × (scalar_wire format media place x ≡ Some t)
+    go : (o : Option Scalar) → spelled_wire format media place k t ≡ o → option_and_then (λ x. then_some (is_wire_of format media place t x) x) o ≡ Some x → (scalar_kind x ≡ Some k) × (scalar_wire format media place x ≡ Some t)
     go None is h = absurd (cc h)
     go (Some y) is h =
         let both = kept (is_wire_of format media place t y) y x h in
@@ -181,12 +181,12 @@ decoded_err t e failed = rw failed refl
 -- they are a text where they are UTF-8
 pub utf8_text : (bytes text : List ℕ) → text ≡ bytes → IsUtf8 bytes → Some (value.scalar (value.text text)) ≡ option_map (λ x. value.scalar x) (text_of_bytes bytes)
 utf8_text bytes text same utf8 =
-    ap (λ t. Some (value.scalar (value.text t))) same ∙ sym (ap (λ b. option_map (λ x. value.scalar x) (only_if b (value.text bytes))) (is_utf8-from_IsUtf8 bytes utf8))
+    ap (λ t. Some (value.scalar (value.text t))) same ∙ sym (ap (λ b. option_map (λ x. value.scalar x) (then_some b (value.text bytes))) (is_utf8-from_IsUtf8 bytes utf8))
 
 pub no_utf8_text : (bytes : List ℕ) → (IsUtf8 bytes → ⊥) → ◌≡◌ {A = Option Value} None (option_map (λ x. value.scalar x) (text_of_bytes bytes))
 no_utf8_text bytes other = go (is_utf8 bytes) refl
   where
-    go : (b : Bool) → is_utf8 bytes ≡ b → ◌≡◌ {A = Option Value} None (option_map (λ x. value.scalar x) (only_if b (value.text bytes)))
+    go : (b : Bool) → is_utf8 bytes ≡ b → ◌≡◌ {A = Option Value} None (option_map (λ x. value.scalar x) (then_some b (value.text bytes)))
     go true e = absurd (other (IsUtf8-from_is_utf8 bytes e))
     go false e = refl
 
@@ -200,24 +200,24 @@ pub unwired_from_none : (format : Option TimestampFormat) (media : Bool) (place 
 unfolding unwired
 unwired_from_none format media place k text t e = go (spelled_wire format media place k text) e
   where
-    go : (o : Option Scalar) → ◌≡◌ {A = Option Value} None (option_map (λ x. value.scalar x) o) → ◌≡◌ {A = Option Value} None (option_map (λ x. value.scalar x) (option_and_then (λ x. only_if (is_wire_of format media place text x) x) o))
+    go : (o : Option Scalar) → ◌≡◌ {A = Option Value} None (option_map (λ x. value.scalar x) o) → ◌≡◌ {A = Option Value} None (option_map (λ x. value.scalar x) (option_and_then (λ x. then_some (is_wire_of format media place text x) x) o))
     go None h = refl
     go (Some x) h = absurd (cc h)
 
 pub unwired_kept : (format : Option TimestampFormat) (media : Bool) (place : Place) (k : ShapeType) (text : List ℕ) (t : Table) (v : ShapeValue) (b : Bool) → Some (value_in t v) ≡ option_map (λ x. value.scalar x) (spelled_wire format media place k text)
-    → b ≡ has_wire format media place text (value_in t v) → option_map (value_in t) (only_if b v) ≡ option_map (λ x. value.scalar x) (unwired format media place k text)
+    → b ≡ has_wire format media place text (value_in t v) → option_map (value_in t) (then_some b v) ≡ option_map (λ x. value.scalar x) (unwired format media place k text)
 unfolding unwired
 unwired_kept format media place k text t v b e has = go (spelled_wire format media place k text) b e has
   where
     go : (o : Option Scalar) (b : Bool) → Some (value_in t v) ≡ option_map (λ x. value.scalar x) o → b ≡ has_wire format media place text (value_in t v)
-        → option_map (value_in t) (only_if b v) ≡ option_map (λ x. value.scalar x) (option_and_then (λ x. only_if (is_wire_of format media place text x) x) o)
+        → option_map (value_in t) (then_some b v) ≡ option_map (λ x. value.scalar x) (option_and_then (λ x. then_some (is_wire_of format media place text x) x) o)
     go None b h has = absurd (cc h)
     go (Some x) b h has =
         let same : value_in t v ≡ value.scalar x = cc h in
         let test : b ≡ is_wire_of format media place text x = has ∙ ap (has_wire format media place text) same in
         by b (is_wire_of format media place text x) test h
       where
-        by : (b c : Bool) → b ≡ c → Some (value_in t v) ≡ option_map (λ x. value.scalar x) (Some x) → option_map (value_in t) (only_if b v) ≡ option_map (λ x. value.scalar x) (only_if c x)
+        by : (b c : Bool) → b ≡ c → Some (value_in t v) ≡ option_map (λ x. value.scalar x) (Some x) → option_map (value_in t) (then_some b v) ≡ option_map (λ x. value.scalar x) (then_some c x)
         by true true e h = h
         by false false e h = refl
         by true false e h = absurd (cc e)

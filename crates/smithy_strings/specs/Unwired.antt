@@ -16,14 +16,14 @@ use Rattle.smithy_serde.specs.StoredValues.{value_in}
 use Rattle.smithy_serde.specs.TextReads.{scalar_of_text}
 use Rattle.smithy_serde.specs.Values as value
 use Rattle.smithy_serde.specs.Values.{Scalar}
-use Rattle.smithy_serde.specs.Writes.{only_if}
+use Rattle.std.specs.Bool.{then_some}
 use Rattle.smithy_serde.specs.declared.value.ShapeValue.{ShapeValue}
 use Rattle.smithy_strings.specs.declared.wire.Place.{Place}
 use Rattle.smithy_strings.specs.Wire.{wire, scalar_wire, time_format}
 
 -- bytes as a text
 abbrev pub text_of_bytes : List ℕ → Option Scalar
-text_of_bytes bytes = only_if (is_utf8 bytes) (value.text bytes)
+text_of_bytes bytes = then_some (is_utf8 bytes) (value.text bytes)
 
 -- with a media type the text whose base64 it is (RFC 4648, section 4; Smithy, mediaType trait)
 abbrev pub text_of_wire : Bool → List ℕ → Option Scalar
@@ -47,7 +47,7 @@ is_wire_of format has_media_type place text x = option_map_or (λ t. same_text t
 -- The scalar of a kind whose text this is, or none where it is none's.
 unfoldable pub unwired : Option TimestampFormat → Bool → Place → ShapeType → List ℕ → Option Scalar
 unwired format has_media_type place k text =
-    option_and_then (λ x. only_if (is_wire_of format has_media_type place text x) x) (spelled_wire format has_media_type place k text)
+    option_and_then (λ x. then_some (is_wire_of format has_media_type place text x) x) (spelled_wire format has_media_type place k text)
 
 -- by the kind and the traits of a node
 abbrev pub member_scalar : Schema → Place → List ℕ → Option Scalar

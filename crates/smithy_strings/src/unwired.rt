@@ -8,7 +8,7 @@ ghost use Rattle.smithy_serde.specs.ReadCalls.{type_of, scalar_of_read};
 ghost use Rattle.smithy_serde.specs.StoredValues.{value_in};
 ghost use Rattle.smithy_serde.specs.TextReads.{scalar_of_text as spelled_by};
 ghost use Rattle.smithy_serde.specs.Values.{scalar as scalar_value};
-ghost use Rattle.smithy_serde.specs.Writes.{only_if};
+ghost use Rattle.std.specs.Bool.{then_some};
 ghost use Rattle.smithy_strings.specs.Unwired.{StoresScalar, TellsText, member_scalar, unwired, spelled_wire, text_of_wire, text_of_bytes, time_of_wire};
 
 use crate::spelled::scalar_of_text;
@@ -63,7 +63,7 @@ fn unwired(
 
 // The value where the test passes.
 fn kept(value: ShapeValue, passes: bool) -> Option<ShapeValue>
-    ensures { result ≡ only_if passes value }
+    ensures { result ≡ then_some passes value }
 {
     if passes { Some(value) } else { None }
 }

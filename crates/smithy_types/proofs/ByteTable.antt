@@ -4,7 +4,7 @@ use Rattle.std.specs.List.{range_with_len}
 use Rattle.std.proofs.lemmas.List.{get_or-map}
 use Rattle.std.proofs.lemmas.List.FromFn.{get_or-map-range_with_len}
 use Rattle.smithy_types.specs.declared.grammar.ByteClass.{ByteClass}
-use Rattle.smithy_types.specs.declared.grammar.ByteClass.TheVariants.{Token, HeaderValue, Path, Query, Authority}
+use Rattle.smithy_types.specs.declared.grammar.ByteClass.TheVariants.{Token, HeaderValue, Path, Query}
 use Rattle.smithy_types.specs.declared.grammar.TheConstants.{CLASSES}
 use Rattle.smithy_types.specs.views.ByteClasses.{bytes_of, flag_of}
 
@@ -16,7 +16,6 @@ flags_of Token = refl
 flags_of HeaderValue = refl
 flags_of Path = refl
 flags_of Query = refl
-flags_of Authority = refl
 
 pub flag_tells : (class : ByteClass) (b : ℕ) → b < 256 → has_flag class (get_or CLASSES b 0) ≡ bytes_of class b
 flag_tells class b lt =

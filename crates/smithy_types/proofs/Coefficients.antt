@@ -38,7 +38,7 @@ pub coefficient_in-parts : (mantissa : List ℕ) → coefficient_in mantissa ≡
 coefficient_in-parts mantissa = value_append 0 (before_first (λ b. b == 46) mantissa) (after_first (λ b. b == 46) mantissa)
 
 -- digits have no byte that is no digit
-place_in_digits : (p : ℕ → Bool) → ((b : ℕ) → is_digit b ≡ true → p b ≡ false) → (ds : List ℕ) → list_all is_digit ds ≡ true → position_or_len p ds ≡ length ds
+pub place_in_digits : (p : ℕ → Bool) → ((b : ℕ) → is_digit b ≡ true → p b ≡ false) → (ds : List ℕ) → list_all is_digit ds ≡ true → position_or_len p ds ≡ length ds
 place_in_digits p none [] all = refl
 place_in_digits p none (d ∷ ds) all =
     let parts = and_parts (is_digit d) (list_all is_digit ds) all in
@@ -50,13 +50,13 @@ before_in_digits p none ds all = ap (λ n. take n ds) (place_in_digits p none ds
 after_in_digits : (p : ℕ → Bool) → ((b : ℕ) → is_digit b ≡ true → p b ≡ false) → (ds : List ℕ) → list_all is_digit ds ≡ true → after_first p ds ≡ []
 after_in_digits p none ds all = ap (λ n. drop (n + 1) ds) (place_in_digits p none ds all) ∙ drop_all (length ds + 1) ds (omega arith)
 
-not_equal : (b other : ℕ) → is_digit b ≡ true → (IsInRange 48 57 b → b ≢ other) → (b == other) ≡ false
+pub not_equal : (b other : ℕ) → is_digit b ≡ true → (IsInRange 48 57 b → b ≢ other) → (b == other) ≡ false
 not_equal b other e apart = ne_eqb b other (apart (is_digit-in_range b e))
 
-no_point : (b : ℕ) → is_digit b ≡ true → (b == 46) ≡ false
+pub no_point : (b : ℕ) → is_digit b ≡ true → (b == 46) ≡ false
 no_point b e = not_equal b 46 e (λ r same. omega arith)
 
-no_mark : (b : ℕ) → is_digit b ≡ true → is_exponent_mark b ≡ false
+pub no_mark : (b : ℕ) → is_digit b ≡ true → is_exponent_mark b ≡ false
 no_mark b e = rw (not_equal b 101 e (λ r same. omega arith), not_equal b 69 e (λ r same. omega arith)) refl
 
 -- signed digits have a mantissa

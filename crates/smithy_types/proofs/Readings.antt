@@ -10,7 +10,7 @@ use Rattle.std.proofs.lemmas.Option.{unwrap_or-slice_get}
 use Rattle.jiff_core.specs.declared.civil.date.Date.{Date as CivilDate}
 use Rattle.jiff_core.specs.Calendar.{days_in_month, days_from_civil}
 use Rattle.jiff_core.specs.Date.{epoch_day}
-use Rattle.smithy_types.specs.Grammars.{is_between}
+use Rattle.std.specs.Int.{is_in_range}
 use Rattle.smithy_types.specs.BigNumbers.{is_digit}
 use Rattle.smithy_types.specs.TimestampReading.{fits_picture, has_picture, is_date, day_number, is_zone, clock_of, calendar_time_of}
 
@@ -44,7 +44,7 @@ picture_at (p ∷ picture) (b ∷ text) zero h low = (and_parts (fits_picture p 
 picture_at (p ∷ picture) (b ∷ text) (suc i) h low =
     picture_at picture text i (and_parts (fits_picture p b) (has_picture picture text) h).1 (omega arith)
 
-pub within : (low high b : ℕ) → low ≤ b → b ≤ high → is_between low high b ≡ true
+pub within : (low high b : ℕ) → low ≤ b → b ≤ high → is_in_range low high b ≡ true
 within low high b above below = both_true (le-leb low b above) (le-leb b high below)
 
 -- a date that the library has is a date, and its day has a number

@@ -1,15 +1,15 @@
 -- The texts of big numbers, and their coefficients.
 use Rattle.std.specs.Prelude.{ℕ, ◌+◌, ◌^◌, drop, nat_le, nat_lt, nat_eq, Bool, true, not, ◌&&◌, ◌||◌, ◌==◌, codes, List, [], ◌∷◌, ◌++◌, length, if◌then◌else◌}
+use Rattle.std.specs.Int.{is_in_range}
 use Rattle.std.specs.List.{list_all, starts_with, before_first, after_first, position_or_len}
 use Rattle.std.specs.Str.Parse.{digits_value}
-use Rattle.smithy_types.specs.Grammars.{is_between}
-use Rattle.smithy_types.specs.Texts.{plus_sign, hyphen, full_stop}
+use Rattle.smithy_types.specs.Texts.{ascii}
 
 abbrev pub is_digit : ℕ → Bool
-is_digit b = is_between 48 57 b
+is_digit b = is_in_range 48 57 b
 
 abbrev pub is_sign : ℕ → Bool
-is_sign b = (b == plus_sign) || (b == hyphen)
+is_sign b = (b == ascii "+") || (b == ascii "-")
 
 -- without one sign at its start
 abbrev pub unsigned : List ℕ → List ℕ
@@ -34,8 +34,8 @@ is_exponent (mark ∷ text) = is_exponent_mark mark && is_signed_digits text
 -- digits with an optional point in or behind them, or a point and digits
 abbrev pub is_mantissa : List ℕ → Bool
 is_mantissa text =
-    let whole = before_first (λ b. b == full_stop) text in
-    let part = after_first (λ b. b == full_stop) text in
+    let whole = before_first (λ b. b == ascii ".") text in
+    let part = after_first (λ b. b == ascii ".") text in
     list_all is_digit whole && list_all is_digit part && not (length whole + length part == 0)
 
 -- what stands behind the sign and before an exponent
@@ -52,7 +52,7 @@ is_big_decimal text = is_mantissa (mantissa_of text) && is_exponent (exponent_of
 
 -- the number of a mantissa's digits
 abbrev pub coefficient_in : List ℕ → ℕ
-coefficient_in mantissa = digits_value 10 (before_first (λ b. b == full_stop) mantissa ++ after_first (λ b. b == full_stop) mantissa)
+coefficient_in mantissa = digits_value 10 (before_first (λ b. b == ascii ".") mantissa ++ after_first (λ b. b == ascii ".") mantissa)
 
 abbrev pub coefficient : List ℕ → ℕ
 coefficient text = coefficient_in (mantissa_of text)

@@ -1,14 +1,13 @@
 -- The texts that are read as a point in time, and the seconds since 1970 that they tell.
 use Rattle.std.specs.Prelude.{ℕ, suc, ◌+◌, ◌-◌, ◌*◌, ◌^◌, nat_le, nat_lt, Bool, true, not, ◌&&◌, ◌==◌, codes, List, [], ◌∷◌, length, take, drop, position, Option, Some, None, option_map, option_and_then, if◌then◌else◌, ℤ, pos, neg_ℤ, ◌+ℤ◌, ◌*ℤ◌, int_le, int_lt, IfSome, ◌≡◌, FitsSigned}
-use Rattle.std.specs.Int.{w64}
+use Rattle.std.specs.Int.{w64, is_in_range}
 use Rattle.std.specs.List.{list_all}
 use Rattle.std.specs.Cmp.Lexicographic.{pointwise}
 use Rattle.std.specs.Str.Parse.{digits_value, signed_digits_value, starts_with_minus}
 use Rattle.jiff_core.specs.Calendar.{days_in_month, days_from_civil}
 use Rattle.smithy_types.specs.declared.date_time.Format.{Format}
 use Rattle.smithy_types.specs.declared.date_time.Format.TheVariants.{EpochSeconds, DateTime, HttpDate}
-use Rattle.smithy_types.specs.Texts.{same_text, is_one_of, full_stop}
-use Rattle.smithy_types.specs.Grammars.{is_between}
+use Rattle.smithy_types.specs.Texts.{same_text, is_one_of, ascii}
 use Rattle.smithy_types.specs.BigNumbers.{is_digit, are_digits}
 use Rattle.smithy_types.specs.Timestamps.{weekday_names, month_names, timestamp_text}
 
@@ -32,7 +31,7 @@ month_number name = option_map suc (position (same_text name) month_names)
 
 -- the year is 1 to 9999, and has this month, and the month this day
 abbrev pub is_date : ℕ → ℕ → ℕ → Bool
-is_date year month day = nat_le 1 year && is_between 1 12 month && is_between 1 (days_in_month (pos year) month) day
+is_date year month day = nat_le 1 year && is_in_range 1 12 month && is_in_range 1 (days_in_month (pos year) month) day
 
 -- the number of a day, 0 for 1 January 1970, where there is such a date
 unfoldable pub day_number : ℕ → ℕ → ℕ → Option ℤ
@@ -68,7 +67,7 @@ clock_of text =
 -- nothing, or a point and one or more zeros
 abbrev pub is_zero_fraction : List ℕ → Bool
 is_zero_fraction [] = true
-is_zero_fraction (point ∷ zeros) = (point == full_stop) && not (length zeros == 0) && list_all (λ b. b == 48) zeros
+is_zero_fraction (point ∷ zeros) = (point == ascii ".") && not (length zeros == 0) && list_all (λ b. b == 48) zeros
 
 -- a fraction of zeros and the zone
 unfoldable pub is_zone : List ℕ → List ℕ → Bool

@@ -14,7 +14,6 @@ enum ByteClass {
     HeaderValue,
     Path,
     Query,
-    Authority,
 }
 
 /// Whether the text is a token (RFC 7230, section 3.2.6), as header names and methods are: not empty, and of ASCII letters, digits
@@ -52,17 +51,16 @@ impl ByteClass {
             ByteClass::HeaderValue => 2,
             ByteClass::Path => 4,
             ByteClass::Query => 8,
-            ByteClass::Authority => 16,
         }
     }
 }
 
-// For each byte a letter, whose low five bits are the flags of the classes that it is in.
+// For each byte a letter, whose low four bits are the flags of the classes that it is in.
 static CLASSES: [u8; 256] = *b"\
     @@@@@@@@@B@@@@@@@@@@@@@@@@@@@@@@\
-    B_^C____^^__^__N__________^^B^BJ\
-    ^__________________________^^^__\
-    K__________________________^_^_@\
+    BONCOOOONNOONOONOOOOOOOOOONNBNBJ\
+    NOOOOOOOOOOOOOOOOOOOOOOOOOONNNOO\
+    KOOOOOOOOOOOOOOOOOOOOOOOOOONONO@\
     BBBBBBBBBBBBBBBBBBBBBBBBBBBBBBBB\
     BBBBBBBBBBBBBBBBBBBBBBBBBBBBBBBB\
     BBBBBBBBBBBBBBBBBBBBBBBBBBBBBBBB\
@@ -111,9 +109,7 @@ fn is_authority_and_path(text: &[u8]) -> bool
     ensures { result ≡ is_authority_and_path text.now }
 {
     let authority = before(text, b'/');
-    !authority.is_empty()
-        && are_all(ByteClass::Authority, authority)
-        && are_all(ByteClass::Path, after(text, b'/'))
+    !authority.is_empty() && are_all(ByteClass::Path, text)
 }
 
 /// What stands before the first `?` of a target, or all where there is none. Takes no memory.

@@ -26,7 +26,7 @@ unfoldable pub use Rattle.smithy_binding.specs.Faults.{body_fault, legal_target,
 pub use Rattle.smithy_binding.specs.Faults.{fault_of_document, is_placed_at, item_fault, key_fault, legal_fault, legal_or_fault}
 pub use Rattle.smithy_binding.specs.Faults.{nested_fault, no_member, no_year, not_legal, pair_fault, pairs_fault, part_fault}
 pub use Rattle.smithy_binding.specs.Faults.{resolved_fault, resolved_fault_by, writes_fault_by, too_long, unmatched_key, value_fault, write_fault, wrong_header}
-pub use Rattle.smithy_binding.specs.Faults.{wrong_item_kind, wrong_kind, year_fault}
+pub use Rattle.smithy_binding.specs.Faults.{wrong_item_kind, wrong_kind}
 pub use Rattle.smithy_binding.specs.Filling.{fill, fill_rest, filled_hole, hole_text, keep_slashes}
 pub use Rattle.smithy_binding.specs.NormalForm.{bound_view, bound_view_at, has_key_outside, has_pairs, in_lower_case, is_empty_list}
 unfoldable pub use Rattle.smithy_binding.specs.NormalForm.{view}
@@ -73,7 +73,8 @@ pub use Rattle.smithy_serde.specs.Shaped.{has_distinct_fields, is_kind, is_named
 pub use Rattle.smithy_serde.specs.StoredValues.{no_label}
 pub use Rattle.smithy_serde.specs.Values.{Label, Scalar, Value, Write, Writes, keys_of, label_of, list_of, no_writes, text_of_key}
 pub use Rattle.smithy_serde.specs.Values.{write, writes_of}
-pub use Rattle.smithy_serde.specs.Writes.{Resolved, all_resolved, first, firsts, firsts_from, has_seen, is_of, only_if, position_in}
+pub use Rattle.smithy_serde.specs.Writes.{Resolved, all_resolved, first, firsts, firsts_from, has_seen, is_of, position_in}
+pub use Rattle.std.specs.Bool.{then_some}
 pub use Rattle.smithy_serde.specs.Writes.{resolve, resolved}
 pub use Rattle.smithy_strings.proofs.AsciiTexts.{are_low, big_decimal-utf8, big_integer-utf8, is_low, utf8_from_low}
 pub use Rattle.smithy_strings.proofs.EscapeLaws.{escape-injective}
@@ -85,9 +86,9 @@ pub use Rattle.smithy_strings.specs.Wire.{time_format, wire}
 pub use Rattle.smithy_strings.specs.declared.wire.Place.{Place}
 pub use Rattle.smithy_strings.specs.declared.wire.Place.TheVariants.{Header}
 pub use Rattle.smithy_types.specs.Documents.{Document, Members, is_canonical, items_of, list_of_members, nesting, number_of}
-pub use Rattle.smithy_types.specs.Grammars.{before_query, is_between, is_header_value, is_query_byte, is_short_target, is_stem, is_target}
-pub use Rattle.smithy_types.specs.Grammars.{is_token, is_token_byte, max_target_len}
-pub use Rattle.smithy_types.specs.Results.{each, first_of_all, then_give, then_try, unless}
+pub use Rattle.smithy_types.specs.Grammars.{before_query, is_header_value, is_query_byte, is_short_target, is_stem, is_target}
+pub use Rattle.smithy_types.specs.Grammars.{is_token, is_token_byte}
+pub use Rattle.smithy_types.specs.Results.{each, then_give, then_try, unless}
 pub use Rattle.smithy_types.specs.Texts.{AreDistinct, are_distinct, found, has_byte, is_one_of, same_text}
 pub use Rattle.smithy_unambiguity.specs.Laws.{FactsDecideView, SeesSame, ViewIsTyped, ViewSettles}
 pub use Rattle.std.proofs.Common.{All, Bool, Err, IsTrue, IsUtf8, List, None, Ok, Option, Result, Some, [], ap, arith, codes, cond, decimal}

@@ -2,7 +2,6 @@
 use Rattle.smithy_unambiguity.proofs.Common.{◌≡◌, refl, sym, ◌∙◌, ap, subst, ℕ, ◌⊎◌, inl, inr, Bool, true, false, ◌&&◌, List, [], ◌∷◌, filter_map, Option, Some, None, option_map, option_and_then, unwrap_or, is_some, if◌then◌else◌, AllByRecursion, cons_option, option_or, is_utf8, and_parts, and_from, same_text, are_distinct, one_kind, Schema, element_of, key_of, value_of, Label, Value, Writes, no_writes, write, writes_of, label_of, keys_of, text_of_key, is_in_range, are_writes_in_range, fits, fits_in_range, written_kind, kind_takes, is_shaped, are_shaped, are_fields_shaped, are_entries_shaped, are_values_shaped, fits_at, fields_at, has_distinct_fields, named_member, is_kind, settled, settled_elements, settled_fields, settled_entries, settled_behind, own_label, in_key_order, entry_writes, structure_value, last_named, field_of, text_form, entries_ordered, Pairs, all_put, ⊎_elim}
 use Rattle.std.specs.Cmp.Lexicographic.{same_text as same_from_test}
 use Rattle.smithy_types.specs.Documents as doc
-use Rattle.smithy_types.specs.Documents.{members_of}
 use Rattle.smithy_ids.specs.declared.shape_type.ShapeType.TheVariants as kind
 use Rattle.smithy_serde.specs.Values as value
 use Rattle.smithy_document.proofs.ShapedDocuments.{none_named}

@@ -1,6 +1,6 @@
 -- The target of the normal form is as long and as legal as the input's.
 use Rattle.std.proofs.Common.{append_assoc}
-use Rattle.smithy_unambiguity.proofs.Common.{◌≡◌, refl, sym, ◌∙◌, ap, ℕ, nat_le, suc, ◌+◌, arith, Bool, true, false, cond, ◌==◌, List, [], ◌∷◌, ◌++◌, map, filter, length, codes, None, AllByRecursion, list_all, join_with_byte, after_first, option_or, and_parts, and_from, agree_below, agree_below_at, length-append, list_all-append, percent_encode_byte, has_byte, same_text, is_query_byte, is_stem, is_target, is_short_target, max_target_len, before_query, unless, values_at, escape, escape_byte, AreBytes, pairs, legal_fault, too_long, not_legal, view, pair_text, with_query, Protocol, same_text_self, IsCheckedInput, is_well_made, Schema, Write, OmitFlags, IsTyped}
+use Rattle.smithy_unambiguity.proofs.Common.{◌≡◌, refl, sym, ◌∙◌, ap, ℕ, nat_le, suc, ◌+◌, arith, Bool, true, false, cond, ◌==◌, List, [], ◌∷◌, ◌++◌, map, filter, length, codes, None, AllByRecursion, list_all, join_with_byte, after_first, option_or, and_parts, and_from, agree_below, agree_below_at, length-append, list_all-append, percent_encode_byte, has_byte, same_text, is_query_byte, is_stem, is_target, is_short_target, before_query, unless, values_at, escape, escape_byte, AreBytes, pairs, legal_fault, too_long, not_legal, view, pair_text, with_query, Protocol, same_text_self, IsCheckedInput, is_well_made, Schema, Write, OmitFlags, IsTyped}
 use Rattle.smithy_unambiguity.proofs.HeadersTold.{typed_writes}
 use Rattle.smithy_unambiguity.proofs.Queries.{after, after_first-after, after-append, after-cut}
 use Rattle.smithy_unambiguity.proofs.TemplateQuery.{query_leaves_path}
@@ -104,7 +104,7 @@ legal_again path (p ∷ ps) (q ∷ qs) all same e =
     let old = no_legal_fault (with_query path (p ∷ ps)) e in
     let lengths : length (with_query path (q ∷ qs)) ≡ length (with_query path (p ∷ ps)) =
     query_length path q qs ∙ ap (λ n. length path + n) (total_of_values pair_length (q ∷ qs) (p ∷ ps) same) ∙ sym (query_length path p ps) in
-    let short : is_short_target (with_query path (q ∷ qs)) ≡ true = ap (λ n. nat_le n max_target_len) lengths ∙ old.0 in
+    let short : is_short_target (with_query path (q ∷ qs)) ≡ true = ap (λ n. nat_le n 65534) lengths ∙ old.0 in
     let parts = and_parts (is_stem (before_query (with_query path (p ∷ ps)))) (list_all is_query_byte (after_first (λ b. b == 63) (with_query path (p ∷ ps)))) old.1 in
     let stem : is_stem (before_query (with_query path (q ∷ qs))) ≡ true = ap is_stem (query_leaves_path path (q ∷ qs) ∙ sym (query_leaves_path path (p ∷ ps))) ∙ parts.0 in
     let legal : is_target (with_query path (q ∷ qs)) ≡ true =

@@ -1,5 +1,5 @@
 -- The writes of a normal form: one to each member of which it has something.
-use Rattle.smithy_unambiguity.proofs.Common.{◌≡◌, refl, ◌∙◌, ap, ℕ, zero, suc, ◌+◌, ◌<◌, arith, true, false, ◌==◌, List, [], ◌∷◌, filter_map, slice_get, Option, Some, None, option_map, option_and_then, is_some, eq-eqb, ne_eqb, enumerate_from, cons_option, Schema, member_at, members_of, Value, Write, label_of, Resolved, resolved, all_resolved, first, position_in, only_if, is_of, IsCheckedInput, is_well_made, view, member_view, AllByRecursion, filter, option_to_list, last_of, last_or}
+use Rattle.smithy_unambiguity.proofs.Common.{◌≡◌, refl, ◌∙◌, ap, ℕ, zero, suc, ◌+◌, ◌<◌, arith, true, false, ◌==◌, List, [], ◌∷◌, filter_map, slice_get, Option, Some, None, option_map, option_and_then, is_some, eq-eqb, ne_eqb, enumerate_from, cons_option, Schema, member_at, members_of, Value, Write, label_of, Resolved, resolved, all_resolved, first, position_in, then_some, is_of, IsCheckedInput, is_well_made, view, member_view, AllByRecursion, filter, option_to_list, last_of, last_or}
 use Rattle.smithy_unambiguity.proofs.ByMember.{at_member, first_value}
 use Rattle.smithy_unambiguity.proofs.Members.{member_in_place}
 use Rattle.smithy_unambiguity.proofs.Positions.{members_by_position, members_placed}
@@ -15,7 +15,7 @@ pub own_is_resolved : (schema : Schema) (i : ℕ) (m : Schema) (u : Value) → i
 own_is_resolved schema i m u well_made at =
     let member = member_in_place schema i m well_made at in
     ap (λ (o : Option ℕ). option_and_then (λ (j : ℕ). option_map (λ n. record { position = j; member = n; value = u }) (member_at schema j)) (position_in schema o m.node.member_name)) member.index
-    ∙ ap (λ (o : Option Schema). option_and_then (λ (j : ℕ). option_map (λ n. record { position = j; member = n; value = u }) (member_at schema j)) (only_if (is_some o) i)) at
+    ∙ ap (λ (o : Option Schema). option_and_then (λ (j : ℕ). option_map (λ n. record { position = j; member = n; value = u }) (member_at schema j)) (then_some (is_some o) i)) at
     ∙ ap (option_map (λ n. record { position = i; member = n; value = u })) at
 
 resolved_own : (schema : Schema) (ws : List Write) (ps : List (ℕ × Schema)) → is_well_made schema ≡ true → AllByRecursion (λ p. member_at schema p.0 ≡ Some p.1) ps

@@ -1,5 +1,6 @@
 -- What the normal form has for the prefix map and the query map is what a typed input may write to them.
-use Rattle.smithy_unambiguity.proofs.Common.{◌≡◌, refl, sym, ◌∙◌, ap, subst, ℕ, ◌<◌, arith, nat_le, length, Bool, true, false, not, ◌&&◌, ◌||◌, ◌==◌, List, [], ◌∷◌, ◌++◌, Option, Some, None, option_and_then, is_none, IsTrue, codes, if◌then◌else◌, AllByRecursion, list_all, option_or, str_to_ascii_lowercase, is_utf8, and_parts, and_from, eqb-true, not-true, lt-ltb, leb-true, list_all-append, map-append, is_one_of, are_distinct, has_byte, is_token, is_token_byte, is_between, is_header_value, unless, lower_twice, same_kind, one_kind, Schema, member_at, element_of, key_of, value_of, to_prefix, to_query_map, binding_of, Label, Value, Writes, no_writes, write, Write, text_of_key, is_in_range, are_writes_in_range, fits, is_kind, map_value, entry_writes, own_label, no_label, firsts, inserted_at, map_entries, entries_of, entry_texts, query_names, IsCheckedInput, is_plain_string, is_plain_list, member_view, element_fault, nested_fault, part_fault, entry_fault, item_fault, wrong_item_kind, unmatched_key, ends_with_value, pairs_fault, pair_fault, wrong_header, is_placed_at, has_no_default_name, default_names, Pairs, all_put, is_low, are_low, utf8_from_low, or_cases, ⊎_elim, cond_both}
+use Rattle.smithy_unambiguity.proofs.Common.{◌≡◌, refl, sym, ◌∙◌, ap, subst, ℕ, ◌<◌, arith, nat_le, length, Bool, true, false, not, ◌&&◌, ◌||◌, ◌==◌, List, [], ◌∷◌, ◌++◌, Option, Some, None, option_and_then, is_none, IsTrue, codes, if◌then◌else◌, AllByRecursion, list_all, option_or, str_to_ascii_lowercase, is_utf8, and_parts, and_from, eqb-true, not-true, lt-ltb, leb-true, list_all-append, map-append, is_one_of, are_distinct, has_byte, is_token, is_token_byte, is_header_value, unless, lower_twice, same_kind, one_kind, Schema, member_at, element_of, key_of, value_of, to_prefix, to_query_map, binding_of, Label, Value, Writes, no_writes, write, Write, text_of_key, is_in_range, are_writes_in_range, fits, is_kind, map_value, entry_writes, own_label, no_label, firsts, inserted_at, map_entries, entries_of, entry_texts, query_names, IsCheckedInput, is_plain_string, is_plain_list, member_view, element_fault, nested_fault, part_fault, entry_fault, item_fault, wrong_item_kind, unmatched_key, ends_with_value, pairs_fault, pair_fault, wrong_header, is_placed_at, has_no_default_name, default_names, Pairs, all_put, is_low, are_low, utf8_from_low, or_cases, ⊎_elim, cond_both}
+use Rattle.std.specs.Int.{is_in_range as is_between}
 use Rattle.smithy_ids.specs.declared.shape_type.ShapeType.TheVariants as kind
 use Rattle.smithy_serde.specs.Values as value
 use Rattle.smithy_unambiguity.proofs.LastTexts.{lowered}

@@ -1,5 +1,5 @@
 -- What the normal form has for each member is what a typed input may write to it.
-use Rattle.smithy_unambiguity.proofs.Common.{◌≡◌, refl, sym, ◌∙◌, ap, subst, ℕ, Bool, true, false, not, ◌&&◌, ◌||◌, List, [], ◌∷◌, Option, Some, None, option_and_then, is_some, if◌then◌else◌, eq-eqb, list_all, option_or, str_to_ascii_lowercase, and_parts, and_from, unless, first_of_all, TimestampFormat, same_kind, is_scalar, Schema, element_of, member_at, Binding, to_header, to_query, to_label, to_payload, to_body, binding_of, is_outside_body, is_bound, ShapeType, Value, Writes, no_writes, write, Write, list_of, fits, fits_member, is_null, is_in_range, are_writes_in_range, is_shaped, settled, settled_elements, inserted_at, texts, query_names, kind_or_none, pairs_with, place_at, is_payload, is_codec_kind, has_bound_kind, has_element, is_header_kind, same_format, no_year, item_fault, element_fault, wrong_item_kind, key_fault, year_fault, pairs_fault, is_placed_at, member_view, bound_view_at, unless_empty, is_empty_value, with_own_elements, is_one_of, has_distinct_keys, has_own_formats, has_no_default_name, default_names, ⊎_elim}
+use Rattle.smithy_unambiguity.proofs.Common.{◌≡◌, refl, sym, ◌∙◌, ap, subst, ℕ, Bool, true, false, not, ◌&&◌, ◌||◌, List, [], Option, Some, None, option_and_then, is_some, if◌then◌else◌, eq-eqb, list_all, option_or, str_to_ascii_lowercase, and_parts, and_from, unless, TimestampFormat, same_kind, is_scalar, Schema, element_of, member_at, Binding, to_header, to_query, to_label, to_payload, to_body, binding_of, is_outside_body, is_bound, ShapeType, Value, Writes, no_writes, write, Write, list_of, fits, fits_member, is_null, is_in_range, are_writes_in_range, is_shaped, settled, settled_elements, inserted_at, texts, query_names, kind_or_none, pairs_with, place_at, is_payload, is_codec_kind, has_bound_kind, has_element, is_header_kind, same_format, no_year, item_fault, element_fault, wrong_item_kind, key_fault, pairs_fault, is_placed_at, member_view, bound_view_at, unless_empty, is_empty_value, with_own_elements, is_one_of, has_distinct_keys, has_own_formats, has_no_default_name, default_names, ⊎_elim}
 use Rattle.smithy_serde.specs.Values as value
 use Rattle.smithy_ids.specs.declared.shape_type.ShapeType.TheVariants as kind
 use Rattle.smithy_unambiguity.proofs.ByMember.{at_member, first_value}
@@ -131,8 +131,8 @@ placed_viewed m u ts placed is keys paired there headers unlike =
       in_range = is.in_range;
       fault = λ p.
           ap (λ o. option_or o (pairs_fault m (inserted_at (binding_of m) m u)))
-          (ap (λ o. option_or o (first_of_all (key_fault m u ∷ year_fault m u ∷ []))) is.items ∙ ap (λ o. option_or o (first_of_all (year_fault m u ∷ []))) paired
-          ∙ ap (λ (o : Option (List (List ℕ))). option_or (unless (is_some o) no_year) None) there)
+          (ap (λ o. option_or o (option_or (key_fault m u) (unless (is_some (texts m u)) no_year))) is.items ∙ ap (λ o. option_or o (unless (is_some (texts m u)) no_year)) paired
+          ∙ ap (λ (o : Option (List (List ℕ))). unless (is_some o) no_year) there)
           ∙ headers;
       typed = ap (λ t. not t || (has_distinct_keys u && has_own_formats m u)) placed ∙ and_from (has_distinct_keys u) (has_own_formats m u) keys is.formats;
       unlike = unlike;

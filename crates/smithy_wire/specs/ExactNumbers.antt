@@ -7,7 +7,7 @@ use Rattle.serde_json.specs.Read as core
 use Rattle.smithy_json.specs.FromData.{number_of_data}
 use Rattle.smithy_json.specs.Integers.{integer_of}
 use Rattle.smithy_types.specs.BigNumbers.{is_digit}
-use Rattle.smithy_types.specs.Texts.{hyphen}
+use Rattle.smithy_types.specs.Texts.{ascii}
 use Rattle.smithy_wire.specs.Words.{Number, number_of, is_number_in_range, list_all, option_map_or, option_or}
 
 -- the text is a number of JSON
@@ -16,7 +16,7 @@ is_number text = option_map_or (λ rest. length rest == 0) (after_number text) f
 
 -- one without a point and without an exponent
 abbrev pub is_integer : List ℕ → Bool
-is_integer text = is_number text && list_all (λ b. is_digit b || (b == hyphen)) text
+is_integer text = is_number text && list_all (λ b. is_digit b || (b == ascii "-")) text
 
 -- an integer of 64 bits, as compact JSON has it
 abbrev pub plain_number : List ℕ → Option Number

@@ -10,7 +10,7 @@ use Rattle.smithy_document.specs.JsonHeld.{not_json}
 use Rattle.smithy_types.specs.Documents as doc
 use Rattle.smithy_serde.specs.Held as held
 use Rattle.smithy_wire.specs.Words.{Json, Document, Held, InvalidInput}
-use Rattle.smithy_types.specs.Texts.{full_stop}
+use Rattle.smithy_types.specs.Texts.{ascii}
 use Rattle.smithy_wire.specs.Forms.{Form}
 use Rattle.smithy_wire.specs.Wire.{wire}
 use Rattle.smithy_wire.specs.Unwire.{unwire}
@@ -31,7 +31,7 @@ json_in bytes = if is_utf8 bytes then json_of bytes else None
 -- a path begins with no point
 abbrev pub without_point : List ℕ → List ℕ
 without_point [] = []
-without_point (b ∷ path) = if b == full_stop then path else b ∷ path
+without_point (b ∷ path) = if b == ascii "." then path else b ∷ path
 
 -- where a value stands, in a message
 abbrev pub at_path : List ℕ → List ℕ

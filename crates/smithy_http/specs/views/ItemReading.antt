@@ -2,7 +2,7 @@
 use Rattle.std.specs.Prelude.{◌≡◌, ◌<◌, ◌+◌, ℕ, ℤ, Bool, List, [], ◌∷◌, ◌++◌, length, take, drop, slice_index, encode_utf8, false, Option, None, option_map, Result, Ok, MatchOption}
 use Rattle.std.specs.Borrow.{Bor}
 use Rattle.std.specs.Option.{option_map_or}
-use Rattle.smithy_types.specs.Texts.{comma}
+use Rattle.smithy_types.specs.Texts.{ascii}
 use Rattle.smithy_types.specs.declared.date_time.Format.{Format}
 use Rattle.smithy_http.specs.declared.error.HttpError.{HttpError}
 use Rattle.smithy_http.specs.declared.error.ListFault.{ListFault}
@@ -34,7 +34,7 @@ pub record IsDateRead (read : Result ℤ HttpError) (old new : List ℤ) : Type 
 -- the comma at this place ends the first piece
 abbrev pub EndsPiece : Bool → List ℕ → ℕ → Type 0
 EndsPiece own bytes place =
-    (place < length bytes) × (slice_index bytes place ≡ comma) × (pieces_of own bytes ≡ take place bytes ∷ pieces_of own (drop (place + 1) bytes))
+    (place < length bytes) × (slice_index bytes place ≡ ascii ",") × (pieces_of own bytes ≡ take place bytes ∷ pieces_of own (drop (place + 1) bytes))
 
 -- the comma that ends the first piece, or none where there is one piece
 abbrev pub CutsPiece : Bool → List ℕ → Option ℕ → Type 0

@@ -14,7 +14,7 @@ use Rattle.smithy_schema.specs.Templates.{Template}
 use Rattle.smithy_serde.specs.NormalBody.{map_value}
 use Rattle.smithy_serde.specs.StoredValues.{value_in, HasNode, IsDefined, AreDefined}
 use Rattle.smithy_serde.specs.Values.{Value}
-use Rattle.smithy_serde.specs.Writes.{only_if}
+use Rattle.std.specs.Bool.{then_some}
 use Rattle.smithy_serde.specs.declared.value.ShapeValue.{ShapeValue}
 use Rattle.smithy_serde.specs.declared.value.WriteList.{WriteList}
 use Rattle.smithy_strings.specs.Escapes.{unescaped}
@@ -75,7 +75,7 @@ is_to_come names es key = if is_named names key then false else not (has_key key
 
 -- the key whose escape a name is, where its entry is to come; none where it is none's escape
 abbrev pub key_to_come : QueryNames → Entries → List ℕ → Option (Option (List ℕ))
-key_to_come names es name = option_map (λ key. only_if (is_to_come names es key) key) (unescaped name)
+key_to_come names es name = option_map (λ key. then_some (is_to_come names es key) key) (unescaped name)
 
 -- the key of a name is told, whichever table the entries are over
 abbrev pub TellsKey : QueryNames → KeptValues → (name : List ℕ) → Result (Option (List ℕ)) RecoverError → Type 0

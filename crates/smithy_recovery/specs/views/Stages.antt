@@ -1,13 +1,13 @@
 -- What the stages of the way back answer: the tests of the writes that were read, and the placing of the input that they are.
-use Rattle.std.specs.Prelude.{◌≡◌, ℕ, Bool, false, ◌&&◌, List, Option, Result, Ok, Err, IfOk}
+use Rattle.std.specs.Prelude.{◌≡◌, ℕ, Bool, false, ◌&&◌, List, Option, Some, Result, Ok, Err, IfOk}
 use Rattle.smithy_types.specs.Documents.{Document}
 use Rattle.smithy_http.specs.Requests.{Request}
-use Rattle.smithy_schema.specs.Nodes.{Schema, Table}
+use Rattle.smithy_schema.specs.Nodes.{Schema, Table, at_place}
 use Rattle.smithy_schema.specs.References.{schema_of}
 use Rattle.smithy_schema.specs.declared.schema_ref.SchemaRef.{SchemaRef}
 use Rattle.smithy_serde.specs.Held.{Held}
 use Rattle.smithy_serde.specs.StoredValues.{writes_in}
-use Rattle.smithy_serde.specs.StructValues.{members_of}
+use Rattle.smithy_serde.specs.StructValues.{members_of, node_of}
 use Rattle.smithy_serde.specs.Values.{Write, list_of}
 use Rattle.smithy_serde.specs.declared.error.SerdeError.{SerdeError}
 use Rattle.smithy_serde.specs.declared.struct_value.StructValue.{StructValue}
@@ -22,6 +22,10 @@ use Rattle.smithy_recovery.specs.TypedWrites.{has_typed_writes}
 use Rattle.smithy_recovery.specs.declared.error.RecoverError.{RecoverError}
 use Rattle.smithy_recovery.specs.declared.error.RecoverError.TheVariants.{NotPlaced, OutOfMemory}
 use Rattle.smithy_recovery.specs.declared.recovering.Setting.{Setting}
+
+-- the input is of the node at the place that is set
+abbrev pub StandsAt : Setting → StructValue → Type 0
+StandsAt s v = Some (node_of v) ≡ at_place s.table.now s.place.0
 
 -- what is asked of the writes of a typed input alone, and of its template
 abbrev pub are_typed : Schema → List ℕ → List Write → Bool

@@ -1,4 +1,4 @@
-use Rattle.std.proofs.Common.{◌≡◌, ◌∙◌, ap, false, List, Bool, take}
+use Rattle.std.proofs.Common.{◌∙◌, ap, false, List, Bool, take}
 use Rattle.std.proofs.lemmas.List.{take-replicate}
 use Rattle.smithy_binding.proofs.marks.few_marks.Goals as goal
 

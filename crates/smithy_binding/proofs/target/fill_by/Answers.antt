@@ -1,4 +1,4 @@
-use Rattle.smithy_binding.proofs.Common.{rules, arith, ◌≡◌, ◌<◌, ◌++◌, sym, ap, ◌∙◌, Ok, Err, Some, IfErr, length, string_bytes, then_give, max_target_len, filled_by, hole_shown, Fault, filled_fault, text_in, text_under, missing_hole, TellsFault}
+use Rattle.smithy_binding.proofs.Common.{rules, arith, ◌≡◌, ◌<◌, ◌++◌, sym, ap, ◌∙◌, Ok, Err, Some, IfErr, length, string_bytes, then_give, filled_by, hole_shown, Fault, filled_fault, text_in, text_under, missing_hole, TellsFault}
 use Rattle.smithy_binding.proofs.Fills.{fill-more, fill-stop, long-before}
 use Rattle.smithy_binding.proofs.Refusals.{IfErr-then, TellsFault-then}
 use Rattle.smithy_binding.specs.views.LeftTemplates.{template_left}
@@ -20,5 +20,5 @@ returns-then-len-gt-MAX_TARGET_LEN-clause-err c =
     let out = string_bytes c.push_label.new.out in
     let given : then_give (text_in texts (hole_shown hole)) (λ t. (string_bytes c.loop-hole.out ++ hole.literal.now) ++ t) ≡ Ok out = search rules in
     let more = fill-more texts (string_bytes c.loop-hole.out) out hole.literal.now (hole_shown hole) behind (template_left c.loop-hole.rest) c.in-Some.ensures.0 given in
-    let long : max_target_len < length out = omega (arith, c.if-len-gt-MAX_TARGET_LEN.true, c.len.ensures, c.push_label.new.out.bytes.ok.0) in
+    let long : 65534 < length out = omega (arith, c.if-len-gt-MAX_TARGET_LEN.true, c.len.ensures, c.push_label.new.out.bytes.ok.0) in
     TellsFault-then c.too_long_before.result _ _ (λ f e. long-before (filled_by texts behind) _ out long (sym more ∙ c.loop-hole.invariant.filled) f e) c.too_long_before.ensures

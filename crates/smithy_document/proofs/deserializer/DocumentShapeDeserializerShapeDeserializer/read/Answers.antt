@@ -1,4 +1,4 @@
-use Rattle.smithy_document.proofs.Common.{IsTrue, refl, sym, subst, is_none, option_copied, view, schema_of, is_canonical, Gives, scalar_of_read, read_at, only_if, spot_list, coercions, ReadsBy}
+use Rattle.smithy_document.proofs.Common.{IsTrue, refl, sym, subst, is_none, option_copied, view, schema_of, is_canonical, Gives, scalar_of_read, read_at, then_some, spot_list, coercions, ReadsBy}
 use Rattle.smithy_serde.specs.Held as held
 use Rattle.smithy_document.proofs.HandLemmas.{read_by}
 use Rattle.smithy_document.proofs.PathLemmas.{path_canonical}
@@ -14,7 +14,7 @@ returns-clause-reads g c =
       opened = refl;
       levels = refl;
       of_kind = c.read_as.ensures.of_kind;
-      gives = subst (λ d. Gives scalar_of_read (read_at c.args.kind (schema_of c.args._schema) (only_if (is_none settings) (held.document d))) c.read_as.result) c.document.ensures
+      gives = subst (λ d. Gives scalar_of_read (read_at c.args.kind (schema_of c.args._schema) (then_some (is_none settings) (held.document d))) c.read_as.result) c.document.ensures
           (read_by (λ s. s.now) (coercions g.S.DocumentSettings) settings c.args.kind (schema_of c.args._schema) _ c.read_as.result c.read_as.ensures.gives);
     }
 
