@@ -2,7 +2,7 @@ pub mod ByteTable
 pub mod CalendarLaws
 pub mod Coefficients
 pub mod DateLaws
-pub mod DecimalLaws
+pub mod DatePieces
 pub mod DigitLaws
 pub mod EpochReading
 pub mod Lookups

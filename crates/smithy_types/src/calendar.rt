@@ -20,6 +20,8 @@ pub(crate) struct CalendarDate {
 pub(crate) fn date_on(day: u32) -> CalendarDate
     requires { day ≤ 3652058 }
     ensures real { IsInRange 1 12 result.month }
+    ensures year_bound { result.year ≤ 9999 }
+    ensures day_bound { result.day ≤ 31 }
     ensures year { result.year ≡ (date_of day).year }
     ensures month { result.month ≡ (date_of day).month }
     ensures day { result.day ≡ (date_of day).day }

@@ -134,7 +134,7 @@ fn month_number(name: &[u8]) -> Option<u8>
     ensures bound { IfSome result (λ month. month ≤ 12) }
 {
     for month in 1..13 {
-        if name == month_name(month).as_bytes() {
+        if name == month_name(month).as_slice() {
             return Some(month);
         }
     }
@@ -146,7 +146,7 @@ fn is_weekday(name: &[u8]) -> bool
     ensures { result ≡ is_weekday_name name.now }
 {
     for day in 0..7 {
-        if name == weekday_name(day).as_bytes() {
+        if name == weekday_name(day).as_slice() {
             return true;
         }
     }

@@ -1,79 +1,121 @@
 // The texts of points in time.
-ghost use Rattle.std.specs.Prelude.{◌≡◌, ◌<◌, ◌≤◌, ◌++◌, ◌/◌, ◌%◌, codes, string_bytes, IfOk, OnOk};
+ghost use Rattle.std.specs.Prelude.{◌≡◌, ◌<◌, ◌+◌, ◌*◌, string_bytes, IfOk, IsAscii};
 ghost use Rattle.std.specs.Int.{IsInRange};
-ghost use Rattle.smithy_types.specs.Timestamps.{clock_text, full_date_text, short_date_text, date_time_text, http_date_text, weekday_name, month_name};
+ghost use Rattle.smithy_types.specs.Texts.{padded_decimal};
+ghost use Rattle.smithy_types.specs.Timestamps.{date_time_text, http_date_text, weekday_name, month_name};
 
 use crate::calendar::date_on;
 use std::alloc::{AllocError, Global};
+use std::str;
 
 const SECONDS_IN_DAY: u64 = 86_400;
 
-// The lengths of a date-time and of an http-date, in bytes.
-const DATE_TIME_LEN: usize = 20;
-
-const HTTP_DATE_LEN: usize = 29;
-
 /// The English name of a day of the week in three letters, where day 0 is a Monday.
-pub(crate) fn weekday_name(day: u32) -> &'static str
+pub(crate) fn weekday_name(day: u32) -> &'static [u8; 3]
     ensures { result.now ≡ weekday_name day }
 {
     match day % 7 {
-        0 => "Mon",
-        1 => "Tue",
-        2 => "Wed",
-        3 => "Thu",
-        4 => "Fri",
-        5 => "Sat",
-        _ => "Sun",
+        0 => b"Mon",
+        1 => b"Tue",
+        2 => b"Wed",
+        3 => b"Thu",
+        4 => b"Fri",
+        5 => b"Sat",
+        _ => b"Sun",
     }
 }
 
 /// The English name of a month in three letters, where month 1 is January.
-pub(crate) fn month_name(month: u8) -> &'static str
+pub(crate) fn month_name(month: u8) -> &'static [u8; 3]
     requires { IsInRange 1 12 month }
     ensures { result.now ≡ month_name month }
 {
     match month {
-        1 => "Jan",
-        2 => "Feb",
-        3 => "Mar",
-        4 => "Apr",
-        5 => "May",
-        6 => "Jun",
-        7 => "Jul",
-        8 => "Aug",
-        9 => "Sep",
-        10 => "Oct",
-        11 => "Nov",
-        _ => "Dec",
+        1 => b"Jan",
+        2 => b"Feb",
+        3 => b"Mar",
+        4 => b"Apr",
+        5 => b"May",
+        6 => b"Jun",
+        7 => b"Jul",
+        8 => b"Aug",
+        9 => b"Sep",
+        10 => b"Oct",
+        11 => b"Nov",
+        _ => b"Dec",
     }
 }
 
-/// Adds a time of day, given in seconds, as `HH:MM:SS`.
-fn push_clock(text: &mut String, seconds: u32) -> Result<(), AllocError>
-    requires { seconds < 86400 }
-    ensures { OnOk result (string_bytes text.new ≡ string_bytes text.old ++ clock_text seconds) }
+// The two digits of a number.
+fn in_two_digits(number: u8) -> [u8; 2]
+    requires { number < 100 }
+    ensures { result ≡ padded_decimal 2 number }
 {
-    let hour = seconds / 3600;
-    let minute = seconds / 60 % 60;
-    let second = seconds % 60;
-    write!(text, "{hour:02}:{minute:02}:{second:02}")
+    [b'0' + number / 10, b'0' + number % 10]
 }
 
-/// Adds a date as `YYYY-MM-DD`.
-fn push_date(text: &mut String, year: u16, month: u8, day: u8) -> Result<(), AllocError>
-    ensures { OnOk result (string_bytes text.new ≡ string_bytes text.old ++ full_date_text year month day) }
+// The four digits of a number.
+fn in_four_digits(number: u16) -> [u8; 4]
+    requires { number < 10000 }
+    ensures { result ≡ padded_decimal 4 number }
 {
-    write!(text, "{year:04}-{month:02}-{day:02}")
+    [
+        b'0' + (number / 1000) as u8,
+        b'0' + (number / 100 % 10) as u8,
+        b'0' + (number / 10 % 10) as u8,
+        b'0' + (number % 10) as u8,
+    ]
 }
 
-/// Adds a date as `09 Jan 2018`.
-fn push_short_date(text: &mut String, year: u16, month: u8, day: u8) -> Result<(), AllocError>
-    requires { IsInRange 1 12 month }
-    ensures { OnOk result (string_bytes text.new ≡ string_bytes text.old ++ short_date_text year month day) }
+// The bytes of `date_time_text`.
+fn date_time_bytes(seconds: u64) -> [u8; 20]
+    requires { seconds < 315537897600 }
+    ensures { result ≡ date_time_text seconds }
 {
-    let month = month_name(month);
-    write!(text, "{day:02} {month} {year:04}")
+    let day = (seconds / SECONDS_IN_DAY) as u32;
+    let second = (seconds % SECONDS_IN_DAY) as u32;
+    let date = date_on(day);
+    let [y0, y1, y2, y3] = in_four_digits(date.year);
+    let [m0, m1] = in_two_digits(date.month);
+    let [d0, d1] = in_two_digits(date.day);
+    let [h0, h1] = in_two_digits((second / 3600) as u8);
+    let [n0, n1] = in_two_digits((second / 60 % 60) as u8);
+    let [s0, s1] = in_two_digits((second % 60) as u8);
+    [
+        y0, y1, y2, y3, b'-', m0, m1, b'-', d0, d1, b'T', h0, h1, b':', n0, n1, b':', s0, s1, b'Z',
+    ]
+}
+
+// The bytes of `http_date_text`.
+fn http_date_bytes(seconds: u64) -> [u8; 29]
+    requires { seconds < 315537897600 }
+    ensures { result ≡ http_date_text seconds }
+{
+    let day = (seconds / SECONDS_IN_DAY) as u32;
+    let second = (seconds % SECONDS_IN_DAY) as u32;
+    let date = date_on(day);
+    let [w0, w1, w2] = *weekday_name(day);
+    let [d0, d1] = in_two_digits(date.day);
+    let [m0, m1, m2] = *month_name(date.month);
+    let [y0, y1, y2, y3] = in_four_digits(date.year);
+    let [h0, h1] = in_two_digits((second / 3600) as u8);
+    let [n0, n1] = in_two_digits((second / 60 % 60) as u8);
+    let [s0, s1] = in_two_digits((second % 60) as u8);
+    [
+        w0, w1, w2, b',', b' ', d0, d1, b' ', m0, m1, m2, b' ', y0, y1, y2, y3, b' ', h0, h1, b':',
+        n0, n1, b':', s0, s1, b' ', b'G', b'M', b'T',
+    ]
+}
+
+// ASCII as a text.
+fn ascii_text(alloc: Global, bytes: &[u8]) -> Result<String, AllocError>
+    requires { IsAscii bytes.now }
+    ensures { IfOk result (λ t. string_bytes t ≡ bytes.now) }
+{
+    match str::from_utf8(bytes) {
+        Ok(text) => String::from_str(alloc, text),
+        Err(_) => unreachable!(),
+    }
 }
 
 /// The text of RFC 3339 for a point in time, given in seconds since 1 January of year 1.
@@ -81,13 +123,7 @@ pub(crate) fn date_time_text(alloc: Global, seconds: u64) -> Result<String, Allo
     requires { seconds < 315537897600 }
     ensures { IfOk result (λ t. string_bytes t ≡ date_time_text seconds) }
 {
-    let date = date_on((seconds / SECONDS_IN_DAY) as u32);
-    let mut text = String::with_capacity(alloc, DATE_TIME_LEN)?;
-    push_date(&mut text, date.year, date.month, date.day)?;
-    text.push_str("T")?;
-    push_clock(&mut text, (seconds % SECONDS_IN_DAY) as u32)?;
-    text.push_str("Z")?;
-    Ok(text)
+    ascii_text(alloc, &date_time_bytes(seconds))
 }
 
 /// The text of RFC 7231, section 7.1.1.1, for a point in time, given in seconds since 1 January of year 1.
@@ -95,14 +131,5 @@ pub(crate) fn http_date_text(alloc: Global, seconds: u64) -> Result<String, Allo
     requires { seconds < 315537897600 }
     ensures { IfOk result (λ t. string_bytes t ≡ http_date_text seconds) }
 {
-    let day = (seconds / SECONDS_IN_DAY) as u32;
-    let date = date_on(day);
-    let mut text = String::with_capacity(alloc, HTTP_DATE_LEN)?;
-    text.push_str(weekday_name(day))?;
-    text.push_str(", ")?;
-    push_short_date(&mut text, date.year, date.month, date.day)?;
-    text.push_str(" ")?;
-    push_clock(&mut text, (seconds % SECONDS_IN_DAY) as u32)?;
-    text.push_str(" GMT")?;
-    Ok(text)
+    ascii_text(alloc, &http_date_bytes(seconds))
 }

@@ -10,5 +10,5 @@ loop-day-preserved c =
     let p = same_text c.args.name.now in
     let same : l.day % 7 ≡ l.day = omega arith in
     let miss : p (unwrap_or (slice_get weekday_names l.day) []) ≡ false =
-    ap (λ d. p (unwrap_or (slice_get weekday_names d) [])) (sym same) ∙ ap p (sym (c.as_bytes.ensures.value ∙ c.weekday_name.ensures)) ∙ sym c.if-eq.ensures in
+    ap (λ d. p (unwrap_or (slice_get weekday_names d) [])) (sym same) ∙ ap p (sym (c.as_slice.ensures ∙ c.weekday_name.ensures)) ∙ sym c.if-eq.ensures in
     sym (any_more p weekday_names l.day (omega arith) miss) ∙ l.invariant

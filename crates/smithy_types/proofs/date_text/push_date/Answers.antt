@@ -1,9 +1,0 @@
-use Rattle.std.proofs.Common.{string_bytes, ◌++◌, ap, ◌∙◌}
-use Rattle.std.proofs.lemmas.Result.{on_ok_weaker}
-use Rattle.smithy_types.proofs.DecimalLaws.{full_date_text-joined}
-use Rattle.smithy_types.proofs.date_text.push_date.Goals as goal
-
-pub returns : goal.returns
-returns c =
-    let written = rw (c.laid_out.ensures, c.laid_out-2.ensures, c.laid_out-3.ensures) at c.write.ensures.bytes in
-    on_ok_weaker c.write.result (λ e. e ∙ ap (λ t. string_bytes c.args.text.now ++ t) (full_date_text-joined c.args.year c.args.month c.args.day)) written
