@@ -1,5 +1,5 @@
 -- Texts that are kept by their names.
-use Rattle.std.proofs.Common.{◌≡◌, refl, sym, ◌∙◌, ap, cond, ℕ, zero, suc, drop, Bool, true, false, List, [], ◌∷◌, ◌++◌, map, find, Option, Some, None, option_map, is_some, not, unwrap_or, Vec, Global, String}
+use Rattle.std.proofs.Common.{◌≡◌, refl, sym, ◌∙◌, ap, cond, ℕ, zero, suc, arith, drop, length, Bool, true, false, List, [], ◌∷◌, ◌++◌, map, find, Option, Some, None, option_map, is_some, not, unwrap_or, Vec, Global, String}
 use Rattle.std.specs.Borrow.{Bor}
 use Rattle.std.specs.BTreeMap.{BTreeMap, get_by, get_by_text}
 use Rattle.std.specs.Cmp.Lexicographic.{slice_cmp, same_text as same_from_test}
@@ -7,10 +7,12 @@ use Rattle.std.specs.Option.{option_map_or, option_or, option_copied}
 use Rattle.std.specs.Ordering.{nat_cmp}
 use Rattle.std.specs.Str.{bytes_eq}
 use Rattle.std.proofs.lemmas.List.{append-nil, map-append}
+use Rattle.std.proofs.Math.ListN.{drop_of_length-le}
 use Rattle.smithy_types.specs.Texts.{same_text, found}
 use Rattle.smithy_http.specs.Facts.{values_at}
 use Rattle.smithy_recovery.specs.views.Kept.{text_in_map, label_seen}
-use Rattle.smithy_recovery.specs.views.Pieces.{pieces_under}
+use Rattle.smithy_recovery.specs.views.Pieces.{NamedPieces, HasLeft, pieces_under}
+use Rattle.smithy_recovery.specs.QueryParts.{pieces_named}
 use Rattle.smithy_recovery.specs.declared.path_texts.LabelText.{LabelText}
 
 abbrev pub Groups : Type 0
@@ -44,10 +46,12 @@ group_put old new name piece fresh before after empty is more put q = ap texts_i
         ap (map (λ (p : Bor (List ℕ)). p.now)) more ∙ map-append (λ (p : Bor (List ℕ)). p.now) before.items (piece ∷ []) ∙ ap (λ ts. ts ++ piece.now ∷ []) (held ∙ ap (λ n. texts_in (group old n)) same)
     go false e = sym (append-nil (texts_in (group old q)))
 
--- nothing is under a name of no map
-pub no_group : (m : Groups) → ((q : List ℕ) → group m q ≡ None) → (q : List ℕ) → pieces_under m q ≡ []
-unfolding pieces_under
-no_group m empty q = ap texts_in (empty q)
+-- where nothing is kept, nothing is left
+pub none_left : (own pieces : NamedPieces) (ps : List (List ℕ)) → ((name : List ℕ) → pieces_under pieces name ≡ []) → HasLeft ps ps own pieces
+none_left own pieces ps none = λ name.
+    ap (drop (length (pieces_under own name))) (none name)
+    ∙ drop_of_length-le {A = List ℕ} [] {i = length (pieces_under own name)} (omega arith)
+    ∙ sym (drop_of_length-le (pieces_named name ps) (omega arith))
 
 abbrev pub Named : Type 0
 Named = BTreeMap (Bor (List ℕ)) (Bor (List ℕ))

@@ -28,7 +28,7 @@ use Rattle.smithy_recovery.specs.views.KeptBodies.{KeepsWritesTold, KeepsBody}
 use Rattle.smithy_recovery.specs.views.KeptMembers.{IsCutBy, AddsTold, write_read, is_told_at, part_of, AddsMember, parts_read, members_at, AddsMembers, KeepsCut, KeepsLabelled, ReadsTold}
 use Rattle.smithy_recovery.specs.MemberParts.{part_writes, with_body}
 use Rattle.smithy_recovery.specs.PathParts.{path_texts}
-use Rattle.smithy_recovery.specs.views.Pieces.{HasPieces}
+use Rattle.smithy_recovery.specs.views.Pieces.{HasLeft}
 use Rattle.smithy_recovery.specs.QueryParts.{last_literal, own_query, pieces_named}
 use Rattle.smithy_recovery.specs.Recovered.{Reading, template, read_writes, body_writes}
 use Rattle.smithy_recovery.specs.declared.error.RecoverError.{RecoverError}
@@ -274,16 +274,17 @@ pub own_of_holes : (holes : List CutHole) (last : List ℕ) (t : Template) → b
 own_of_holes holes last t is = ap query_pieces (sym (last_of_holes holes last)) ∙ ap own_query is
 
 pub labelled_kept : (holds : List ℕ → Option Held) (q : Request) (schema : SchemaRef) (last : List ℕ) (texts : List (List ℕ × List ℕ)) (cut : CutRequest) (result : Result WriteList RecoverError) → KeepsCut holds cut (schema_of schema) result
-    → cut.request.now ≡ q → cut.table.now ≡ (schema_of schema).table → HasTexts texts cut.labels.now → HasPieces (query_pieces last) cut.own.now → HasPieces (query_pieces q.target) cut.pieces.now
+    → cut.request.now ≡ q → cut.table.now ≡ (schema_of schema).table → HasTexts texts cut.labels.now → HasLeft (query_pieces last) (query_pieces q.target) cut.own.now cut.pieces.now
     → cut.schema ≡ schema → KeepsLabelled holds q schema last texts result
 unfolding KeepsCut KeepsLabelled
-labelled_kept holds q schema last texts cut result kept request table labels own pieces members = λ r by is same.
+labelled_kept holds q schema last texts cut result kept request table labels left members = λ r by is same.
     let s = schema_of schema in
     let cuts : IsCutBy r texts cut =
     record {
       labels = labels;
-      own = λ name. own name ∙ ap (pieces_named name) same;
-      pieces = λ name. pieces name ∙ ap (λ (p : Request). pieces_named name (query_pieces p.target)) (sym request);
+      left = λ name. left name
+          ∙ ap (λ ps. drop (length (pieces_named name ps)) (pieces_named name (query_pieces q.target))) same
+          ∙ ap (λ (p : Request). drop (length (pieces_named name (own_query (template r)))) (pieces_named name (query_pieces p.target))) (sym request);
       schema = is ∙ ap schema_of (sym members);
     } in
     let here = kept r texts by cuts in

@@ -1,5 +1,5 @@
 -- What a cut request has of each member, in the words of the way back.
-use Rattle.std.proofs.Common.{◌≡◌, refl, sym, ◌∙◌, ap, subst, ℕ, Bool, true, false, ◌||◌, not, List, [], ◌∷◌, ◌++◌, drop, length, Option, Some, None, Result, Ok, Err, option_map, option_and_then, is_some}
+use Rattle.std.proofs.Common.{◌≡◌, refl, sym, ◌∙◌, ap, subst, ℕ, Bool, true, false, ◌||◌, not, List, [], ◌∷◌, ◌++◌, Option, Some, None, Result, Ok, Err, option_map, option_and_then, is_some}
 use Rattle.std.specs.List.{cons_option}
 use Rattle.std.proofs.lemmas.Bool.{and_parts, and_from}
 use Rattle.std.proofs.lemmas.List.{append-nil}
@@ -101,7 +101,7 @@ query_kept holds cut m name result is kept =
     by_binding holds cut m (to_query name) result is
     (λ r texts _ cuts.
     let same : query_read cut name m ≡ option_and_then (query_part m) (query_texts (template r) (pieces_named (escape name) (query_pieces cut.request.now.target)) name) =
-    λ i. option_and_then (query_part m) (each piece_text (drop (length (cuts.own (escape name) i)) (cuts.pieces (escape name) i))) in
+    λ i. option_and_then (query_part m) (each piece_text (cuts.left (escape name) i)) in
     part_told _ m.table (option_and_then (query_part m) (query_texts (template r) (pieces_named (escape name) (query_pieces cut.request.now.target)) name)) result (subst (λ part. KeepsPart m.table part result) same kept))
 
 pub query_map_kept : (holds : List ℕ → Option Held) (cut : CutRequest) (m : Schema) (result : Part) → binding_of m ≡ to_query_map → KeepsQueryMap cut m result → KeepsMember holds cut m result
@@ -110,7 +110,7 @@ query_map_kept holds cut m result is kept =
     by_binding holds cut m to_query_map result is
     (λ r texts _ cuts.
     part_told _ m.table _ result
-    (subst (λ (s : Schema). KeepsPart m.table (query_map_part (template r) (query_names s) m (query_pieces cut.request.now.target)) result) (sym cuts.schema) (kept (template r) cuts.own cuts.pieces)))
+    (subst (λ (s : Schema). KeepsPart m.table (query_map_part (template r) (query_names s) m (query_pieces cut.request.now.target)) result) (sym cuts.schema) (kept (template r) cuts.left)))
 
 pub label_kept : (holds : List ℕ → Option Held) (cut : CutRequest) (m : Schema) (result : Part) → binding_of m ≡ to_label → KeepsLabel m cut.labels.now result → KeepsMember holds cut m result
 unfolding KeepsMemberAt

@@ -22,7 +22,7 @@ use Rattle.smithy_binding.proofs.DistinctNames.{same_text-sym}
 use Rattle.smithy_document.proofs.OrderedPairs.{same_name, looked, Ascends, absent, up_tail, all_ascend}
 use Rattle.smithy_recovery.specs.views.KeptQueries.{Entries, QueryNames, is_named, HasNames, is_to_come, key_to_come, value_under, value_put, under_put, pieces_put}
 use Rattle.smithy_recovery.specs.MapParts.{entry_named, query_entry, query_entries, query_map_part}
-use Rattle.smithy_recovery.specs.views.Pieces.{NamedPieces, HasPieces, named_left}
+use Rattle.smithy_recovery.specs.views.Pieces.{NamedPieces, HasLeft, named_left}
 use Rattle.smithy_recovery.specs.QueryParts.{own_query, pieces_named}
 use Rattle.smithy_recovery.proofs.EntriesPut.{part_of}
 
@@ -90,16 +90,13 @@ key_put key here ps es false (Some v) at up met = ap Some (sym (put_again key v 
 
 -- The entries of a query, whose pieces, a template's and the names of query members are kept by their names.
 
-module _ (t : Template) (all : List (List ℕ)) (here : Option Schema) (ps : List (List ℕ)) (own pieces : NamedPieces) (names : QueryNames) (owned : HasPieces (own_query t) own) (held : HasPieces ps pieces) (named : HasNames all names) where
+module _ (t : Template) (all : List (List ℕ)) (here : Option Schema) (ps : List (List ℕ)) (own pieces : NamedPieces) (names : QueryNames) (left : HasLeft (own_query t) ps own pieces) (named : HasNames all names) where
   -- the entry under a name
   abbrev entry_at : List ℕ → Option (Option (List ℕ × Value))
   entry_at name = query_entry t all here ps name
 
   abbrev left_at : List ℕ → List (List ℕ)
   left_at name = drop (length (pieces_named name (own_query t))) (pieces_named name ps)
-
-  left_is : (name : List ℕ) → named_left own pieces name ≡ left_at name
-  left_is name = λ i. drop (length (owned name i)) (held name i)
 
   -- it is the one under its key's escape
   abbrev IsOwn : List ℕ × Value → Type 0
@@ -140,7 +137,7 @@ module _ (t : Template) (all : List (List ℕ)) (here : Option Schema) (ps : Lis
           ∙ ap (λ b. put_entry (cond b (Some None) (as_entry key (value_under here xs))) es) (named key)
 
   name_put : (name : List ℕ) (es : Entries) → Ascends es → AllByRecursion IsOwn es → under_put names here name (named_left own pieces name) es ≡ put_entry (entry_at name) es
-  name_put name es up all_own = ap (λ xs. under_put names here name xs es) (left_is name) ∙ go (left_at name) refl
+  name_put name es up all_own = ap (λ xs. under_put names here name xs es) (left name) ∙ go (left_at name) refl
     where
       go : (xs : List (List ℕ)) → left_at name ≡ xs → under_put names here name xs es ≡ put_entry (entry_named all here name xs) es
       go [] is = refl
@@ -168,10 +165,10 @@ module _ (t : Template) (all : List (List ℕ)) (here : Option Schema) (ps : Lis
   pieces_read = names_put ps [] tt tt
 
 -- the part of the query map, by what was put
-pub query_put : (t : Template) (all : List (List ℕ)) (m : Schema) (ps : List (List ℕ)) (own pieces : NamedPieces) (names : QueryNames) → HasPieces (own_query t) own → HasPieces ps pieces → HasNames all names
+pub query_put : (t : Template) (all : List (List ℕ)) (m : Schema) (ps : List (List ℕ)) (own pieces : NamedPieces) (names : QueryNames) → HasLeft (own_query t) ps own pieces → HasNames all names
     → part_of m (pieces_put own pieces names (value_of m) ps []) ≡ query_map_part t all m ps
-query_put t all m ps own pieces names owned held named =
-    ap (part_of m) (pieces_read t all (value_of m) ps own pieces names owned held named) ∙ go (query_entries t all (value_of m) ps ps)
+query_put t all m ps own pieces names left named =
+    ap (part_of m) (pieces_read t all (value_of m) ps own pieces names left named) ∙ go (query_entries t all (value_of m) ps ps)
   where
     go : (o : Option Entries) → part_of m (option_map in_key_order o) ≡ option_map (λ es. unless_empty (map_value (Some m) (in_key_order es))) o
     go None = refl

@@ -18,7 +18,7 @@ use crate::label_values::label_part;
 use crate::path_texts::{LabelText, LabelTexts, by_name, path_texts};
 use crate::prefix_entries::prefix_part;
 use crate::query_entries::{query_map_part, query_names};
-use crate::query_texts::{NamedPieces, named_pieces, texts_named};
+use crate::query_texts::{NamedPieces, kept_pieces, texts_named};
 use crate::query_values::query_part;
 use smithy_binding::{HttpBindingProtocol, cut, template_of};
 use smithy_http::Request;
@@ -36,7 +36,7 @@ struct CutRequest<'c, 's> {
     few_headers: bool,
     // The texts of the labels.
     labels: &'c LabelTexts<'s>,
-    // The pieces of the template's own query, and those of the request's.
+    // The pieces of the template's own query and those of the request's, as far as they tell what is left of these.
     own: &'c NamedPieces<'s>,
     pieces: &'c NamedPieces<'s>,
     // The structure whose members are read.
@@ -186,15 +186,14 @@ fn labelled_writes<'s, C: Codec>(
     ensures { KeepsTexts (C.holds codec.now) request.now schema.entry last.now texts.now result }
 {
     let labels = by_name(alloc, texts)?;
-    let own = named_pieces(alloc, last)?;
-    let pieces = named_pieces(alloc, request.uri())?;
+    let kept = kept_pieces(alloc, last, request.uri())?;
     let parts = CutRequest {
         request,
         table,
         few_headers: are_few(request.headers()),
         labels: &labels,
-        own: &own,
-        pieces: &pieces,
+        own: &kept.own,
+        pieces: &kept.pieces,
         schema,
     };
     cut_writes(alloc, codec, &parts, schema)

@@ -1,10 +1,11 @@
 // The texts that a query has under each name (Smithy, HTTP protocol bindings, httpQuery; RFC 3986, section 3.4).
-ghost use Rattle.std.specs.Prelude.{◌≡◌, IfOk, OnOk, length, drop, map};
+ghost use Rattle.std.specs.Prelude.{◌≡◌, ℕ, List, [], IfOk, OnOk, length, drop, map};
+ghost use Rattle.std.specs.Bool.{OnTrue};
 ghost use Rattle.smithy_types.specs.Results.{each};
 ghost use Rattle.smithy_http.specs.Facts.{query_pieces};
 ghost use Rattle.smithy_strings.specs.Escapes.{escape};
 ghost use Rattle.smithy_recovery.specs.Finding.{Finds};
-ghost use Rattle.smithy_recovery.specs.views.Pieces.{pieces_under, shown_pieces, HasPieces, AddsPiece, named_left, texts_left};
+ghost use Rattle.smithy_recovery.specs.views.Pieces.{pieces_of, pieces_under, shown_pieces, HasPieces, AddsPiece, HasLeft, named_left, texts_left};
 ghost use Rattle.smithy_recovery.specs.QueryParts.{piece_text};
 
 use crate::error::RecoverError;
@@ -17,6 +18,13 @@ use std::collections::BTreeMap;
 /// The pieces of a query by their names, those of each name in order.
 pub type NamedPieces<'q> = BTreeMap<String, Vec<&'q str>>;
 
+/// The pieces of a template's own query and those of a target's, as far as they tell what is left of the target's.
+#[derive(Drop)]
+pub struct KeptPieces<'q> {
+    pub own: NamedPieces<'q>,
+    pub pieces: NamedPieces<'q>,
+}
+
 // Adds a piece.
 #[tactic(auto, unfolding(crate::specs::views::Pieces::pieces_under))]
 fn add<'q>(alloc: Global, pieces: &mut NamedPieces<'q>, piece: &'q str) -> Result<(), OutOfMemory>
@@ -28,9 +36,9 @@ fn add<'q>(alloc: Global, pieces: &mut NamedPieces<'q>, piece: &'q str) -> Resul
     Ok(())
 }
 
-/// The pieces of a target's query by their names. Takes memory.
+// The pieces of a target's query by their names.
 #[tactic(auto, unfolding(crate::specs::views::Pieces::pieces_under))]
-pub fn named_pieces<'q>(alloc: Global, target: &'q str) -> Result<NamedPieces<'q>, OutOfMemory>
+fn named_pieces<'q>(alloc: Global, target: &'q str) -> Result<NamedPieces<'q>, OutOfMemory>
     ensures { IfOk result (HasPieces (query_pieces target.now)) }
 {
     let mut pieces = BTreeMap::new(alloc);
@@ -40,6 +48,53 @@ pub fn named_pieces<'q>(alloc: Global, target: &'q str) -> Result<NamedPieces<'q
         rest = behind;
     }
     Ok(pieces)
+}
+
+// Whether this is the query of a target.
+fn is_query_of(query: &str, target: &str) -> bool
+    ensures { OnTrue result (pieces_of query.now ≡ query_pieces target.now) }
+{
+    match query_of(target) {
+        Some(own) => own == query,
+        None => false,
+    }
+}
+
+// Whether two targets have the same query.
+fn has_same_query(target: &str, other: &str) -> bool
+    ensures { OnTrue result (query_pieces target.now ≡ query_pieces other.now) }
+{
+    match query_of(target) {
+        Some(query) => is_query_of(query, other),
+        None => false,
+    }
+}
+
+// No pieces under any name.
+#[tactic(auto, unfolding(crate::specs::views::Pieces::pieces_under))]
+fn no_pieces<'q>(alloc: Global) -> NamedPieces<'q>
+    ensures { (name : List ℕ) → pieces_under result name ≡ [] }
+{
+    BTreeMap::new(alloc)
+}
+
+/// The pieces of a template's own query and those of a target's, by their names, as far as they tell what is left of the target's
+/// behind the template's. Takes memory, unless both queries are the same, so that nothing is left.
+pub fn kept_pieces<'q>(
+    alloc: Global,
+    template: &'q str,
+    target: &'q str,
+) -> Result<KeptPieces<'q>, OutOfMemory>
+    ensures { IfOk result (λ k. HasLeft (query_pieces template.now) (query_pieces target.now) k.own k.pieces) }
+{
+    if has_same_query(template, target) {
+        let own = no_pieces(alloc);
+        let pieces = no_pieces(alloc);
+        return Ok(KeptPieces { own, pieces });
+    }
+    let own = named_pieces(alloc, template)?;
+    let pieces = named_pieces(alloc, target)?;
+    Ok(KeptPieces { own, pieces })
 }
 
 // The text of a piece, taken back.

@@ -27,7 +27,7 @@ use Rattle.smithy_recovery.specs.views.Kept.{label_seen, HasTexts}
 use Rattle.smithy_recovery.specs.views.KeptBodies.{KeepsPartTold, KeepsWritesTold}
 use Rattle.smithy_recovery.specs.MapParts.{query_map_part}
 use Rattle.smithy_recovery.specs.MemberParts.{part_writes, with_body}
-use Rattle.smithy_recovery.specs.views.Pieces.{HasPieces, texts_left}
+use Rattle.smithy_recovery.specs.views.Pieces.{HasLeft, texts_left}
 use Rattle.smithy_recovery.specs.QueryParts.{own_query, query_part}
 use Rattle.smithy_recovery.specs.Recovered.{Reading, reading_by, template, part_at, read_writes, is_body_told}
 use Rattle.smithy_recovery.specs.declared.error.RecoverError.{RecoverError}
@@ -38,18 +38,17 @@ use Rattle.smithy_recovery.specs.declared.path_texts.LabelText.{LabelText}
 abbrev pub query_read : CutRequest → (name : List ℕ) → Schema → Option (Option Value)
 query_read cut name m = option_and_then (query_part m) (texts_left cut.own.now cut.pieces.now (escape name))
 
--- the map of the query beside the query members of the structure, whichever template has the pieces that were kept as its own
+-- the map of the query beside the query members of the structure, behind the pieces of whichever template they are left by
 abbrev pub KeepsQueryMap : CutRequest → Schema → Result (Option ShapeValue) RecoverError → Type 0
 KeepsQueryMap cut m result =
     let target = cut.request.now.target in
-    (t : Template) → HasPieces (own_query t) cut.own.now → HasPieces (query_pieces target) cut.pieces.now
+    (t : Template) → HasLeft (own_query t) (query_pieces target) cut.own.now cut.pieces.now
     → KeepsPart m.table (query_map_part t (query_names (schema_of cut.schema)) m (query_pieces target)) result
 
--- a request as it is cut by a reading: the texts of its labels, and the pieces of both queries, for the members of its structure
+-- a request as it is cut by a reading: the texts of its labels, and what is left of its query, for the members of its structure
 pub record IsCutBy (r : Reading) (texts : List (List ℕ × List ℕ)) (cut : CutRequest) : Type 0 where
   pub labels : HasTexts texts cut.labels.now
-  pub own : HasPieces (own_query (template r)) cut.own.now
-  pub pieces : HasPieces (query_pieces cut.request.now.target) cut.pieces.now
+  pub left : HasLeft (own_query (template r)) (query_pieces cut.request.now.target) cut.own.now cut.pieces.now
   pub schema : r.schema ≡ schema_of cut.schema
 
 -- what a request has of a member that stands there

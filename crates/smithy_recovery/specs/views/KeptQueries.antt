@@ -21,7 +21,7 @@ use Rattle.smithy_strings.specs.Escapes.{unescaped}
 use Rattle.smithy_recovery.specs.Finding.{Finds}
 use Rattle.smithy_recovery.specs.views.Keeping.{KeepsPart}
 use Rattle.smithy_recovery.specs.MapParts.{entry_value, query_map_part}
-use Rattle.smithy_recovery.specs.views.Pieces.{NamedPieces, HasPieces, shown_pieces, named_left}
+use Rattle.smithy_recovery.specs.views.Pieces.{NamedPieces, HasLeft, shown_pieces, named_left}
 use Rattle.smithy_recovery.specs.QueryParts.{piece_text, own_query}
 use Rattle.smithy_recovery.specs.declared.error.RecoverError.{RecoverError}
 use Rattle.smithy_recovery.specs.declared.error.RecoverError.TheVariants.{NotPlaced, OutOfMemory}
@@ -141,5 +141,5 @@ KeepsQuery n own pieces names target result = KeepsEntries n.table (pieces_put o
 -- the map of a target's query beside query members, whichever template, query and names were kept by their names
 abbrev pub KeepsQueryBeside : Schema → (own pieces : NamedPieces) → QueryNames → (target : List ℕ) → Result (Option ShapeValue) RecoverError → Type 0
 KeepsQueryBeside m own pieces names target result =
-    (t : Template) (all : List (List ℕ)) → HasPieces (own_query t) own → HasPieces (query_pieces target) pieces → HasNames all names →
+    (t : Template) (all : List (List ℕ)) → HasLeft (own_query t) (query_pieces target) own pieces → HasNames all names →
     KeepsPart m.table (query_map_part t all m (query_pieces target)) result

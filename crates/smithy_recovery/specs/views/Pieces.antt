@@ -53,6 +53,11 @@ shown_pieces (Some ps) = map (λ p. p.now) ps.now
 abbrev pub named_left : (own pieces : NamedPieces) → (name : List ℕ) → List (List ℕ)
 named_left own pieces name = drop (length (pieces_under own name)) (pieces_under pieces name)
 
+-- They tell which pieces of a query are left under each name, behind as many as its own template has of it.
+abbrev pub HasLeft : (owned ps : List (List ℕ)) → (own pieces : NamedPieces) → Type 0
+HasLeft owned ps own pieces =
+    (name : List ℕ) → named_left own pieces name ≡ drop (length (pieces_named name owned)) (pieces_named name ps)
+
 -- their texts
 abbrev pub texts_left : (own pieces : NamedPieces) → (name : List ℕ) → Option (List (List ℕ))
 texts_left own pieces name = each piece_text (named_left own pieces name)

@@ -6,10 +6,10 @@ use Rattle.smithy_recovery.proofs.Refused.{part_without_memory}
 use Rattle.smithy_recovery.proofs.member_values.query_map_member.Goals as goal
 
 pub returns-in_err-names : goal.returns-in_err-names
-returns-in_err-names c = λ t own pieces. part_without_memory (schema_of c.args.member).table _ c.from_residual.result (search rules)
+returns-in_err-names c = λ t left. part_without_memory (schema_of c.args.member).table _ c.from_residual.result (search rules)
 
 pub returns : goal.returns
-returns c = λ t own pieces.
+returns c = λ t left.
     let m = schema_of c.args.member in
     let cut = c.args.cut.now in
-    subst (λ target. KeepsQueryBeside m cut.own.now cut.pieces.now c.in_ok-names.names target c.query_map_part.result) c.uri.ensures.value c.query_map_part.ensures t (query_names (schema_of cut.schema)) own pieces c.in_ok-names.ensures
+    subst (λ target. KeepsQueryBeside m cut.own.now cut.pieces.now c.in_ok-names.names target c.query_map_part.result) c.uri.ensures.value c.query_map_part.ensures t (query_names (schema_of cut.schema)) left c.in_ok-names.ensures
