@@ -12,16 +12,21 @@ use smithy_types::Text;
 use std::alloc::Global;
 use test_rows::Failed;
 
-/// The value of a response as JSON; or what calls answer on its members.
+/// The value of a response as JSON, with or without its null members; or what calls answer on its members.
 pub fn answer(alloc: Global, call: &str, given: &Value) -> Result<Option<Text>, Failed> {
     match call {
-        "response_value" => Ok(Some(told(alloc, value_of(alloc, given)?)?)),
+        "response_value" => Ok(Some(told(alloc, value_of(alloc, given, false)?)?)),
+        "StructValue::present" => Ok(Some(told(alloc, value_of(alloc, given, true)?)?)),
         "read_members" => Ok(Some(members_of(alloc, given)?)),
         _ => Ok(None),
     }
 }
 
-fn value_of(alloc: Global, given: &Value) -> Result<Result<Text, SerdeError>, Failed> {
+fn value_of(
+    alloc: Global,
+    given: &Value,
+    is_present: bool,
+) -> Result<Result<Text, SerdeError>, Failed> {
     let asked = asked_of(alloc, given)?;
     let bytes = body_bytes(given, &asked.response);
     let body = body_reader(alloc, bytes)?;
@@ -38,6 +43,7 @@ fn value_of(alloc: Global, given: &Value) -> Result<Result<Text, SerdeError>, Fa
         asked.policy,
     );
     match value {
+        Ok(value) if is_present => Ok(json_of(alloc, &value.present(alloc)?)),
         Ok(value) => Ok(json_of(alloc, &value)),
         Err(refusal) => Ok(Err(refusal)),
     }
