@@ -7,7 +7,8 @@ use serde_json::Value;
 use smithy_http::{push_header_item, push_quoted_text};
 use smithy_serde::{ReadScalar, ScalarKind, ShapeValue};
 use smithy_strings::{
-    decoded, percent_decode, percent_encode, push_escaped, push_listed, scalar_of_text,
+    are_distinct, decoded, percent_decode, percent_encode, push_escaped, push_listed,
+    scalar_of_text,
 };
 use smithy_types::{Blob, Text};
 use std::alloc::Global;
@@ -24,6 +25,7 @@ pub fn answer(alloc: Global, call: &str, given: &Value) -> Result<Option<Text>, 
         "push_quoted_text" => pushed(alloc, given, call)?,
         "push_listed" => listed(alloc, given)?,
         "scalar_of_text" => spelled(alloc, given)?,
+        "are_distinct" => distinct(alloc, given)?,
         _ => return Ok(None),
     };
     Ok(Some(text))
@@ -59,6 +61,16 @@ fn pushed(alloc: Global, given: &Value, call: &str) -> Result<Text, Failed> {
         _ => push_quoted_text(&mut list, as_text(&input)?)?,
     }
     Ok(Text::from_string(list))
+}
+
+// Whether the texts under `texts` are.
+fn distinct(alloc: Global, given: &Value) -> Result<Text, Failed> {
+    let mut texts = Vec::new(alloc);
+    for item in items_of(given, "texts")? {
+        texts.push(item.as_str().ok_or(Failed)?)?;
+    }
+    let answer = are_distinct(alloc, texts.as_slice())?;
+    Ok(Text::from_string(format!(in alloc; "{answer}")?))
 }
 
 // The list of pairs of a kind and a text.

@@ -1,12 +1,13 @@
 // Whether the names of fields stand.
 ghost use Rattle.std.specs.Prelude.{◌≡◌, flat_map, IfOk, OnOk};
 ghost use Rattle.std.specs.Str.{is_utf8};
-ghost use Rattle.smithy_wire.specs.Words.{are_distinct, is_one_of, list_all, members_of, name_of, schema_of};
+ghost use Rattle.smithy_wire.specs.Words.{list_all, members_of, name_of, schema_of};
 ghost use Rattle.smithy_wire.specs.WireNames.{names_of, names_stand, table_stands, stands};
 ghost use Rattle.smithy_wire.specs.views.ShownNames.{texts_shown, Adds, names_at, place_stands, table_stands_from};
 
 use crate::names::{json_name, name_of};
 use smithy_schema::{SchemaIndex, SchemaRef, Schemas};
+use smithy_strings::are_distinct;
 use smithy_types::OutOfMemory;
 use std::alloc::Global;
 
@@ -22,29 +23,6 @@ fn are_utf8(names: &[&str]) -> bool
 {
     for name in names {
         if !is_utf8(*name) {
-            return false;
-        }
-    }
-    true
-}
-
-fn is_one_of(name: &str, names: &[&str]) -> bool
-    ensures { result ≡ is_one_of name.now (texts_shown names.now) }
-{
-    for other in names {
-        if name == *other {
-            return true;
-        }
-    }
-    false
-}
-
-// Whether no two of the names are the same, each compared with those behind it.
-fn are_distinct(names: &[&str]) -> bool
-    ensures { result ≡ are_distinct (texts_shown names.now) }
-{
-    for (place, name) in names.iter().enumerate() {
-        if is_one_of(*name, &names[place + 1..]) {
             return false;
         }
     }
@@ -95,7 +73,7 @@ fn node_names_stand(alloc: Global, schema: SchemaRef<'_>) -> Result<bool, OutOfM
     ensures { IfOk result (λ b. b ≡ names_stand (members_of (schema_of schema.entry))) }
 {
     let names = all_names(alloc, schema)?;
-    Ok(are_distinct(names.as_slice()) && are_utf8(names.as_slice()))
+    Ok(are_distinct(alloc, names.as_slice())? && are_utf8(names.as_slice()))
 }
 
 // Whether those of the node at a place do, where there is one.
@@ -121,7 +99,8 @@ fn table_names_stand(alloc: Global, table: &Schemas) -> Result<bool, OutOfMemory
 }
 
 /// Whether in the node and in each structure and union of its table the JSON names of members differ, and none is the name of
-/// another member (Smithy, jsonName trait). Takes memory for the names of one node.
+/// another member (Smithy, jsonName trait). In time linear in the names up to the logarithm of their number in a node. Takes
+/// memory for the names of one node.
 pub fn names_stand(alloc: Global, schema: SchemaRef<'_>) -> Result<bool, OutOfMemory>
     ensures { IfOk result (λ b. b ≡ stands (schema_of schema.entry)) }
 {
