@@ -4,7 +4,7 @@ use crate::json::json_of;
 use crate::readers::body_reader;
 use crate::told::told;
 use serde_json::Value;
-use smithy_aws::error_code;
+use smithy_aws::{error_code, response_error};
 use smithy_http::Response;
 use smithy_job::{CodedError, Expected, Received, read_received};
 use smithy_json::{Scratch, read_json};
@@ -24,6 +24,7 @@ pub fn answer(alloc: Global, call: &str, given: &Value) -> Result<Option<Text>, 
             Ok(Some(named_by_code(alloc, &errors_asked(alloc, given)?, given)?))
         }
         "error_code" => Ok(Some(code_told(alloc, given)?)),
+        "response_error" => Ok(Some(error_told(alloc, &errors_asked(alloc, given)?, given)?)),
         "TypeRegistry::deserialize_document" => {
             Ok(Some(read_as_named(alloc, &errors_asked(alloc, given)?, given)?))
         }
@@ -36,6 +37,18 @@ fn code_told(alloc: Global, given: &Value) -> Result<Text, Failed> {
     match error_code(alloc, &asked_of(alloc, given)?.response)? {
         Some(code) => Ok(code),
         None => Ok(Text::from_str(alloc, "None")?),
+    }
+}
+
+// The name of the error that the response has.
+fn error_told(alloc: Global, errors: &Errors, given: &Value) -> Result<Text, Failed> {
+    let plain = plain_name(given);
+    let operation = registry_of(alloc, &errors.table, errors.operation.as_slice(), plain)?;
+    let service = registry_of(alloc, &errors.table, errors.service.as_slice(), plain)?;
+    match response_error(alloc, &errors.response, operation.or(&service)) {
+        Ok(Some(place)) => name_at(alloc, &errors.table, place),
+        Ok(None) => Ok(Text::from_str(alloc, "None")?),
+        Err(refusal) => told(alloc, Err(refusal)),
     }
 }
 

@@ -3,6 +3,7 @@
 #![tactic(auto)]
 
 mod asked;
+mod aws_values;
 mod errors;
 mod json;
 mod noting;
@@ -39,6 +40,9 @@ impl Answers for Calls {
             return Ok(text);
         }
         if let Some(text) = errors::answer(alloc, call, given)? {
+            return Ok(text);
+        }
+        if let Some(text) = aws_values::answer(alloc, call, given)? {
             return Ok(text);
         }
         runs::answer(alloc, call, given)?.ok_or(Failed)

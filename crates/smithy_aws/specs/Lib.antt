@@ -1,1 +1,5 @@
+pub mod BodyValues
 pub mod ErrorCodes
+pub mod ErrorShapes
+pub mod ResponseShapes
+pub mod ResponseValues
