@@ -77,7 +77,7 @@ pub use Rattle.smithy_unambiguity.proofs.Common.{is_well_made, item_fault, key_f
 pub use Rattle.smithy_unambiguity.proofs.Common.{last_or, leb-true, length, list_all, list_all-append, list_any, list_of, list_of_members}
 pub use Rattle.smithy_unambiguity.proofs.Common.{lower_header_names, map, map-append, map_entries, member-passes, member_at, member_text}
 pub use Rattle.smithy_unambiguity.proofs.Common.{members_of, members_with, nat_eq, nat_le, nat_lt, negsuc, no_writes, not, not-false}
-pub use Rattle.smithy_unambiguity.proofs.Common.{one_kind, then_some, option_and_then, option_map, option_map_or, option_or, option_to_list}
+pub use Rattle.smithy_unambiguity.proofs.Common.{no_year, one_kind, then_some, option_and_then, option_map, option_map_or, option_or, option_to_list}
 pub use Rattle.smithy_unambiguity.proofs.Common.{or_right, own_entries, pairs_fault, payload_kind, place_at, pos, position_in}
 pub use Rattle.smithy_unambiguity.proofs.Common.{position_or_len, prefixes, raw_bytes, refl, resolve, resolved, same_format, same_kind}
 pub use Rattle.smithy_unambiguity.proofs.Common.{same_text, scalar_kind, settled, settled_elements, slice_get, starts_with}

@@ -1,5 +1,5 @@
 -- What a response has behind a prefix is read as the map that was written.
-use Rattle.smithy_served.proofs.Common.{◌≡◌, refl, sym, ◌∙◌, ap, subst, ℕ, nat_eq, Bool, true, false, not, cond, ◌&&◌, ◌||◌, List, [], ◌∷◌, ◌++◌, map, filter_map, Option, Some, None, Result, Ok, option_to_list, unwrap_or, is_some, is_none, IsTrue, AllByRecursion, list_all, list_any, starts_with, ok_or, option_map_or, option_or, is_utf8, str_to_ascii_lowercase, and_parts, or_right, map-append, then_try, then_give, same_text, is_one_of, same_kind, one_kind, values_at, one_text_of, Schema, binding_at, binding_of, to_prefix, is_bound, is_outside_body, key_of, value_of, member_at, members_of, fits, is_null, one_token, decoded_text, or_parse_refusal, no_value, Held, read_scalar, entries, in_key_order, entry_writes, is_in_range, value_read, value_within, value_by_kind, map_by, all_read, entry_by, joined, Label, Scalar, Value, Write, Writes, text_of_key, writes_of, SerdeError, entries_of, headers, inserted_at, map_entries, body, is_plain_string, is_text_map, prefixes, IsCheckedOutput, value_fault, item_fault, pairs_fault, is_placed_at, message_headers, in_lower_case, own_entries, as_output, keep_defaults, Protocol, default_names, has_distinct_keys, map_fault-in, no_first, all_headers_at, leaves-elsewhere, given, map_pairs, last_value, last_at, lowered, values_all, all_from_test, bound_fits, first_has, at_name, members_by_position, values_named, behind_lower, keys_behind_lower, entry_of, prefixed_in, in_prefix, source_at, source_of, handed_out, first_value, prefix_view, IsTypedOutput, begins_no_default, is_trimmed, is_typed_at, is_typed_header, headers_apart, starts-self}
+use Rattle.smithy_served.proofs.Common.{key_fault, no_year, texts, unless, ◌≡◌, refl, sym, ◌∙◌, ap, subst, ℕ, nat_eq, Bool, true, false, not, cond, ◌&&◌, ◌||◌, List, [], ◌∷◌, ◌++◌, map, filter_map, Option, Some, None, Result, Ok, option_to_list, unwrap_or, is_some, is_none, IsTrue, AllByRecursion, list_all, list_any, starts_with, ok_or, option_map_or, option_or, is_utf8, str_to_ascii_lowercase, and_parts, or_right, map-append, then_try, then_give, same_text, is_one_of, same_kind, one_kind, values_at, one_text_of, Schema, binding_at, binding_of, to_prefix, is_bound, is_outside_body, key_of, value_of, member_at, members_of, fits, is_null, one_token, decoded_text, or_parse_refusal, no_value, Held, read_scalar, entries, in_key_order, entry_writes, is_in_range, value_read, value_within, value_by_kind, map_by, all_read, entry_by, joined, Label, Scalar, Value, Write, Writes, text_of_key, writes_of, SerdeError, entries_of, headers, inserted_at, map_entries, body, is_plain_string, is_text_map, prefixes, IsCheckedOutput, value_fault, item_fault, pairs_fault, is_placed_at, message_headers, in_lower_case, own_entries, as_output, keep_defaults, Protocol, default_names, has_distinct_keys, map_fault-in, no_first, all_headers_at, leaves-elsewhere, given, map_pairs, last_value, last_at, lowered, values_all, all_from_test, bound_fits, first_has, at_name, members_by_position, values_named, behind_lower, keys_behind_lower, entry_of, prefixed_in, in_prefix, source_at, source_of, handed_out, first_value, prefix_view, IsTypedOutput, begins_no_default, is_trimmed, is_typed_at, is_typed_header, headers_apart, starts-self}
 use Rattle.std.specs.Cmp.Lexicographic.{same_text as same_from_test}
 use Rattle.smithy_types.specs.Maps.{all_put}
 use Rattle.smithy_ids.specs.declared.shape_type.ShapeType.TheVariants as kind
@@ -212,7 +212,7 @@ module _ (protocol : Protocol) (schema : Schema) (ws : List Write) (i : ℕ) (m 
       let a = no_first (value_fault (as_output m) u) (pairs_fault (as_output m) (inserted_at (binding_of (as_output m)) (as_output m) u)) (unfaulted_out protocol schema ws i m u typed at e placed).0 in
       let x = map_form u (ap (λ k. fits k u) (sym map_kind) ∙ fit) in
       let own : value_fault m u ≡ None = ap (value_fault m) x.1 ∙ sym (map_fault-in direction.Response m x.0) ∙ ap (value_fault (as_output m)) (sym x.1) ∙ a.0 in
-      let b = no_first (item_fault m u) _ own in
+      let b = no_first (item_fault m u) (option_or (key_fault m u) (unless (is_some (texts m u)) no_year)) own in
       let tests = and_parts (list_all (λ e. is_trimmed (text_of_key e.1)) (map_entries u)) (has_distinct_keys u) (ap (λ s. is_typed_at s m u) (sym own_source) ∙ first_has (λ r. IsTrue (is_typed_header r)) schema ws i m u at e typed.header_values) in
       record { in_range = fitting.in_range; items = b.0; trimmed = tests.0 }
 

@@ -1,5 +1,5 @@
 -- What is known of the first write of a member in a typed input.
-use Rattle.smithy_unambiguity.proofs.Common.{◌≡◌, refl, sym, ◌∙◌, ap, ℕ, Bool, true, false, not, cond, ◌&&◌, ◌||◌, List, [], filter, slice_get, Option, Some, None, option_map, option_and_then, is_some, IsTrue, AllByRecursion, and_parts, unless, Schema, member_at, members_of, Binding, to_body, binding_of, is_outside_body, is_bound, Value, Write, are_in_range, fits, is_null, Resolved, all_resolved, first, firsts, texts, inserted_at, query_names, IsCheckedInput, has_bound_kind, Fault, writes_fault, bound_fault, value_fault, item_fault, key_fault, pairs_fault, is_placed_at, has_distinct_keys, has_own_formats, is_placed_typed, bound_view, bound_view_at, member_view, last_of, settled, member-passes}
+use Rattle.smithy_unambiguity.proofs.Common.{no_year, option_or, ◌≡◌, refl, sym, ◌∙◌, ap, ℕ, Bool, true, false, not, cond, ◌&&◌, ◌||◌, List, [], filter, slice_get, Option, Some, None, option_map, option_and_then, is_some, IsTrue, AllByRecursion, and_parts, unless, Schema, member_at, members_of, Binding, to_body, binding_of, is_outside_body, is_bound, Value, Write, are_in_range, fits, is_null, Resolved, all_resolved, first, firsts, texts, inserted_at, query_names, IsCheckedInput, has_bound_kind, Fault, writes_fault, bound_fault, value_fault, item_fault, key_fault, pairs_fault, is_placed_at, has_distinct_keys, has_own_formats, is_placed_typed, bound_view, bound_view_at, member_view, last_of, settled, member-passes}
 use Rattle.std.proofs.lemmas.List.Sums.{list_all-from_AllPass}
 use Rattle.smithy_unambiguity.proofs.ByMember.{at_member, first_value, first_at}
 use Rattle.smithy_unambiguity.proofs.Conforming.{no_first, conforming_bound, IsFittingWrite, fitting_writes}
@@ -59,8 +59,8 @@ pub placed_of : (i : ℕ) (m : Schema) (v : Value) → IsFittingWrite (at_member
 placed_of i m v fitting placed fault keys formats =
     let fit = bound_fits (fits m.node.kind v) (is_null v) (is_bound m) (placed_bound (binding_of m) placed) fitting.fits in
     let a = no_first (value_fault m v) (pairs_fault m (inserted_at (binding_of m) m v)) fault in
-    let b = no_first (item_fault m v) _ a.0 in
-    let c = no_first (key_fault m v) _ b.1 in
+    let b = no_first (item_fault m v) (option_or (key_fault m v) (unless (is_some (texts m v)) no_year)) a.0 in
+    let c = no_first (key_fault m v) (unless (is_some (texts m v)) no_year) b.1 in
     let x = texts_there m v (texts m v) _ c.1 in
     record {
       value = record { fits = fit; in_range = fitting.in_range; items = b.0; formats = formats };
