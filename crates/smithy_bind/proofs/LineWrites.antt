@@ -76,3 +76,7 @@ line_written made old new lines text before tokens written is = λ answer made_s
     is ∙ ap (λ line. line ++ codes "\n")
     ((λ i. (printed.0 ∙ before) i ++ print ((printed.1 ∙ ap (λ ts. ts ++ data_tokens (answer_value answer)) tokens) i)) ∙ ap (λ line. lines ++ line) (print-outline (answer_value answer)))
     ∙ append_assoc lines (compact_text (answer_value answer)) (codes "\n")
+
+-- a line behind others
+pub line_added : (made : Option (Result Request SerdeError)) (lines line text : List ℕ) → text ≡ lines ++ line → EndsWithLine made [] line → EndsWithLine made lines text
+line_added made lines line text is ends = λ answer made_so. is ∙ ap (λ l. lines ++ l) (ends answer made_so)

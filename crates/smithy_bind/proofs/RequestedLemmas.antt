@@ -1,9 +1,12 @@
 -- Many inputs of an operation that was read once.
-use Rattle.std.proofs.Common.{◌≡◌, refl, sym, ap, ◌∙◌, subst, ℕ, Bool, true, false, List, [], ◌∷◌, ◌++◌, append_assoc, map, Vec, Global, drop, IfOk, Option, Some, None, option_map, option_and_then, unwrap_or, Result, Ok, Err, if◌then◌else◌}
-use Rattle.std.proofs.lemmas.List.{append-nil}
+use Rattle.std.proofs.Common.{◌≡◌, ◌+◌, ◌≤◌, refl, sym, ap, ◌∙◌, subst, arith, ℕ, Bool, true, false, List, [], ◌∷◌, ◌++◌, append_assoc, length, map, Vec, Global, drop, take, Option, Some, None, option_map, option_and_then, unwrap_or, Result, Err, if◌then◌else◌}
+use Rattle.std.proofs.lemmas.List.{append-nil, drop-drop, length-take-le, map-append, take-append-drop, take_all}
+use Rattle.std.proofs.Math.ListN.{drop_of_length-le}
 use Rattle.serde_json.specs.Data.{Data}
 use Rattle.smithy_types.specs.Documents.{Document}
 use Rattle.smithy_http.specs.Requests.{Request}
+use Rattle.smithy_json.specs.JsonView.{view}
+use Rattle.smithy_json.specs.declared.value.JsonValue.{JsonValue}
 use Rattle.smithy_schema.specs.Nodes.{Schema, Table, at_place}
 use Rattle.smithy_serde.specs.StoredValues.{writes_in}
 use Rattle.smithy_serde.specs.Values.{Write, Writes, list_of}
@@ -18,7 +21,7 @@ use Rattle.smithy_model.specs.declared.error.JobError.{JobError}
 use Rattle.smithy_model.specs.declared.error.JobError.TheVariants.{NoJob, OutOfMemory}
 use Rattle.smithy_job.specs.Common as jobs
 use Rattle.smithy_job.specs.Common.{Many, common, inputs_given, job_by, job_for, many}
-use Rattle.smithy_job.specs.CommonView.{AreRead, IsCommon, IsReadBy, input_read, nodes_among, writes_seen}
+use Rattle.smithy_job.specs.CommonView.{IsCommon, IsReadBy, input_read, nodes_among, writes_seen}
 use Rattle.smithy_job.specs.Inputs.{input}
 use Rattle.smithy_job.specs.Tables.{Has, ReadsAs}
 use Rattle.smithy_job.specs.declared.common.Common.{Common}
@@ -33,7 +36,7 @@ use Rattle.smithy_bind.specs.declared.requested.ReadOperation.{ReadOperation}
 use Rattle.smithy_bind.specs.declared.told.Answer.{Answer}
 use Rattle.smithy_bind.specs.views.AnswerView.{Gives}
 use Rattle.smithy_bind.specs.views.LineView.{IsMade}
-use Rattle.smithy_bind.specs.views.RequestedView.{answer_with, lines_with, IsOperation, TellsInputs, MakesInput, MakesLines}
+use Rattle.smithy_bind.specs.views.RequestedView.{answer_with, lines_with, IsOperation, TellsBehind, TellsInputs, MakesInput, MakesLines}
 
 -- ---- the operation
 
@@ -96,17 +99,43 @@ lines_by : (text : Document → List ℕ) (c : jobs.Common) (ds : List Data) →
 lines_by text c [] = refl
 lines_by text c (d ∷ ds) = λ i. answer_line (by_writes text c d i) ++ lines_by text c ds i
 
-pub lines_read : (text : Document → List ℕ) (stored : ReadOperation) (inputs : Inputs) (values : List Data) (lines : Vec ℕ Global)
-    → ((is : jobs.Common) → IsCommon stored.common is → AreRead stored.common is inputs values) → MakesLines text stored (nodes_among stored.common inputs) inputs.each lines → TellsInputs text stored values lines
-lines_read text stored inputs values lines read made = λ is o.
-    made is o ∙ ap (lines_with (answer_with text is)) (read is o.common).inputs.writes ∙ lines_by text is values
+pub lines_read : (text : Document → List ℕ) (stored : ReadOperation) (inputs : Inputs) (each : Vec (Option WriteList) Global) (nodes : Table) (values : List Data) (lines more : Vec ℕ Global) (is_further : Bool)
+    → nodes ≡ nodes_among stored.common inputs → each ≡ inputs.each → IsReadBy stored.common values inputs → MakesLines text stored nodes each lines more → TellsBehind text stored values lines (more, is_further)
+lines_read text stored inputs each nodes values lines more is_further nodes_are each_is read made = λ is o.
+    made is o
+    ∙ ap (λ t. lines.items ++ t)
+    ((λ i. lines_with (answer_with text is) (map (writes_seen (nodes_are i)) (each_is i).items)) ∙ ap (lines_with (answer_with text is)) (read is o.common).inputs.writes ∙ lines_by text is values)
 
--- the same of an answer, by equal texts and nodes
-pub lines_all : {E : Type 0} (text made_text : Document → List ℕ) (stored : ReadOperation) (inputs : Inputs) (each : Vec (Option WriteList) Global) (nodes : Table) (values : List Data) (r : Result (Vec ℕ Global) E)
-    → made_text ≡ text → nodes ≡ nodes_among stored.common inputs → each ≡ inputs.each → IsReadBy stored.common values inputs → IfOk r (MakesLines made_text stored nodes each) → IfOk r (TellsInputs text stored values)
-lines_all text made_text stored inputs each nodes values (Ok lines) same nodes_are each_is read made =
-    lines_read text stored inputs values lines read (λ is o. made is o ∙ (λ i. lines_with (answer_with (same i) is) (map (writes_seen (nodes_are i)) (each_is i).items)))
-lines_all text made_text stored inputs each nodes values (Err e) same nodes_are each_is read made = tt
+-- the lines of values are those of the first, and of those behind them
+lines_both : (p : Protocol) (c : jobs.Common) (ds es : List Data) → lines_for p c (ds ++ es) ≡ lines_for p c ds ++ lines_for p c es
+lines_both p c [] es = refl
+lines_both p c (d ∷ ds) es =
+    ap (λ t. answer_line (answer_for p c d) ++ t) (lines_both p c ds es) ∙ sym (append_assoc (answer_line (answer_for p c d)) (lines_for p c ds) (lines_for p c es))
+
+-- those of the next values
+pub lines_next : (p : Protocol) (c : jobs.Common) (values part : List JsonValue) (done : ℕ) (all old new : List ℕ) → drop done values ≡ part ++ drop (done + length part) values → new ≡ old ++ lines_for p c (map view part)
+    → old ++ lines_for p c (map view (drop done values)) ≡ all → new ++ lines_for p c (map view (drop (done + length part) values)) ≡ all
+lines_next p c values part done all old new cut extended h =
+    let behind = drop (done + length part) values in
+    ap (λ t. t ++ lines_for p c (map view behind)) extended
+    ∙ append_assoc old (lines_for p c (map view part)) (lines_for p c (map view behind))
+    ∙ ap (λ t. old ++ t) (sym (ap (λ xs. lines_for p c (map view xs)) cut ∙ ap (lines_for p c) (map-append view part behind) ∙ lines_both p c (map view part) (map view behind)))
+    ∙ h
+
+-- nothing is left
+pub lines_done : (p : Protocol) (c : jobs.Common) (values : List JsonValue) (done : ℕ) (all lines : List ℕ) → length values ≤ done → lines ++ lines_for p c (map view (drop done values)) ≡ all → lines ≡ all
+lines_done p c values done all lines past h = sym (append-nil lines) ∙ ap (λ xs. lines ++ lines_for p c (map view xs)) (sym (drop_of_length-le values past)) ∙ h
+
+-- so many of what is left, and what is behind them
+pub cut_few : (values left few : List JsonValue) (done n : ℕ) → left ≡ drop done values → few ≡ take n left → n ≤ length left → drop done values ≡ few ++ drop (done + length few) values
+cut_few values left few done n left_is few_is within =
+    let count : length few ≡ n = ap length few_is ∙ length-take-le n left within in
+    let few_there : take n (drop done values) ≡ few = sym (few_is ∙ ap (take n) left_is) in
+    let behind : drop n (drop done values) ≡ drop (done + length few) values = drop-drop n done values ∙ ap (λ k. drop (done + k) values) (sym count) in
+    sym (take-append-drop n (drop done values)) ∙ (λ i. few_there i ++ behind i)
+
+pub cut_all : (values left : List JsonValue) (done : ℕ) → left ≡ drop done values → drop done values ≡ left ++ drop (done + length left) values
+cut_all values left done left_is = cut_few values left left done (length left) left_is (sym (take_all (length left) left (omega arith))) (omega arith)
 
 -- ---- one input
 

@@ -1,9 +1,9 @@
 // The line of JSON that tells of one input among many (RFC 8259).
-ghost use Rattle.std.specs.Prelude.{◌∷◌, [], IfOk};
+ghost use Rattle.std.specs.Prelude.{◌∷◌, [], IfOk, Some, Ok};
 ghost use Rattle.json.specs.Token as token;
 ghost use Rattle.serde_json.specs.Data.{no_members};
 ghost use Rattle.smithy_document.specs.views.Printing.{Prints};
-ghost use Rattle.smithy_bind.specs.Lines.{base64_value, bytes_value, fault_value, header_value, request_members, with_status};
+ghost use Rattle.smithy_bind.specs.Lines.{answer_value, base64_value, bytes_value, fault_value, header_value, with_status};
 ghost use Rattle.smithy_bind.specs.views.LineView.{data_tokens, headers_tokens, status_tokens, EndsWithLine, WritesAnswer, WritesRefusal};
 
 use crate::shown::refusal_words;
@@ -13,6 +13,9 @@ use smithy_http::{Headers, Request};
 use smithy_serde::SerdeError;
 use smithy_types::OutOfMemory;
 use std::alloc::{AllocError, Global};
+
+// Room for most lines, in a block of the size that the C library keeps for the next.
+const LINE_ROOM: usize = 1000;
 
 // Bytes in base64 (RFC 4648).
 fn write_base64(alloc: Global, writer: &mut Writer, bytes: &[u8]) -> Result<(), AllocError>
@@ -79,7 +82,7 @@ pub fn write_text(writer: &mut Writer, name: &str, text: &str) -> Result<(), All
 
 // A request.
 fn write_request(alloc: Global, writer: &mut Writer, request: &Request) -> Result<(), AllocError>
-    ensures { Prints (data_tokens (with_status 0 (request_members request.now))) writer.old writer.new result }
+    ensures { Prints (data_tokens (answer_value (Some (Ok request.now)))) writer.old writer.new result }
 {
     write_status(writer, 0)?;
     write_text(writer, "method", request.method())?;
@@ -144,14 +147,15 @@ fn write_answer(
 /// form of an input. Takes memory.
 pub fn with_line(
     alloc: Global,
-    lines: Vec<u8>,
+    mut lines: Vec<u8>,
     made: &Option<Result<Request, SerdeError>>,
 ) -> Result<Vec<u8>, OutOfMemory>
     ensures { IfOk result (λ more. EndsWithLine made.now lines.items more.items) }
 {
-    let mut writer = Writer::new(lines);
+    let mut writer = Writer::new(Vec::with_capacity(alloc, LINE_ROOM)?);
     write_answer(alloc, &mut writer, made)?;
-    let mut lines = writer.into_inner();
+    let line = writer.into_inner();
+    lines.extend_from_slice(line.as_slice())?;
     lines.push(b'\n')?;
     Ok(lines)
 }

@@ -2,9 +2,8 @@
 ghost use Rattle.std.specs.Prelude.{◌≡◌, ◌++◌, codes, IfOk, None};
 ghost use Rattle.smithy_document.specs.views.Printing.{Prints};
 ghost use Rattle.smithy_bind.specs.Replying.{reply_line};
-ghost use Rattle.smithy_bind.specs.Responding as answers;
-ghost use Rattle.smithy_bind.specs.Responding.{error_line, shown_reply};
-ghost use Rattle.smithy_bind.specs.views.ReplyView.{error_tokens, front_tokens, name_seen, IsReply, IsReplyLine, IsValueLine, WritesRefused};
+ghost use Rattle.smithy_bind.specs.Responding.{error_line};
+ghost use Rattle.smithy_bind.specs.views.ReplyView.{error_tokens, front_tokens, name_seen, IsReplyLine, IsValueLine, ShowsReply, WritesRefused};
 
 use crate::line::{with_line, write_refusal, write_status, write_text};
 use json::Writer;
@@ -38,7 +37,7 @@ fn error_line(alloc: Global, error: Option<&str>) -> Result<Vec<u8>, AllocError>
 
 /// The line of a value, behind that of its error where that was found for a code. Takes memory.
 pub fn shown_reply(alloc: Global, reply: &Reply<'_>) -> Result<Vec<u8>, AllocError>
-    ensures { IfOk result (λ v. (is : answers.Reply) → IsReply reply.now is → v.items ≡ shown_reply is) }
+    ensures { IfOk result (ShowsReply reply.now) }
 {
     let mut text = error_line(alloc, reply.error)?;
     text.extend_from_slice(reply.text.as_slice())?;

@@ -1,4 +1,5 @@
 // The command `requests`: the requests of many inputs of one operation, whose model is read and checked once.
+ghost use Rattle.std.specs.Prelude.{◌≡◌, ◌+◌, ◌<◌, ◌≤◌, ◌++◌, length, drop};
 ghost use Rattle.smithy_json.specs.JsonView.{view};
 ghost use Rattle.smithy_bind.specs.Outcome.{json_bodies, requested_to};
 ghost use Rattle.smithy_bind.specs.views.AnswerView.{Gives};
@@ -16,6 +17,26 @@ use smithy_serde::{Codec, SerdeError, StructValue, WriteList};
 use smithy_types::OutOfMemory;
 use std::alloc::Global;
 
+// So many inputs are read before they are placed: blocks of memory that are free again serve the next ones.
+const FEW_INPUTS: usize = 4;
+
+// The next of some inputs behind so many of them: a few, or the whole of what is left. Condition: some are left.
+fn next_part<'i, 't>(inputs: &'i [JsonValue<'t>], done: usize, whole: bool) -> &'i [JsonValue<'t>]
+    requires { done < length inputs.now }
+    ensures some { 0 < length result.now }
+    ensures within { done + length result.now ≤ length inputs.now }
+    ensures cut { drop done inputs.now ≡ result.now ++ drop (done + length result.now) inputs.now }
+{
+    let (_, left) = inputs.split_at(done);
+    if whole {
+        return left;
+    }
+    match left.split_at_checked(FEW_INPUTS) {
+        Some((few, _)) => few,
+        None => left,
+    }
+}
+
 /// An operation whose model was read and checked once, and which places any number of inputs.
 #[derive(Drop)]
 pub struct ReadOperation<'v, 't> {
@@ -30,7 +51,7 @@ impl<'v, 't> ReadOperation<'v, 't> {
     ghost use Rattle.smithy_serde.specs.StoredValues.{AreDefined, HasNode};
     ghost use Rattle.smithy_job.specs.Tables.{ReadsAs};
     ghost use Rattle.smithy_bind.specs.Requesting.{operation};
-    ghost use Rattle.smithy_bind.specs.views.RequestedView.{AddsLine, IsOperation, IsRead, MakesInput, MakesLines, PlacesInput, TellsInputs};
+    ghost use Rattle.smithy_bind.specs.views.RequestedView.{AddsLine, IsOperation, IsRead, MakesInput, MakesLines, PlacesInput, TellsBehind, TellsInputs};
 
     /// The operation of a job, whose `input` or `inputs` are not looked at: its model, its name, the endpoint and the headers to be
     /// left out. Takes memory. No job where one of these has not its form, or where no request can be placed by the schema.
@@ -76,8 +97,8 @@ impl<'v, 't> ReadOperation<'v, 't> {
     }
 
     /// A line of JSON for each input, in order, that tells its request, its first fault, or that the value has not the form of
-    /// an input. Nothing of the model is read or checked again, but for one reading where a name in the inputs is no member's.
-    /// Takes memory. Conditions: the operation was read, and the codec is lawful.
+    /// an input. Nothing of the model is read or checked again, but for two readings at most where a name in the inputs is no
+    /// member's. Takes memory. Conditions: the operation was read, and the codec is lawful.
     pub fn lines<C: Codec + Drop>(
         &self,
         alloc: Global,
@@ -89,9 +110,60 @@ impl<'v, 't> ReadOperation<'v, 't> {
         ensures { IfOk result (TellsInputs (C.text codec) self.now (map view inputs.now)) }
     {
         let protocol = HttpBindingProtocol::rest_json(codec);
+        let provider = LowerHeaderNames::new(alloc);
+        let mut names = SchemaExtension::new(alloc, &self.common.model.table, provider)?;
+        self.lines_by(alloc, &protocol, &mut names, inputs)
+    }
+
+    // The lines of inputs by a protocol, a few after the other. From where a name in them is no member's, all that are left are read
+    // at once, so that the model is not read again for each of them.
+    fn lines_by<C: Codec>(
+        &self,
+        alloc: Global,
+        protocol: &HttpBindingProtocol<C>,
+        names: &mut HeaderColumn<'_>,
+        inputs: &[JsonValue<'_>],
+    ) -> Result<Vec<u8>, OutOfMemory>
+        requires lawful { C.lawful protocol.now.codec }
+        requires json { protocol.now.content_type ≡ codes "application/json" }
+        requires read { IsRead self.now }
+        requires beside { names.old.table ≡ self.now.common.model.table }
+        ensures { IfOk result (TellsInputs (C.text protocol.now.codec) self.now (map view inputs.now)) }
+    {
+        let mut lines = Vec::new(alloc);
+        let mut done = 0;
+        let mut whole = false;
+        while done < inputs.len() {
+            let part = next_part(inputs, done, whole);
+            let (more, is_further) = self.with_inputs(alloc, protocol, names, part, lines)?;
+            lines = more;
+            whole = is_further;
+            done += part.len();
+        }
+        Ok(lines)
+    }
+
+    // The lines, and behind them those of inputs, and whether a name in these is no member's.
+    fn with_inputs<C: Codec>(
+        &self,
+        alloc: Global,
+        protocol: &HttpBindingProtocol<C>,
+        names: &mut HeaderColumn<'_>,
+        inputs: &[JsonValue<'_>],
+        lines: Vec<u8>,
+    ) -> Result<(Vec<u8>, bool), OutOfMemory>
+        requires lawful { C.lawful protocol.now.codec }
+        requires json { protocol.now.content_type ≡ codes "application/json" }
+        requires read { IsRead self.now }
+        requires beside { names.old.table ≡ self.now.common.model.table }
+        ensures lines { IfOk result
+            (TellsBehind (C.text protocol.now.codec) self.now (map view inputs.now) lines) }
+        ensures beside { names.new.table ≡ self.now.common.model.table }
+    {
         let Inputs { further, each } = self.common.read_inputs(alloc, inputs)?;
         let nodes = further.as_ref().unwrap_or(&self.common.model.table);
-        self.lines_of(alloc, &protocol, nodes, each)
+        let more = self.lines_of(alloc, protocol, names, nodes, each, lines)?;
+        Ok((more, further.is_some()))
     }
 
     // What comes of the writes of an input, where there are some.
@@ -179,26 +251,28 @@ impl<'v, 't> ReadOperation<'v, 't> {
         with_line(alloc, lines, &made)
     }
 
-    // The lines of inputs, by their writes. The names of their headers are put into lower case once.
+    // The lines, and behind them those of inputs, by their writes.
     fn lines_of<C: Codec>(
         &self,
         alloc: Global,
         protocol: &HttpBindingProtocol<C>,
+        names: &mut HeaderColumn<'_>,
         nodes: &Schemas,
         each: Vec<Option<WriteList>>,
+        mut lines: Vec<u8>,
     ) -> Result<Vec<u8>, OutOfMemory>
         requires lawful { C.lawful protocol.now.codec }
         requires json { protocol.now.content_type ≡ codes "application/json" }
         requires read { IsRead self.now }
         requires node { HasNode nodes.now self.now.common.model.index.0 }
         requires defined { AllByRecursion (λ w. IfSome w (AreDefined nodes.now)) each.items }
-        ensures { IfOk result (MakesLines (C.text protocol.now.codec) self.now nodes.now each) }
+        requires beside { names.old.table ≡ self.now.common.model.table }
+        ensures lines { IfOk result
+            (MakesLines (C.text protocol.now.codec) self.now nodes.now each lines) }
+        ensures beside { names.new.table ≡ self.now.common.model.table }
     {
-        let provider = LowerHeaderNames::new(alloc);
-        let mut names = SchemaExtension::new(alloc, &self.common.model.table, provider)?;
-        let mut lines = Vec::new(alloc);
         for writes in each {
-            lines = self.with_input(alloc, protocol, &mut names, nodes, writes, lines)?;
+            lines = self.with_input(alloc, protocol, names, nodes, writes, lines)?;
         }
         Ok(lines)
     }

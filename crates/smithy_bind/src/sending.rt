@@ -5,7 +5,7 @@ ghost use Rattle.smithy_schema.specs.References.{schema_of};
 ghost use Rattle.smithy_serde.specs.StructValues.{members_of};
 ghost use Rattle.smithy_binding.specs.Checked.{checked_input as checked};
 ghost use Rattle.smithy_bind.specs.Outcome.{json_bodies, sent_by, sent_job};
-ghost use Rattle.smithy_bind.specs.views.AnswerView.{Gives, Sends, IsPlaced, IsPosted, IsStructPlaced};
+ghost use Rattle.smithy_bind.specs.views.AnswerView.{Gives, Sends, IsPlaced, IsPosted};
 
 use crate::told::{Answer, told};
 use smithy_binding::{HttpBindingProtocol, HttpRpcProtocol, LowerHeaderNames, checked_input};
@@ -86,7 +86,7 @@ pub fn placed<C: Codec + Drop>(
 ) -> Result<Request, SerdeError>
     requires checked { IsTrue (checked (schema_of schema)) }
     requires lawful { C.lawful codec }
-    ensures { IsPlaced (C.text codec) schema.entry (members_of input.now) endpoint.now omit result }
+    ensures { IsPlaced (C.text codec) schema.entry input.now endpoint.now omit result }
 {
     let protocol = HttpBindingProtocol::rest_json(codec);
     placed_by(alloc, &protocol, schema, input, endpoint, omit)
@@ -104,7 +104,7 @@ pub fn placed_by<C: Codec>(
     requires checked { IsTrue (checked (schema_of schema)) }
     requires lawful { C.lawful protocol.now.codec }
     requires json { protocol.now.content_type ≡ codes "application/json" }
-    ensures { IsPlaced (C.text protocol.now.codec) schema.entry (members_of input.now) endpoint.now omit result }
+    ensures { IsPlaced (C.text protocol.now.codec) schema.entry input.now endpoint.now omit result }
 {
     protocol.serialize_request(alloc, input, schema, endpoint, omit)
 }
@@ -123,7 +123,7 @@ pub fn placed_among<C: Codec>(
     requires lawful { C.lawful protocol.now.codec }
     requires json { protocol.now.content_type ≡ codes "application/json" }
     requires beside { names.old.table ≡ (schema_of schema).table }
-    ensures placed { IsStructPlaced (C.text protocol.now.codec) schema.entry input.now endpoint.now omit result }
+    ensures placed { IsPlaced (C.text protocol.now.codec) schema.entry input.now endpoint.now omit result }
     ensures beside { names.new.table ≡ (schema_of schema.entry).table }
 {
     protocol.serialize_request_cached(alloc, input, schema, endpoint, omit, names)

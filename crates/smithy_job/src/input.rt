@@ -45,14 +45,16 @@ fn pairs_at<'t>(
     ensures writes { ReadsWrites model.entry names.new (pairs_at schema.entry items.now) result }
 {
     let mut writes = WriteList::new(alloc);
+    let mut before = None;
     for item in items {
         let Some((name, value)) = pair_of(item) else {
             return Err(JobError::NoJob);
         };
-        let node = member_at(Some(schema), name);
+        let node = member_at(Some(schema), before, name);
         let index = index_of_member(model, names, node, name)?;
         let value = value_at(alloc, model, names, node, value)?;
         writes.push(index, value)?;
+        before = node;
     }
     Ok(writes)
 }

@@ -64,15 +64,28 @@ pub fn value_of(here: Option<SchemaRef<'_>>) -> Option<SchemaRef<'_>>
     here?.value()
 }
 
-/// The member of this name, of the structure that the node is of.
-pub fn member_at<'t>(here: Option<SchemaRef<'t>>, name: &str) -> Option<SchemaRef<'t>>
+/// The member of this name, of the structure that the node is of. It is looked for first behind another member, by byte order of
+/// the names, where there is one before it.
+pub fn member_at<'t>(
+    here: Option<SchemaRef<'t>>,
+    before: Option<SchemaRef<'_>>,
+    name: &str,
+) -> Option<SchemaRef<'t>>
     ensures { node_of result ≡ member_at (node_of here.entry) name.now }
 {
     let node = here?;
+    let position = position_of(before);
     match node.target() {
-        Some(shape) => shape.member_schema(name),
-        None => node.member_schema(name),
+        Some(shape) => shape.member_schema_behind(position, name),
+        None => node.member_schema_behind(position, name),
     }
+}
+
+// The position of a member.
+fn position_of(member: Option<SchemaRef<'_>>) -> Option<usize>
+    ensures { result ≡ option_and_then (λ s. s.node.member_index) (node_of member.entry) }
+{
+    member?.member_index()
 }
 
 /// The index of a node, and that of natural values at none.

@@ -122,11 +122,13 @@ pub fn members_at<'t>(
     ensures writes { ReadsWrites model.entry names.new (members_at here.entry members.now) result }
 {
     let mut writes = WriteList::new(alloc);
+    let mut before = None;
     for member in members {
-        let node = member_at(here, member.0);
+        let node = member_at(here, before, member.0);
         let index = index_of_member(model, names, node, member.0)?;
         let value = value_at(alloc, model, names, node, &member.1)?;
         writes.push(index, value)?;
+        before = node;
     }
     Ok(writes)
 }

@@ -47,14 +47,10 @@ job_of s ws e o = record { schema = s; writes = list_of ws; endpoint = e; omit =
 abbrev pub Sends : Sending → (Document → List ℕ) → SchemaRef → Writes → List ℕ → OmitFlags → Result Answer JobError → Type 0
 Sends sending text schema ws endpoint omit result = Gives (sent_by sending (json_bodies text) (job_of (schema_of schema) ws endpoint omit)) result
 
--- a request that is placed with bodies of these texts, or the first fault of its input
-abbrev pub IsPlaced : (Document → List ℕ) → SchemaRef → Writes → List ℕ → OmitFlags → Result Request SerdeError → Type 0
-IsPlaced text schema ws endpoint omit result =
-    Answers result (answer (json_bodies text) (schema_of schema) (list_of ws) endpoint omit)
-
--- the same of a structure that keeps its writes
-abbrev pub IsStructPlaced : (Document → List ℕ) → SchemaRef → StructValue → List ℕ → OmitFlags → Result Request SerdeError → Type 0
-IsStructPlaced text schema input endpoint omit result = IsPlaced text schema (members_of input) endpoint omit result
+-- the request of a structure that keeps its writes is placed with bodies of these texts, or it is its first fault
+abbrev pub IsPlaced : (Document → List ℕ) → SchemaRef → StructValue → List ℕ → OmitFlags → Result Request SerdeError → Type 0
+IsPlaced text schema input endpoint omit result =
+    Answers result (answer (json_bodies text) (schema_of schema) (list_of (members_of input)) endpoint omit)
 
 -- a request that is posted whole, or the first fault of its input
 abbrev pub IsPosted : (Document → List ℕ) → Writes → List ℕ → OmitFlags → Result Request SerdeError → Type 0

@@ -32,7 +32,7 @@ use Rattle.smithy_job.specs.declared.received.Message.{Message}
 use Rattle.smithy_bind.specs.Lines.{fault_value}
 use Rattle.smithy_bind.specs.Replying.{reply_line}
 use Rattle.smithy_bind.specs.Responding as answers
-use Rattle.smithy_bind.specs.Responding.{body_held, by_schema, checked_target, document_read, error_of, reply_by, target_asked, target_found, target_of, unknown}
+use Rattle.smithy_bind.specs.Responding.{body_held, by_schema, checked_target, document_read, error_of, reply_by, shown_reply, target_asked, target_found, target_of, unknown}
 use Rattle.smithy_bind.specs.Shown.{refusal_words}
 use Rattle.smithy_bind.specs.views.LineView.{status_tokens}
 use Rattle.smithy_bind.specs.declared.reply.Reply.{Reply}
@@ -49,6 +49,10 @@ name_seen error = option_map (λ t. t.now) error
 pub record IsReply (stored : Reply) (is : answers.Reply) : Type 0 where
   pub error : name_seen stored.error ≡ is.error
   pub text : stored.text ≡ json_text is.document
+
+-- it is the text of what is read of a response
+abbrev pub ShowsReply : Reply → Vec ℕ Global → Type 0
+ShowsReply reply text = (is : answers.Reply) → IsReply reply is → text.items ≡ shown_reply is
 
 -- this was made, or refused with this; want of memory is free
 abbrev pub Makes : {A V : Type 0} → (A → V → Type 0) → Result V SerdeError → Result A SerdeError → Type 0

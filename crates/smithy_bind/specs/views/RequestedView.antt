@@ -1,5 +1,5 @@
 -- An operation that was read once, and what is made of its inputs.
-use Rattle.std.specs.Prelude.{◌≡◌, ℕ, List, [], ◌∷◌, ◌++◌, map, Vec, Option, Result, IsTrue, option_map}
+use Rattle.std.specs.Prelude.{◌≡◌, ℕ, Bool, List, [], ◌∷◌, ◌++◌, map, Vec, Option, Result, IsTrue, option_map}
 use Rattle.std.specs.declared.alloc.Global.{Global}
 use Rattle.serde_json.specs.Data.{Data}
 use Rattle.smithy_types.specs.Documents.{Document}
@@ -39,6 +39,10 @@ PlacesInput text stored d result = (is : Common) → IsOperation stored is → R
 abbrev pub TellsInputs : (Document → List ℕ) → ReadOperation → List Data → Vec ℕ Global → Type 0
 TellsInputs text stored ds lines = (is : Common) → IsOperation stored is → lines.items ≡ lines_for (json_bodies text) is ds
 
+-- the lines, and behind them those of inputs, with bodies of these texts
+abbrev pub TellsBehind : (Document → List ℕ) → ReadOperation → List Data → Vec ℕ Global → Vec ℕ Global × Bool → Type 0
+TellsBehind text stored ds lines more = (is : Common) → IsOperation stored is → more.0.items ≡ lines.items ++ lines_for (json_bodies text) is ds
+
 -- the request of writes or their first fault
 abbrev pub answer_with : (Document → List ℕ) → Common → List Write → Result Request Fault
 answer_with text c ws = answer (json_bodies text) c.schema ws c.endpoint c.omit
@@ -57,6 +61,6 @@ abbrev pub lines_with : (List Write → Result Request Fault) → List (Option (
 lines_with f [] = []
 lines_with f (w ∷ ws) = answer_line (option_map f w) ++ lines_with f ws
 
--- they are the lines of what comes of the writes of inputs, over these nodes
-abbrev pub MakesLines : (Document → List ℕ) → ReadOperation → Table → Vec (Option WriteList) Global → Vec ℕ Global → Type 0
-MakesLines text stored nodes each lines = (is : Common) → IsOperation stored is → lines.items ≡ lines_with (answer_with text is) (map (writes_seen nodes) each.items)
+-- the lines, and behind them those of what comes of the writes of inputs, over these nodes
+abbrev pub MakesLines : (Document → List ℕ) → ReadOperation → Table → Vec (Option WriteList) Global → Vec ℕ Global → Vec ℕ Global → Type 0
+MakesLines text stored nodes each lines more = (is : Common) → IsOperation stored is → more.items ≡ lines.items ++ lines_with (answer_with text is) (map (writes_seen nodes) each.items)

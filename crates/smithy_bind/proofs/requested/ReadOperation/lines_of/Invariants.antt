@@ -15,5 +15,5 @@ invariant-loop-writes g l = record {
   beside : l.names.table ≡ l.self.common.model.table;
   lines : (is : Common) → IsOperation l.self is
       → l.lines.items ++ lines_with (answer_with (g.C.Codec.text l.protocol.codec) is) (map (writes_seen l.nodes) (into_iter_items l.writes-iterator))
-      ≡ lines_with (answer_with (g.C.Codec.text l.protocol.codec) is) (map (writes_seen l.nodes) l.fn.each.items);
+      ≡ l.fn.lines.items ++ lines_with (answer_with (g.C.Codec.text l.protocol.codec) is) (map (writes_seen l.nodes) l.fn.each.items);
 }
