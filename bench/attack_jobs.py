@@ -110,6 +110,19 @@ def equal_routes(count):
     return job(shapes, operations=[it for it in shapes if it != "a#In"], request={"method": "GET", "target": "/x/y/0"})
 
 
+def holes_beside_literals(count):
+    """Routes that begin with a literal, and as many that begin with a hole, of which none meets another."""
+    pairs = [(f"/{it}/a{it}", "/{a}/" + f"b{it}") for it in range(count // 2)]
+    shapes = {}
+    for it, (literal, hole) in enumerate(pairs):
+        shapes[f"a#Literal{it}"] = operation(literal, "GET", input="a#None")
+        shapes[f"a#Hole{it}"] = operation(hole, "GET", input="a#In")
+    names = list(shapes)
+    shapes["a#None"] = structure({})
+    shapes["a#In"] = structure({"a": member(PRELUDE + "String", httpLabel={})})
+    return job(shapes, operations=names, request={"method": "GET", "target": "/x/b0"})
+
+
 def many_routes(count):
     """Routes of methods of their own."""
     shapes = {f"a#Op{it}": operation("/p", f"M{it}", input="a#In") for it in range(count)}
@@ -459,6 +472,7 @@ ATTACKS = [
     Attack("a query map with the names of query members", "request", query_map, TEN),
     Attack("operations that differ in a literal", "route", equal_routes, (300, 3_000)),
     Attack("operations of other methods", "route", many_routes, (300, 3_000)),
+    Attack("operations with a hole beside those with a literal", "route", holes_beside_literals, (300, 3_000)),
     Attack("N structures of N members, sent", "request", wide_sent, (1_000, 10_000)),
     Attack("N structures of N members, received", "response", wide_received, (1_000, 10_000)),
     Attack("N structures of N members, one of each received", "response", wide_received_one, (1_000, 10_000)),

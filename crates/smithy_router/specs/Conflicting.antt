@@ -53,6 +53,10 @@ met nodes (suc n) place ss =
     option_map_or (λ node. node.greedy.items ++ (node.ends.items ++ from_each (λ p. met nodes n p (behind ss)) (children_met node ss)))
     (option_and_then (slice_get nodes) place) []
 
+-- the first so far, or the least of these whose entry conflicts
+abbrev pub first_below : Newcomer → ℕ → ℕ → Option ℕ → List Segment → ℕ
+first_below new first levels place ss = first_among new first (met new.tree.now.nodes.items levels place ss)
+
 -- how many levels below that of its method the routes end that a route may meet
 abbrev pub levels_of : Route → ℕ
 levels_of route = if goes_on route then 32 else length route.segments

@@ -1,6 +1,6 @@
 // The first entry that a new route conflicts with, looked for where a path of both can lead.
 ghost use Rattle.std.specs.Prelude.{◌≡◌};
-ghost use Rattle.smithy_router.specs.Conflicting.{behind, conflicts_at, earlier, first_among, first_literal, levels_of, met};
+ghost use Rattle.smithy_router.specs.Conflicting.{behind, conflicts_at, earlier, first_among, first_below, first_literal, levels_of};
 ghost use Rattle.smithy_router.specs.Seen.{best_seen, route_seen, segments_seen, text_seen};
 ghost use Rattle.smithy_router.specs.Tables.{first_conflict};
 ghost use Rattle.smithy_router.specs.Tree.{entries_of, IsSound};
@@ -77,8 +77,7 @@ fn first_below(
     segments: &[PathSegment],
     first: usize,
 ) -> usize
-    ensures { result
-        ≡ first_among new.now first (met new.now.tree.now.nodes.items levels place (segments_seen segments.now)) }
+    ensures { result ≡ first_below new.now first levels place (segments_seen segments.now) }
 {
     let Some(node) = node_at(&new.tree.nodes, place) else {
         return first;
