@@ -485,6 +485,7 @@ ATTACKS = [
     Attack("traits, of which the last has another form", "explain rpc", wrong_trait, TEN),
     Attack("errors, of which the last has no type", "explain response", wrong_error, (1_000, 10_000)),
     Attack("operations of an input whose member has no shape", "explain route", wrong_routes, (300, 3_000)),
+    Attack("N operations of one input of N members, explained", "explain route", wide_routes, (50, 500)),
     Attack("members in the query, of which two are alike", "explain request", equal_query_names, (6_500, 65_000)),
     Attack("members in the path, of which one has no hole", "explain request", without_hole, (2_000, 20_000)),
     Attack("members in the body, explained", "explain gateway", sent_on_fields, (6_500, 65_000)),

@@ -6,8 +6,8 @@ use serde_json::Value;
 use smithy_http::NonUtf8HeaderHandling;
 use smithy_job::{
     CodedError, Expected, Gateway, Job, NamedOperations, NamedRouting, Operation, Received,
-    Recovering, Routing, Sending, read_gateway, read_job, read_named_routing, read_received,
-    read_recovering, read_routing,
+    Recovering, Sending, read_gateway, read_job, read_named_routing, read_received,
+    read_recovering,
 };
 use smithy_json::{JsonValue, Scratch, read_json};
 use smithy_model::{is_full_name, members_of, text_of};
@@ -21,6 +21,14 @@ use test_rows::{Failed, count_of, text_of as given_text, told_bytes};
 /// The answer of one of these calls; none of another.
 pub fn answer(alloc: Global, call: &str, given: &Value) -> Result<Option<Text>, Failed> {
     match call {
+<<<<<<< ours
+=======
+        "read_job" => Ok(Some(job(alloc, given)?)),
+        "read_received" => Ok(Some(received(alloc, given)?)),
+        "read_recovering" => Ok(Some(recovering(alloc, given)?)),
+        "read_named_routing" => Ok(Some(named_routing(alloc, given)?)),
+        "read_gateway" => Ok(Some(gateway(alloc, given)?)),
+>>>>>>> theirs
         "is_full_name" => {
             let is_name = is_full_name(given_text(given, "name")?);
             Ok(Some(flag_text(alloc, is_name)?))
@@ -155,47 +163,49 @@ fn recovering_text(alloc: Global, job: &Recovering<'_>) -> Result<Text, Failed> 
     Ok(text)
 }
 
+<<<<<<< ours
 fn routing(alloc: Global, value: &JsonValue<'_>) -> Result<Text, Failed> {
     match read_routing(alloc, value) {
         Ok(job) => routing_text(alloc, job),
+=======
+fn named_routing(alloc: Global, given: &Value) -> Result<Text, Failed> {
+    let bytes = job_bytes(alloc, given)?;
+    let mut scratch = Scratch::new(alloc);
+    let value = match read_json(alloc, bytes.as_slice(), &mut scratch) {
+        Ok(value) => value,
+        Err(refusal) => return no_job(alloc, refusal.into()),
+    };
+    match read_named_routing(alloc, &value) {
+        Ok(job) => named_text(alloc, job),
+>>>>>>> theirs
         Err(refusal) => no_job(alloc, refusal),
     }
 }
 
-// A line for each operation, and then the job in which the last one recovers the input; without one the request.
-fn routing_text(alloc: Global, job: Routing<'_>) -> Result<Text, Failed> {
-    let Routing {
-        mut operations,
-        request,
-        omit,
-    } = job;
+// A line for each name, of its operation or that there is none, and then the job in which the last one recovers the input; where it
+// is none, the request.
+fn named_text(alloc: Global, job: NamedRouting<'_, '_>) -> Result<Text, Failed> {
     let mut text = Text::from_str(alloc, "")?;
-    for operation in &operations {
-        push_operation(alloc, &mut text, operation)?;
-    }
-    match operations.pop() {
-        Some(last) => {
-            let job = last.into_recovering(request, omit);
-            text.push_str(recovering_text(alloc, &job)?.as_str())?;
-        }
-        None => text.push_str(request_text(alloc, &request)?.as_str())?,
-    }
+    push_named(alloc, &mut text, &job.operations)?;
+    text.push_str(last_text(alloc, job)?.as_str())?;
     Ok(text)
 }
 
+<<<<<<< ours
 fn named_routing(alloc: Global, value: &JsonValue<'_>) -> Result<Text, Failed> {
     match read_named_routing(alloc, value) {
         Ok(job) => named_text(alloc, &job),
         Err(refusal) => no_job(alloc, refusal),
+=======
+fn last_text(alloc: Global, job: NamedRouting<'_, '_>) -> Result<Text, Failed> {
+    let Some(name) = job.operations.names.last() else {
+        return request_text(alloc, &job.request);
+    };
+    match job.operations.read(alloc, name) {
+        Ok(last) => recovering_text(alloc, &last.into_recovering(job.request, job.omit)),
+        Err(_) => request_text(alloc, &job.request),
+>>>>>>> theirs
     }
-}
-
-// A line for each name, of its operation or that there is none, and then the request.
-fn named_text(alloc: Global, job: &NamedRouting<'_, '_>) -> Result<Text, Failed> {
-    let mut text = Text::from_str(alloc, "")?;
-    push_named(alloc, &mut text, &job.operations)?;
-    text.push_str(request_text(alloc, &job.request)?.as_str())?;
-    Ok(text)
 }
 
 fn push_named(

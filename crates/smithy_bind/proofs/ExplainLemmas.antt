@@ -1,6 +1,6 @@
 -- What is told of a job by its schema, from its parts.
-use Rattle.std.proofs.Common.{◌≡◌, ◌∙◌, sym, ap, subst, refl, ℕ, ◌+◌, ◌<◌, ◌≤◌, List, length, get_or, drop, map, Option, Some, None, Result, Ok, Err, option_map, option_and_then}
-use Rattle.std.specs.Option.{option_map_or}
+use Rattle.std.proofs.Common.{◌≡◌, ◌∙◌, sym, ap, subst, refl, ℕ, ◌+◌, ◌<◌, ◌≤◌, List, [], ◌∷◌, length, get_or, drop, map, Option, Some, None, Result, Ok, Err, option_map, option_and_then}
+use Rattle.std.specs.Option.{option_map_or, option_or}
 use Rattle.std.proofs.Math.ListN.{drop_of_length-le}
 use Rattle.std.proofs.lemmas.List.{drop_more}
 use Rattle.serde_json.specs.Data.{Data}
@@ -11,6 +11,8 @@ use Rattle.smithy_schema.specs.declared.parts.SchemaIndex.{SchemaIndex}
 use Rattle.smithy_binding.specs.Broken.{Broken, broken_input, broken_output}
 use Rattle.smithy_binding.specs.declared.rules.BrokenRule.{BrokenRule}
 use Rattle.smithy_binding.specs.views.Breaking.{broken_of, broken_shown}
+use Rattle.smithy_types.specs.Results.{each}
+use Rattle.smithy_model.specs.Reads.{Reads}
 use Rattle.smithy_model.specs.Wrong.{Wrong}
 use Rattle.smithy_model.specs.declared.error.JobError.{JobError}
 use Rattle.smithy_model.specs.declared.error.JobError.TheVariants.{NoJob, OutOfMemory}
@@ -23,6 +25,8 @@ use Rattle.smithy_job.specs.GatewayView.{IsGateway}
 use Rattle.smithy_job.specs.JobView.{IsJob}
 use Rattle.smithy_job.specs.ReceivedView.{IsExpected, IsReceived}
 use Rattle.smithy_job.specs.RecoveringView.{IsRecovering}
+use Rattle.smithy_job.specs.Routing.{Operation, Routing, routing}
+use Rattle.smithy_job.specs.RoutingView.{all_named, operation_seen, routing_of}
 use Rattle.smithy_job.specs.Tables.{Has}
 use Rattle.smithy_job.specs.WrittenView.{IsAnswering}
 use Rattle.smithy_job.specs.declared.answering.Answering.{Answering}
@@ -31,13 +35,15 @@ use Rattle.smithy_job.specs.declared.reading.Job.{Job}
 use Rattle.smithy_job.specs.declared.received.CodedError.{CodedError}
 use Rattle.smithy_job.specs.declared.received.Expected.TheVariants.{Output, Error, Coded}
 use Rattle.smithy_job.specs.declared.received.Received.{Received}
+use Rattle.smithy_job.specs.declared.job_kind.JobKind.TheVariants as kind
 use Rattle.smithy_job.specs.declared.recovering.Recovering.{Recovering}
-use Rattle.smithy_bind.specs.Explaining.{before, broken_expected, in_owner, job_line, line_of_rule, not_checked, not_job, only, by_response, rule_among, rule_of_items, Breach}
-use Rattle.smithy_bind.specs.Told.{output}
+use Rattle.smithy_job.specs.declared.routing.NamedRouting.{NamedRouting}
+use Rattle.smithy_bind.specs.Explaining.{before, broken_expected, broken_operation, in_owner, job_line, line_of_rule, not_checked, not_job, only, by_operation, by_response, rule_among, rule_in, rule_of_items, Breach}
+use Rattle.smithy_bind.specs.Told.{Outcome, output, outcome_of}
 use Rattle.smithy_bind.specs.declared.told.Answer.{Answer}
 use Rattle.smithy_bind.specs.declared.told.Answer.TheVariants.{Fault, Output as Told}
 use Rattle.smithy_bind.specs.views.AnswerView.{Gives}
-use Rattle.smithy_bind.specs.views.ExplainingView.{told_rule, FindsCodedRule, FindsExpectedRule, FindsRule, IsRuleFound, TellsBroken, TellsItem, TellsRule}
+use Rattle.smithy_bind.specs.views.ExplainingView.{line_of_broken, told_or, told_rule, with_broken, FindsCodedRule, FindsExpectedRule, FindsRule, IsRuleFound, TellsBroken, TellsItem, TellsRule}
 use Rattle.smithy_bind.specs.views.CodedView.{IsFound}
 use Rattle.smithy_bind.specs.views.ReplyView.{IsExpectable}
 
@@ -176,3 +182,51 @@ module _ (job : Data) (items : List JsonValue) (i : ℕ) (x : JsonValue) (within
 pub items_end : (job : Data) (items : List JsonValue) (i : ℕ) (all : Option (Option Breach)) (r : Result Answer JobError) → length items ≤ i → rule_of_items job i (map view (drop i items)) ≡ all
     → Gives (output job_line) r → TellsRule all r
 items_end job items i all r past h told = rw (sym h ∙ ap (λ vs. rule_of_items job i (map view vs)) (drop_of_length-le items past)) told
+
+-- ---- operations, one at a time
+
+told_more : (told : Option Outcome) (o : Operation) (os : List Operation) → told_or told (o ∷ os) ≡ told_or (with_broken told o) os
+told_more (Some told) o os = refl
+told_more None o os = go (broken_input o.schema)
+  where
+    go : (b : Option Broken) → told_rule (option_or (option_map (in_owner (by_operation o.name)) b) (broken_operation os)) ≡ told_or (option_map (line_of_broken o.name) b) os
+    go None = refl
+    go (Some b) = refl
+
+all_more : (told : Option Outcome) (o : Operation) (all : Option (List Operation)) → option_map (told_or told) (option_map (λ os. o ∷ os) all) ≡ option_map (told_or (with_broken told o)) all
+all_more told o None = refl
+all_more told o (Some os) = ap Some (told_more told o os)
+
+pub operation_told : (read : Data → Option Operation) (xs : List JsonValue) (i : ℕ) (x : JsonValue) (told more : Option Outcome) (o : Operation) (whole : Option Outcome) → i < length xs → x ≡ get_or xs i x → read (view x) ≡ Some o
+    → more ≡ with_broken told o → option_map (told_or told) (each read (map view (drop i xs))) ≡ whole → option_map (told_or more) (each read (map view (drop (i + 1) xs))) ≡ whole
+operation_told read xs i x told more o whole l is at m so_far =
+    let rest = each read (map view (drop (i + 1) xs)) in
+    let here : option_map (told_or told) (each read (map view (drop i xs))) ≡ option_map (told_or told) (option_map (λ os. o ∷ os) (each read (map view (drop (i + 1) xs)))) =
+    rw (drop_more xs i x l, ← is, at) refl in
+    ap (λ t. option_map (told_or t) rest) m ∙ sym (all_more told o rest) ∙ sym here ∙ so_far
+
+-- the outcome of all of them
+told_all : (all : Option (List Operation)) → outcome_of (λ t. t) (option_map (told_or None) all) ≡ outcome_of told_rule (option_map broken_operation all)
+told_all None = refl
+told_all (Some os) = refl
+
+pub operations_end : (read : Data → Option Operation) (xs : List JsonValue) (i : ℕ) (all : Option (List Operation)) (told : Option Outcome) (r : Result Answer JobError) → length xs ≤ i
+    → option_map (told_or told) (each read (map view (drop i xs))) ≡ option_map (told_or None) all → Gives (told_or told []) r → TellsRule (option_map broken_operation all) r
+operations_end read xs i all told r past so_far gives =
+    let end : Some (told_or told []) ≡ option_map (told_or None) all = sym (ap (λ vs. option_map (told_or told) (each read (map view vs))) (drop_of_length-le xs past)) ∙ so_far in
+    subst (λ (o : Outcome). Gives o r) (ap (outcome_of (λ t. t)) end ∙ told_all all) gives
+
+pub operations_refused : (read : Data → Option Operation) (xs : List JsonValue) (i : ℕ) (x : JsonValue) (told : Option Outcome) (all : Option (List Operation)) (e : JobError) (r : Result Answer JobError) → r ≡ Err e → i < length xs → x ≡ get_or xs i x
+    → Reads operation_seen (read (view x)) (Err e) → option_map (told_or told) (each read (map view (drop i xs))) ≡ option_map (told_or None) all → TellsRule (option_map broken_operation all) r
+operations_refused read xs i x told all OutOfMemory r same l is none so_far = rw same tt
+operations_refused read xs i x told all NoJob r same l is none so_far =
+    let here : option_map (told_or told) (each read (map view (drop i xs))) ≡ None = rw (drop_more xs i x l, ← is, none) refl in
+    rw same (ap (outcome_of (λ t. t)) (sym here ∙ so_far) ∙ told_all all)
+
+-- the rule of operations that a value names
+pub routing_told : (d : Data) (j : NamedRouting) (r : Result Answer JobError) → routing d ≡ routing_of (all_named j.operations) j → TellsRule (option_map broken_operation (all_named j.operations)) r → TellsRule (rule_in kind.Route d) r
+routing_told d j r is told = subst (λ (o : Option Routing). TellsRule (option_map (λ x. broken_operation x.operations) o) r) (sym is) (go (all_named j.operations) told)
+  where
+    go : (all : Option (List Operation)) → TellsRule (option_map broken_operation all) r → TellsRule (option_map (λ x. broken_operation x.operations) (routing_of all j)) r
+    go None told = told
+    go (Some os) told = told

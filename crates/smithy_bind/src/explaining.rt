@@ -1,19 +1,19 @@
 // The command `explain`: whether bytes are the job of a command, or why they are none.
-ghost use Rattle.std.specs.Prelude.{◌≡◌, map, IfOk};
+ghost use Rattle.std.specs.Prelude.{◌≡◌, [], map, option_map, IfOk};
 ghost use Rattle.smithy_json.specs.JsonView.{view};
 ghost use Rattle.smithy_serde.specs.StoredValues.{HasNode};
 ghost use Rattle.smithy_binding.specs.Broken.{broken_input, broken_output};
 ghost use Rattle.smithy_binding.specs.views.Breaking.{broken_of, broken_shown};
 ghost use Rattle.smithy_job.specs.KeysView.{keys_seen};
-ghost use Rattle.smithy_job.specs.RoutingView.{operations_seen};
+ghost use Rattle.smithy_job.specs.RoutingView.{all_named, operation_seen};
 ghost use Rattle.smithy_job.specs.WrongJobs.{wrong_in_job};
 ghost use Rattle.smithy_job.specs.declared.job_kind.JobKind.TheVariants as kind_of;
-ghost use Rattle.smithy_bind.specs.Explaining.{broken_operation, in_owner, line_at, line_of_value, not_checked, not_job, not_json, only, by_job, by_operation, by_response, rule_among, rule_in, rule_of_items};
+ghost use Rattle.smithy_bind.specs.Explaining.{broken_operation, in_owner, line_at, line_of_value, not_checked, not_job, not_json, only, by_job, by_response, rule_among, rule_in, rule_of_items};
 ghost use Rattle.smithy_bind.specs.Outcome.{unread};
 ghost use Rattle.smithy_bind.specs.Told.{output};
-ghost use Rattle.smithy_bind.specs.views.AnswerView.{Gives};
+ghost use Rattle.smithy_bind.specs.views.AnswerView.{outcome_view, Gives};
 ghost use Rattle.smithy_bind.specs.views.CodedView.{Stand};
-ghost use Rattle.smithy_bind.specs.views.ExplainingView.{told_rule, FindsCodedRule, FindsExpectedRule, FindsRule, TellsBroken, TellsItem, TellsRule};
+ghost use Rattle.smithy_bind.specs.views.ExplainingView.{line_of_broken, told_broken, told_or, told_rule, told_seen, with_broken, FindsCodedRule, FindsExpectedRule, FindsRule, TellsBroken, TellsItem, TellsRule};
 ghost use Rattle.smithy_bind.specs.views.ReplyView.{IsExpectable};
 
 use crate::coded::error_of_code;
@@ -21,13 +21,14 @@ use crate::command::Command;
 use crate::told::{Answer, said};
 use smithy_binding::{BrokenRule, broken_input_rule, broken_output_rule};
 use smithy_job::{
-    CodedError, Expected, JobKind, Keys, Operation, read_answering, read_gateway, read_job,
-    read_received, read_received_by, read_recovering, read_routing, read_whole, responses_of,
-    wrong_in_job,
+    CodedError, Expected, JobKind, Keys, NamedOperations, Operation, read_answering, read_gateway,
+    read_job, read_named_routing, read_received, read_received_by, read_recovering, read_whole,
+    responses_of, wrong_in_job,
 };
 use smithy_json::{JsonValue, json_end};
 use smithy_model::{JobError, pointer_of};
 use smithy_schema::{SchemaIndex, Schemas};
+use smithy_types::OutOfMemory;
 use std::alloc::{AllocError, Global};
 
 // The line of a job.
@@ -154,8 +155,8 @@ fn recovering_told(alloc: Global, value: &JsonValue<'_>) -> Result<Answer, JobEr
 fn routing_told(alloc: Global, value: &JsonValue<'_>) -> Result<Answer, JobError>
     ensures { TellsRule (rule_in kind_of.Route (view value.now)) result }
 {
-    let job = read_routing(alloc, value)?;
-    operations_told(alloc, job.operations.as_slice())
+    let job = read_named_routing(alloc, value)?;
+    operations_told(alloc, &job.operations)
 }
 
 fn gateway_told(alloc: Global, value: &JsonValue<'_>) -> Result<Answer, JobError>
@@ -269,16 +270,51 @@ fn expected_rule<'s>(
     }
 }
 
-// What is told of operations by the schemas of their inputs.
-fn operations_told(alloc: Global, operations: &[Operation<'_>]) -> Result<Answer, JobError>
-    ensures { Gives (told_rule (broken_operation (operations_seen operations.now))) result }
+// What is told of operations by the schemas of their inputs, of which one is held at a time. No job where a name is that of none.
+fn operations_told(alloc: Global, operations: &NamedOperations<'_, '_>) -> Result<Answer, JobError>
+    ensures { TellsRule (option_map broken_operation (all_named operations.now)) result }
 {
-    for operation in operations {
-        if let Some(broken) = broken_input_rule(alloc, operation.schema())? {
-            return operation_not_checked(alloc, operation.name, &broken);
-        }
+    let names = operations.names;
+    let mut told = None;
+    for name in names {
+        let operation = operations.read(alloc, name)?;
+        told = told_with(alloc, told, &operation)?;
     }
-    said(alloc, JOB.as_bytes())
+    job_unless(alloc, told)
+}
+
+// What is told already, or else what is told of an operation.
+fn told_with(
+    alloc: Global,
+    told: Option<Answer>,
+    operation: &Operation<'_>,
+) -> Result<Option<Answer>, OutOfMemory>
+    ensures { IfOk result (λ t. told_seen t ≡ with_broken (told_seen told) (operation_seen operation.now)) }
+{
+    match told {
+        Some(told) => Ok(Some(told)),
+        None => told_broken(alloc, operation),
+    }
+}
+
+// What is told of an operation where its schema isn't checked.
+fn told_broken(alloc: Global, operation: &Operation<'_>) -> Result<Option<Answer>, OutOfMemory>
+    ensures { IfOk result (λ told. told_seen told ≡ told_broken (operation_seen operation.now)) }
+{
+    match broken_input_rule(alloc, operation.schema())? {
+        Some(broken) => Ok(Some(operation_not_checked(alloc, operation.name, &broken)?)),
+        None => Ok(None),
+    }
+}
+
+// What is told, or else that it is a job.
+fn job_unless(alloc: Global, told: Option<Answer>) -> Result<Answer, JobError>
+    ensures { Gives (told_or (told_seen told) []) result }
+{
+    match told {
+        Some(told) => Ok(told),
+        None => said(alloc, JOB.as_bytes()),
+    }
 }
 
 // What is told by the first broken rule of a schema, if there is one.
@@ -304,8 +340,8 @@ fn operation_not_checked(
     alloc: Global,
     name: &str,
     broken: &BrokenRule<'_>,
-) -> Result<Answer, JobError>
-    ensures { Gives (output (not_checked (in_owner (by_operation name.now) (broken_of broken.now)))) result }
+) -> Result<Answer, AllocError>
+    ensures { IfOk result (λ a. outcome_view a ≡ line_of_broken name.now (broken_of broken.now)) }
 {
     let line = format!(in alloc; "NotChecked: operation {name}: {broken}\n")?;
     Ok(Answer::Output(line.into_bytes()))

@@ -43,6 +43,6 @@ pub use received::{
     read_received, read_received_by,
 };
 pub use recovering::{Recovering, read_recovering};
-pub use routing::{NamedRouting, Routing, read_named_routing, read_routing};
+pub use routing::{NamedRouting, read_named_routing};
 pub use written::Written;
 pub use wrong_job::wrong_in_job;

@@ -1,12 +1,10 @@
 // The job of a request whose operation is to be found.
 ghost use Rattle.std.specs.Prelude.{◌≡◌, option_and_then};
 ghost use Rattle.smithy_json.specs.views.JsonView.{view};
-ghost use Rattle.smithy_model.specs.Reads.{Reads};
 ghost use Rattle.smithy_job.specs.Routing.{operations_given, routing};
-ghost use Rattle.smithy_job.specs.views.RoutingView.{all_named, operations_seen, routing_seen, NamesRouting};
+ghost use Rattle.smithy_job.specs.views.RoutingView.{all_named, NamesRouting};
 
 use crate::named_operations::{NamedOperations, named_in};
-use crate::operation::Operation;
 use crate::request::request_of;
 use crate::settings::omit_of;
 use smithy_http::Request;
@@ -19,14 +17,6 @@ use std::alloc::Global;
 #[derive(Drop)]
 pub struct NamedRouting<'v, 't> {
     pub operations: NamedOperations<'v, 't>,
-    pub request: Request,
-    pub omit: OmitFlags,
-}
-
-/// A request, and the operations of which it may be one's.
-#[derive(Drop)]
-pub struct Routing<'t> {
-    pub operations: Vec<Operation<'t>>,
     pub request: Request,
     pub omit: OmitFlags,
 }
@@ -57,40 +47,6 @@ pub fn read_named_routing<'v, 't>(
         return Err(JobError::NoJob);
     };
     Ok(NamedRouting {
-        operations,
-        request,
-        omit,
-    })
-}
-
-// All of these operations, in order.
-fn read_all<'t>(
-    alloc: Global,
-    named: &NamedOperations<'_, 't>,
-) -> Result<Vec<Operation<'t>>, JobError>
-    ensures { Reads (λ v. operations_seen v.items) (all_named named.now) result }
-{
-    let names = named.names;
-    let mut operations = Vec::with_capacity(alloc, names.len())?;
-    for name in names {
-        let operation = named.read(alloc, name)?;
-        operations.push(operation)?;
-    }
-    Ok(operations)
-}
-
-/// The job of a request and many operations that a JSON value is. Takes memory: a table for each operation. What hasn't the form
-/// of one is no job.
-pub fn read_routing<'t>(alloc: Global, job: &JsonValue<'t>) -> Result<Routing<'t>, JobError>
-    ensures { Reads routing_seen (routing (view job.now)) result }
-{
-    let NamedRouting {
-        operations,
-        request,
-        omit,
-    } = read_named_routing(alloc, job)?;
-    let operations = read_all(alloc, &operations)?;
-    Ok(Routing {
         operations,
         request,
         omit,

@@ -1,4 +1,4 @@
--- The job of a request that the code's one stands for, whose operations each have a table of their own.
+-- The job of a request that the code's one stands for, whose operations are read one by one, each into a table of its own.
 use Rattle.std.specs.Prelude.{◌≡◌, ℕ, List, map, Option, None, option_map, option_and_then, Result, Ok, Err}
 use Rattle.serde_json.specs.Data.{Data}
 use Rattle.serde_json.specs.Find.{as_str}
@@ -17,7 +17,6 @@ use Rattle.smithy_job.specs.views.Tables.{schema_seen}
 use Rattle.smithy_job.specs.declared.named_operations.NamedOperations.{NamedOperations}
 use Rattle.smithy_job.specs.declared.operation.Operation.{Operation}
 use Rattle.smithy_job.specs.declared.routing.NamedRouting.{NamedRouting}
-use Rattle.smithy_job.specs.declared.routing.Routing.{Routing}
 
 -- the schema that a model was read for
 abbrev pub placed_seen : ModelTable → Schema
@@ -25,9 +24,6 @@ placed_seen placed = schema_seen placed.table placed.index.0
 
 abbrev pub operation_seen : Operation → jobs.Operation
 operation_seen o = record { name = o.name.now; schema = schema_seen o.table o.index.0 }
-
-abbrev pub operations_seen : List Operation → List jobs.Operation
-operations_seen os = map operation_seen os
 
 -- the operation of this name, where it has `@http`, among the shapes of a model
 abbrev pub operation_among : Data → List ℕ → Option jobs.Operation
@@ -47,9 +43,6 @@ all_named named = each (operation_by named) (map view named.names.now)
 -- the operations that texts name in a model
 abbrev pub operations_at : JsonValue → List JsonValue → Option (List jobs.Operation)
 operations_at model names = each (jobs.operation_in (view model)) (map view names)
-
-abbrev pub routing_seen : Routing → jobs.Routing
-routing_seen r = record { operations = operations_seen r.operations.items; request = r.request; omit = r.omit }
 
 -- the job of a request that may be one of these operations', none where one is none
 abbrev pub routing_of : Option (List jobs.Operation) → NamedRouting → Option jobs.Routing
