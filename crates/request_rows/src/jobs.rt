@@ -21,14 +21,6 @@ use test_rows::{Failed, count_of, text_of as given_text, told_bytes};
 /// The answer of one of these calls; none of another.
 pub fn answer(alloc: Global, call: &str, given: &Value) -> Result<Option<Text>, Failed> {
     match call {
-<<<<<<< ours
-=======
-        "read_job" => Ok(Some(job(alloc, given)?)),
-        "read_received" => Ok(Some(received(alloc, given)?)),
-        "read_recovering" => Ok(Some(recovering(alloc, given)?)),
-        "read_named_routing" => Ok(Some(named_routing(alloc, given)?)),
-        "read_gateway" => Ok(Some(gateway(alloc, given)?)),
->>>>>>> theirs
         "is_full_name" => {
             let is_name = is_full_name(given_text(given, "name")?);
             Ok(Some(flag_text(alloc, is_name)?))
@@ -36,7 +28,6 @@ pub fn answer(alloc: Global, call: &str, given: &Value) -> Result<Option<Text>, 
         "read_job"
         | "read_received"
         | "read_recovering"
-        | "read_routing"
         | "read_named_routing"
         | "read_gateway"
         | "are_shallow"
@@ -67,7 +58,6 @@ fn value_answer(
         "read_job" => job(alloc, value),
         "read_received" => received(alloc, value),
         "read_recovering" => recovering(alloc, value),
-        "read_routing" => routing(alloc, value),
         "read_named_routing" => named_routing(alloc, value),
         "read_gateway" => gateway(alloc, value),
         "are_shallow" => shallow(alloc, value, count_of(given, "levels")?),
@@ -163,21 +153,9 @@ fn recovering_text(alloc: Global, job: &Recovering<'_>) -> Result<Text, Failed> 
     Ok(text)
 }
 
-<<<<<<< ours
-fn routing(alloc: Global, value: &JsonValue<'_>) -> Result<Text, Failed> {
-    match read_routing(alloc, value) {
-        Ok(job) => routing_text(alloc, job),
-=======
-fn named_routing(alloc: Global, given: &Value) -> Result<Text, Failed> {
-    let bytes = job_bytes(alloc, given)?;
-    let mut scratch = Scratch::new(alloc);
-    let value = match read_json(alloc, bytes.as_slice(), &mut scratch) {
-        Ok(value) => value,
-        Err(refusal) => return no_job(alloc, refusal.into()),
-    };
-    match read_named_routing(alloc, &value) {
+fn named_routing(alloc: Global, value: &JsonValue<'_>) -> Result<Text, Failed> {
+    match read_named_routing(alloc, value) {
         Ok(job) => named_text(alloc, job),
->>>>>>> theirs
         Err(refusal) => no_job(alloc, refusal),
     }
 }
@@ -191,12 +169,6 @@ fn named_text(alloc: Global, job: NamedRouting<'_, '_>) -> Result<Text, Failed> 
     Ok(text)
 }
 
-<<<<<<< ours
-fn named_routing(alloc: Global, value: &JsonValue<'_>) -> Result<Text, Failed> {
-    match read_named_routing(alloc, value) {
-        Ok(job) => named_text(alloc, &job),
-        Err(refusal) => no_job(alloc, refusal),
-=======
 fn last_text(alloc: Global, job: NamedRouting<'_, '_>) -> Result<Text, Failed> {
     let Some(name) = job.operations.names.last() else {
         return request_text(alloc, &job.request);
@@ -204,7 +176,6 @@ fn last_text(alloc: Global, job: NamedRouting<'_, '_>) -> Result<Text, Failed> {
     match job.operations.read(alloc, name) {
         Ok(last) => recovering_text(alloc, &last.into_recovering(job.request, job.omit)),
         Err(_) => request_text(alloc, &job.request),
->>>>>>> theirs
     }
 }
 
