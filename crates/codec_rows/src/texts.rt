@@ -67,7 +67,9 @@ fn pushed(alloc: Global, given: &Value, call: &str) -> Result<Text, Failed> {
 fn distinct(alloc: Global, given: &Value) -> Result<Text, Failed> {
     let mut texts = Vec::new(alloc);
     for item in items_of(given, "texts")? {
-        texts.push(item.as_str().ok_or(Failed)?)?;
+        if texts.push(item.as_str().ok_or(Failed)?).is_err() {
+            return Err(Failed);
+        }
     }
     let answer = are_distinct(alloc, texts.as_slice())?;
     Ok(Text::from_string(format!(in alloc; "{answer}")?))
