@@ -1,15 +1,15 @@
 -- What is said of each node that nodes cite holds at each place that a form leads to.
-use Rattle.smithy_wire.proofs.Common.{◌≡◌, refl, sym, subst, ℕ, Bool, true, false, inl, inr, List, [], ◌∷◌, find, Option, Some, None, option_map, option_and_then, if◌then◌else◌, ⊤}
+use Rattle.smithy_wire.proofs.Common.{◌≡◌, refl, sym, subst, ℕ, Bool, true, false, inl, inr, List, [], ◌∷◌, find, Option, Some, None, option_map, option_and_then, if◌then◌else◌}
 use Rattle.std.specs.List.{cons_option, filter_map, slice_get}
 use Rattle.std.specs.Option.{option_map_or, option_or, unwrap_or}
 use Rattle.smithy_ids.specs.declared.shape_type.ShapeType.{ShapeType}
 use Rattle.smithy_ids.specs.declared.shape_type.ShapeType.TheVariants as kind
 use Rattle.smithy_ids.specs.declared.traits.TimestampFormat.TheVariants as time
-use Rattle.smithy_schema.specs.Nodes.{Node, Table, Schema, node_at, at_place, cited, shape, member_at, member_named, members_of, position_of_name, time_format}
+use Rattle.smithy_schema.specs.Nodes.{Node, Schema, node_at, at_place, cited, shape, member_at, member_named, members_of, position_of_name, time_format}
 use Rattle.smithy_wire.specs.declared.side.Side.{Side}
 use Rattle.smithy_wire.specs.WireNames.{names_stand, if_field, field_named}
 use Rattle.smithy_wire.specs.Forms.{Form, free, fields, items, entries, date_time, http_date, big_integer, big_decimal, whole, document, other, body_form, form_of, form_by, form_or_free, is_coded_payload, time_form, element_form, part_form}
-use Rattle.smithy_wire.specs.Standing.{May, Each, TableStands, NodeStands}
+use Rattle.smithy_wire.specs.Standing.{May, Each, NodeStands}
 use Rattle.smithy_wire.proofs.NameLaws.{Among, found_among}
 
 -- it holds of what a node cites in its table, where it holds of the node

@@ -1,5 +1,5 @@
 -- Fields that are found by what is told of the names of their structure.
-use Rattle.smithy_wire.proofs.Common.{◌≡◌, refl, sym, ap, ◌∙◌, subst, ℕ, zero, suc, ◌+◌, ◌≤◌, arith, Bool, true, false, ◌&&◌, ◌||◌, if◌then◌else◌, inl, inr, List, [], ◌∷◌, length, map, flat_map, Option, Some, None, option_and_then, cond, and_parts}
+use Rattle.smithy_wire.proofs.Common.{◌≡◌, refl, sym, ap, ◌∙◌, ℕ, zero, suc, ◌+◌, ◌≤◌, Bool, true, false, ◌&&◌, ◌||◌, if◌then◌else◌, inl, inr, List, [], ◌∷◌, length, map, flat_map, Option, Some, None, option_and_then, cond, and_parts}
 use Rattle.std.proofs.lemmas.Map.Text.{btree_map_updates_text}
 use Rattle.std.specs.BTreeMap.{BTreeMap, Updates, get_by_text}
 use Rattle.std.specs.Global.{Global}
@@ -10,11 +10,11 @@ use Rattle.std.specs.Str.{bytes_eq, is_utf8}
 use Rattle.std.specs.String.{string_cmp}
 use Rattle.smithy_types.specs.Texts.{are_distinct, is_one_of, same_text}
 use Rattle.smithy_json.proofs.OrderedPairs.{same_self}
-use Rattle.smithy_schema.specs.Nodes.{Schema, Table, at_place, member_at, members_of, name_of}
+use Rattle.smithy_schema.specs.Nodes.{Schema, at_place, member_at, members_of, name_of}
 use Rattle.smithy_strings.proofs.DistinctTexts.{same_text-sym}
 use Rattle.smithy_wire.specs.declared.side.Side.{Side}
 use Rattle.smithy_wire.specs.Forms.{fields, form_of, form_or_free, part_form}
-use Rattle.smithy_wire.specs.WireNames.{json_name, names_of, names_stand, is_field, if_field, field_named, field_in_json, swapped}
+use Rattle.smithy_wire.specs.WireNames.{json_name, named_in_json, names_of, names_stand, is_field, if_field, field_named, field_in_json, swapped}
 use Rattle.smithy_wire.specs.views.FieldNames.{are_own, has, is_own, is_own_at, HasJsonNames, HasName, HasNameOf}
 use Rattle.smithy_wire.specs.views.MemberSteps.{if_named, members_from}
 use Rattle.smithy_wire.proofs.MemberLemmas.{before, members_from-more, members_from-end}
@@ -194,5 +194,5 @@ form_back side s name m stand at =
     ap form_or_free (sym (field_at side s m (distinct s stand) is.1))
 
 -- what no field has as its name in JSON
-pub read_other : (side : Option Side) (s : Schema) (name : List ℕ) → field_in_json side s name ≡ None → option_map_or json_name (field_named side s name) name ≡ swapped side s name
+pub read_other : (side : Option Side) (s : Schema) (name : List ℕ) → field_in_json side s name ≡ None → named_in_json side s name ≡ swapped side s name
 read_other side s name none = ap (λ o. option_map_or json_name (field_named side s name) (option_map_or name_of o name)) (sym none)

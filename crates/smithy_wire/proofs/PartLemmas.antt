@@ -10,7 +10,7 @@ use Rattle.smithy_wire.specs.declared.side.Side.{Side}
 use Rattle.smithy_wire.specs.declared.wire_json.WireJson.{WireJson}
 use Rattle.smithy_wire.specs.Forms.{Form, fields, form_of, form_or_free, part_form}
 use Rattle.smithy_wire.specs.Standing.{Each, NodeStands, Stand}
-use Rattle.smithy_wire.specs.WireNames.{json_name, names_stand, field_named, field_in_json, swapped}
+use Rattle.smithy_wire.specs.WireNames.{json_name, named_in_json, names_stand, field_named, field_in_json, swapped}
 use Rattle.smithy_wire.specs.views.FieldNames.{are_own, MayTell}
 use Rattle.smithy_wire.specs.views.KnownForms.{IsKnown}
 use Rattle.smithy_wire.specs.views.PartView.{IsPart, IsWritten}
@@ -38,7 +38,7 @@ renamed_part w side s name m p stand at named formed styled =
     subst (λ n. IsPart w n p) (sym (read_back side s name m stand (sym at))) record { name = named; form = formed; style = styled }
 
 pub other_part : (w : WireJson) (side : Option Side) (s : Schema) (name : List ℕ) (p : Part) → None ≡ field_in_json side s name
-    → IsPart w (option_map_or json_name (field_named side s name) name) p → IsPart w (swapped side s name) p
+    → IsPart w (named_in_json side s name) p → IsPart w (swapped side s name) p
 other_part w side s name p none h = subst (λ n. IsPart w n p) (read_other side s name (sym none)) h
 
 -- ---- what is written

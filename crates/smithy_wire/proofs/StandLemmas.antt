@@ -1,8 +1,8 @@
 -- Where the test of names holds, names stand at each place that a form leads to.
-use Rattle.smithy_wire.proofs.Common.{◌≡◌, refl, sym, ap, ◌∙◌, subst, ℕ, zero, suc, Bool, true, List, [], ◌∷◌, Option, Some, None, option_map, IsTrue, and_parts}
+use Rattle.smithy_wire.proofs.Common.{◌≡◌, sym, ap, ◌∙◌, subst, ℕ, zero, suc, Bool, true, List, [], ◌∷◌, Option, Some, None, option_map, IsTrue, and_parts}
 use Rattle.std.specs.List.{list_all, slice_get}
 use Rattle.std.specs.Option.{option_flatten, option_map_or}
-use Rattle.smithy_schema.specs.Nodes.{Node, Schema, Table, at_place, members_of, shape}
+use Rattle.smithy_schema.specs.Nodes.{Node, Schema, Table, members_of, shape}
 use Rattle.smithy_wire.specs.declared.side.Side.{Side}
 use Rattle.smithy_wire.specs.WireNames.{names_stand, table_stands, stands}
 use Rattle.smithy_wire.specs.Forms.{Form, body_form, whole_form, element_form, part_form}

@@ -1,8 +1,8 @@
 -- What is written for a document is read as it.
-use Rattle.smithy_wire.proofs.Common.{◌≡◌, refl, ap, ap₂, ◌∙◌, ℕ, suc, ◌++◌, Bool, true, false, ◌&&◌, ◌||◌, ◌==◌, if◌then◌else◌, List, ◌∷◌, Option, Some, None, option_map, option_and_then, ok_or, Ok, pos, negsuc, and_parts, flat_map}
-use Rattle.std.specs.Prelude.{codes, slice_get}
+use Rattle.smithy_wire.proofs.Common.{◌≡◌, refl, ap, ap₂, ◌∙◌, ℕ, suc, ◌++◌, Bool, true, false, ◌&&◌, ◌||◌, ◌==◌, if◌then◌else◌, List, ◌∷◌, Option, Some, None, option_map, ok_or, Ok, pos, negsuc, and_parts, flat_map}
+use Rattle.std.specs.Prelude.{codes}
 use Rattle.std.specs.List.{list_all}
-use Rattle.std.specs.Option.{option_map_or, option_or, unwrap_or}
+use Rattle.std.specs.Option.{option_map_or}
 use Rattle.std.specs.Str.{is_utf8}
 use Rattle.json.specs.Json as json
 use Rattle.smithy_types.specs.BigNumbers.{is_digit}
@@ -13,20 +13,15 @@ use Rattle.smithy_types.specs.Texts.{are_distinct}
 use Rattle.smithy_types.specs.Timestamps.{timestamp_text}
 use Rattle.smithy_types.specs.declared.date_time.Format.{Format}
 use Rattle.smithy_types.specs.declared.date_time.Format.TheVariants.{DateTime, HttpDate}
-use Rattle.smithy_ids.specs.declared.shape_type.ShapeType.{ShapeType}
-use Rattle.smithy_ids.specs.declared.shape_type.ShapeType.TheVariants as kind
-use Rattle.smithy_ids.specs.declared.traits.TimestampFormat.TheVariants as time
-use Rattle.smithy_schema.specs.Nodes.{Node, Table, Schema, node_at, at_place, cited, shape, element_of, value_of, member_at, member_named, position_of_name, time_format}
 use Rattle.smithy_schema.specs.Nodes as nodes
 use Rattle.smithy_serde.specs.DocumentReads.{integer_of_number, number_text}
 use Rattle.smithy_document.proofs.SoundDocuments.{IsSoundNumber, IsSound, AreItemsSound, AreMembersSound}
 use Rattle.smithy_document.proofs.FromData.{Ascend, all_put}
-use Rattle.smithy_wire.specs.declared.side.Side.{Side}
 use Rattle.smithy_wire.specs.declared.wire_style.WireStyle.{WireStyle}
-use Rattle.smithy_wire.specs.WireNames.{names_of, names_stand, if_field, field_named}
+use Rattle.smithy_wire.specs.WireNames.{names_of}
 use Rattle.smithy_wire.specs.WireTimes.{spelled}
 use Rattle.smithy_wire.specs.ExactNumbers.{is_number, is_integer, plain_number, whole_number}
-use Rattle.smithy_wire.specs.Forms.{Form, free, fields, items, entries, date_time, http_date, big_integer, big_decimal, whole, document, other, form_by, form_or_free, time_form, element_form, part_form, name_in}
+use Rattle.smithy_wire.specs.Forms.{Form, free, fields, items, entries, date_time, http_date, big_integer, big_decimal, whole, document, other, element_form, part_form, name_in}
 use Rattle.smithy_wire.specs.Standing.{NodeStands, Stand}
 use Rattle.smithy_wire.proofs.EachLemmas.{closed_stands, each_element, each_part}
 use Rattle.smithy_wire.specs.Wire.{wire_number, wire_string, wire, wire_items, wire_members}

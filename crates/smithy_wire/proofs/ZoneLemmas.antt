@@ -1,6 +1,6 @@
 -- Texts of times that are cut before a zone, an offset or a point.
-use Rattle.smithy_wire.proofs.Common.{◌≡◌, ◌≢◌, refl, sym, ap, ◌∙◌, subst, ℕ, ◌-◌, ◌+◌, ◌<◌, ◌≤◌, ◌==◌, arith, Bool, true, false, if◌then◌else◌, List, [], ◌++◌, length, take, drop, Option, Some, None, option_map, option_and_then, length-append, ℤ}
-use Rattle.std.proofs.Common.{get_or, leb-true, eqb-true, lit<}
+use Rattle.smithy_wire.proofs.Common.{◌≡◌, ◌≢◌, refl, sym, ap, ◌∙◌, subst, ℕ, ◌-◌, ◌+◌, ◌<◌, ◌≤◌, ◌==◌, arith, Bool, true, false, if◌then◌else◌, List, ◌++◌, length, take, drop, Option, Some, None, option_map, option_and_then, length-append, ℤ}
+use Rattle.std.proofs.Common.{leb-true, eqb-true, lit<}
 use Rattle.std.proofs.Math.ListN.{drop_of_length-le}
 use Rattle.std.proofs.Math.Seq.{drop-append_seam, take-append_seam}
 use Rattle.std.proofs.lemmas.List.{take-append-drop}
@@ -14,7 +14,7 @@ use Rattle.std.specs.Prelude.{MatchOption, codes, nat_le, slice_index}
 use Rattle.std.specs.Str.{IsCharBoundary, IsUtf8}
 use Rattle.std.specs.Str.Pattern.{FindsTextSuffix}
 use Rattle.smithy_types.specs.declared.date_time.Format.TheVariants.{DateTime}
-use Rattle.smithy_types.specs.Texts.{full_stop, hyphen, plus_sign, same_text}
+use Rattle.smithy_types.specs.Texts.{hyphen, plus_sign, same_text}
 use Rattle.smithy_json.proofs.OrderedPairs.{same_self}
 use Rattle.smithy_wire.specs.WireTimes.{at_end, at_zone, before_end, before_offset, before_zone, clock_seconds, is_behind, offset_sign, without_offset}
 use Rattle.smithy_wire.specs.views.TimeCuts.{CutsAtPoint}

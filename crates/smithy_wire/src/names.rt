@@ -3,7 +3,7 @@ ghost use Rattle.std.specs.Prelude.{◌≡◌, true, option_map};
 ghost use Rattle.std.specs.Borrow.{Bor};
 ghost use Rattle.smithy_wire.specs.Words.{member_at, members_of, name_of, schema_of};
 ghost use Rattle.smithy_wire.specs.WireNames.{json_name, is_elsewhere, is_field, if_field, field_named, field_in_json, names_stand};
-ghost use Rattle.smithy_wire.specs.views.FieldNames.{MayTell};
+ghost use Rattle.smithy_wire.specs.views.FieldNames.{MayTell, Tells};
 ghost use Rattle.smithy_wire.specs.views.MemberSteps.{json_field_at, if_named};
 ghost use Rattle.smithy_wire.specs.declared.node_names.NodeNames.{NodeNames as Told};
 
@@ -128,6 +128,27 @@ fn field_found<'t>(
     }
 }
 
+// The field that has this name in JSON, where names stand, found by what is told of the names of its structure.
+fn told_field<'t>(
+    names: &NodeNames,
+    side: Option<Side>,
+    schema: SchemaRef<'t>,
+    name: &str,
+) -> Option<SchemaRef<'t>>
+    requires stand { names_stand (members_of (schema_of schema)) ≡ true }
+    requires told { Tells (schema_of schema) names.now }
+    ensures { option_map schema_of result ≡ field_in_json side (schema_of schema.entry) name.now }
+{
+    match names {
+        NodeNames::Own => field_in_json(side, schema, name),
+        NodeNames::Few => field_in_json(side, schema, name),
+        NodeNames::Mapped(positions) => match positions.get(name) {
+            Some(position) => field_found(side, schema, *position, name),
+            None => None,
+        },
+    }
+}
+
 /// The field that has this name in JSON, where names stand, found by what is told of the names of its structure, or else one
 /// member after another. Takes no memory.
 pub(crate) fn json_field<'t>(
@@ -141,12 +162,7 @@ pub(crate) fn json_field<'t>(
     ensures { option_map schema_of result ≡ field_in_json side (schema_of schema.entry) name.now }
 {
     match told {
-        Some(NodeNames::Mapped(positions)) => match positions.get(name) {
-            Some(position) => field_found(side, schema, *position, name),
-            None => None,
-        },
-        Some(NodeNames::Own) => field_in_json(side, schema, name),
-        Some(NodeNames::Few) => field_in_json(side, schema, name),
+        Some(names) => told_field(names, side, schema, name),
         None => field_in_json(side, schema, name),
     }
 }

@@ -2,9 +2,9 @@
 ghost use Rattle.std.specs.Borrow.{Bor};
 ghost use Rattle.std.specs.Prelude.{◌≡◌, true, option_map};
 ghost use Rattle.smithy_wire.specs.Forms.{element_form, fields, form_of, name_in, part_form};
-ghost use Rattle.smithy_wire.specs.WireNames.{field_in_json, field_named, json_name, names_stand, swapped};
+ghost use Rattle.smithy_wire.specs.WireNames.{field_in_json, named_in_json, names_stand, swapped};
 ghost use Rattle.smithy_wire.specs.Words.{members_of, name_of, option_map_or, schema_of};
-ghost use Rattle.smithy_wire.specs.views.FieldNames.{MayTell};
+ghost use Rattle.smithy_wire.specs.views.FieldNames.{MayTell, Tells};
 ghost use Rattle.smithy_wire.specs.views.PartView.{IsPart, IsWritten};
 ghost use Rattle.smithy_wire.specs.views.WireOf.{form_in, names_in, style_in};
 ghost use Rattle.smithy_wire.specs.declared.node_names.NodeNames.{NodeNames as Told};
@@ -78,8 +78,7 @@ impl<'t> WireJson<'t> {
 
     // What is read under a name in JSON that no field has.
     fn read_other(self, side: Option<Side>, schema: SchemaRef<'t>, name: &'t str) -> Part<'t>
-        ensures { IsPart self.entry
-            (option_map_or json_name (field_named side (schema_of schema.entry) name.now) name.now) result }
+        ensures { IsPart self.entry (named_in_json side (schema_of schema.entry) name.now) result }
     {
         match field_named(side, schema, name) {
             Some(member) => self.named(json_name(member)),
@@ -110,17 +109,35 @@ impl<'t> WireJson<'t> {
         }
     }
 
+    // What is read in the object of a structure under a name in JSON, by what is told of its names.
+    fn read_told(
+        self,
+        names: &'t NodeNames,
+        side: Option<Side>,
+        schema: SchemaRef<'t>,
+        name: &'t str,
+    ) -> Part<'t>
+        requires form { form_in self ≡ fields side (schema_of schema) }
+        requires stand { names_stand (members_of (schema_of schema)) ≡ true }
+        requires told { Tells (schema_of schema) names.now }
+        ensures { IsPart self.entry (swapped side (schema_of schema.entry) name.now) result }
+    {
+        match names {
+            NodeNames::Own => self.named(name),
+            _ => self.read_renamed(Some(names), side, schema, name),
+        }
+    }
+
     // What is read in the object of a structure under a name in JSON.
-    #[tactic(auto, using(crate::proofs::PartLemmas::own_part, crate::proofs::PartLemmas::names_here))]
+    #[tactic(auto, using(crate::proofs::PartLemmas::names_here))]
     fn read_field(self, side: Option<Side>, schema: SchemaRef<'t>, name: &'t str) -> Part<'t>
         requires form { form_in self ≡ fields side (schema_of schema) }
         requires names { names_in self ≡ true }
         ensures { IsPart self.entry (swapped side (schema_of schema.entry) name.now) result }
     {
-        let told = self.node_names(side, schema);
-        match told {
-            Some(NodeNames::Own) => self.named(name),
-            _ => self.read_renamed(told, side, schema, name),
+        match self.node_names(side, schema) {
+            Some(names) => self.read_told(names, side, schema, name),
+            None => self.read_renamed(None, side, schema, name),
         }
     }
 

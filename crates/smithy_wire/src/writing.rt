@@ -179,7 +179,7 @@ fn write_document(
     wire: WireJson<'_>,
     document: &Document,
 ) -> Result<(), OutOfMemory>
-    ensures { Writes (names_in wire.entry) (form_in wire.entry) (view document.now) writer.old writer.new result }
+    ensures { Writes wire.entry (view document.now) writer.old writer.new result }
 {
     match document {
         Document::Null => write_token(writer, Token::Null),
@@ -205,7 +205,7 @@ fn write_items(
     wire: WireJson<'_>,
     documents: &Documents,
 ) -> Result<(), OutOfMemory>
-    ensures { WritesItems (names_in wire.entry) (form_in wire.entry) (items_view documents.now) writer.old writer.new result }
+    ensures { WritesItems wire.entry (items_view documents.now) writer.old writer.new result }
 {
     let items = documents.as_slice();
     'items: for item in items {
@@ -222,7 +222,7 @@ fn write_members(
     wire: WireJson<'_>,
     members: &Members,
 ) -> Result<(), OutOfMemory>
-    ensures { WritesMembers (names_in wire.entry) (form_in wire.entry) (members_view members.now) writer.old writer.new result }
+    ensures { WritesMembers wire.entry (members_view members.now) writer.old writer.new result }
 {
     'members: for (name, member) in members.iter() {
         let part = wire.written_part(name);

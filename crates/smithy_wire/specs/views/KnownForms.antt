@@ -1,7 +1,7 @@
 -- What is known of the names in JSON at each place that a form leads to.
 use Rattle.std.specs.Prelude.{◌≡◌, ⊤, Option, Some, None}
 use Rattle.std.specs.Coded.{Unit-prop}
-use Rattle.smithy_wire.specs.Words.{Bor, Schema, Table}
+use Rattle.smithy_wire.specs.Words.{Bor, Table}
 use Rattle.smithy_wire.specs.Forms.{Form}
 use Rattle.smithy_wire.specs.Standing.{Each, each_prop}
 use Rattle.smithy_wire.specs.declared.json_names.JsonNames.{JsonNames}

@@ -1,4 +1,4 @@
-use Rattle.smithy_wire.proofs.Common.{◌≡◌, refl, sym, ap, ◌∙◌, length, arith}
+use Rattle.smithy_wire.proofs.Common.{◌≡◌, sym, ap, ◌∙◌, length, arith}
 use Rattle.std.proofs.lemmas.List.{length-map}
 use Rattle.smithy_schema.specs.References.{schema_of}
 use Rattle.smithy_wire.proofs.FieldLemmas.{adding-more, adding-end}
