@@ -4,7 +4,7 @@ use crate::model::input_schema;
 use crate::one_read::one_read;
 use crate::settings::OwnSettings;
 use crate::told::push_part;
-use crate::wire::wire_of;
+use crate::wire::{json_names, wire_of};
 use serde_json::Value;
 use smithy_document::{DocumentShapeDeserializer, JsonCodec, JsonDeserializer, ShapeSettings};
 use smithy_serde::{Codec, ShapeDeserializer};
@@ -47,7 +47,8 @@ fn by_codec<C: Codec>(alloc: Global, codec: &C, given: &Value) -> Result<Text, F
 fn by_wire(alloc: Global, given: &Value) -> Result<Text, Failed> {
     let placed = input_schema(alloc, given)?;
     let schema = placed.table.get(placed.index).ok_or(Failed)?;
-    by_codec(alloc, &wire_of(alloc, schema, given)?, given)
+    let names = json_names(alloc, schema)?;
+    by_codec(alloc, &wire_of(alloc, schema, &names, given)?, given)
 }
 
 fn by_copy(alloc: Global, given: &Value) -> Result<Text, Failed> {

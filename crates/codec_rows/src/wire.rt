@@ -1,4 +1,8 @@
 // The JSON of AWS's protocols, by the input of a row's model.
+ghost use Rattle.std.specs.Prelude.{◌≡◌, IfOk};
+ghost use Rattle.smithy_schema.specs.References.{schema_of};
+ghost use Rattle.smithy_wire.specs.KnownForms.{table_in};
+
 use crate::given::{canonical_document, input_of};
 use crate::json_text::document_text;
 use crate::model::input_schema;
@@ -8,7 +12,7 @@ use serde_json::Value;
 use smithy_json::JsonError;
 use smithy_schema::SchemaRef;
 use smithy_types::Text;
-use smithy_wire::{WireJson, json_in, json_name, names_stand};
+use smithy_wire::{JsonNames, Side, WireJson, WireStyle, json_in, json_name, names_stand};
 use std::alloc::Global;
 use test_rows::{Failed, flag_of, text_of};
 
@@ -48,25 +52,53 @@ fn name_told(alloc: Global, schema: SchemaRef<'_>, given: &Value) -> Result<Text
     }
 }
 
-/// The JSON of the input's side, of the output's or of the whole value, without JSON names where the row says so.
+/// The names in JSON of the schema's table.
+pub fn json_names<'t>(alloc: Global, schema: SchemaRef<'t>) -> Result<JsonNames<'t>, Failed>
+    ensures { IfOk result (λ names. table_in names ≡ (schema_of schema.entry).table) }
+{
+    match schema.table() {
+        Some(table) => Ok(JsonNames::of(alloc, table)?),
+        None => Err(Failed),
+    }
+}
+
+/// The JSON of the input's side, of the output's or of the whole value, without JSON names where the row says so, by these names
+/// where it says that fields are found by them, and with fractions of seconds dropped where it says so.
 pub fn wire_of<'t>(
     alloc: Global,
     schema: SchemaRef<'t>,
+    names: &'t JsonNames<'t>,
     given: &Value,
-) -> Result<WireJson<'t>, Failed> {
-    let json_names = !flag_of(given, "without_names");
+) -> Result<WireJson<'t>, Failed>
+    requires { table_in names.now ≡ (schema_of schema).table }
+{
+    let style = WireStyle {
+        json_names: !flag_of(given, "without_names"),
+        floors_times: flag_of(given, "floors"),
+    };
     if !names_stand(alloc, schema)? {
         return Err(Failed);
     }
+    if flag_of(given, "by_names") {
+        return Ok(match text_of(given, "body")? {
+            "input" => WireJson::of_body(Side::Request, schema, style, Some(names)),
+            "output" => WireJson::of_body(Side::Response, schema, style, Some(names)),
+            _ => WireJson::of_node(schema, style, Some(names)),
+        });
+    }
+    if style.floors_times {
+        return Ok(WireJson::of_node(schema, style, None));
+    }
     Ok(match text_of(given, "body")? {
-        "input" => WireJson::of_input(schema, json_names),
-        "output" => WireJson::of_output(schema, json_names),
-        _ => WireJson::of_whole(schema, json_names),
+        "input" => WireJson::of_input(schema, style.json_names),
+        "output" => WireJson::of_output(schema, style.json_names),
+        _ => WireJson::of_whole(schema, style.json_names),
     })
 }
 
 fn text_told(alloc: Global, schema: SchemaRef<'_>, given: &Value) -> Result<Text, Failed> {
-    let wire = wire_of(alloc, schema, given)?;
+    let names = json_names(alloc, schema)?;
+    let wire = wire_of(alloc, schema, &names, given)?;
     let document = canonical_document(alloc, input_of(alloc, given)?.as_slice())?;
     let text = wire.text(alloc, &document)?;
     match str::from_utf8(text.as_slice()) {
@@ -76,7 +108,8 @@ fn text_told(alloc: Global, schema: SchemaRef<'_>, given: &Value) -> Result<Text
 }
 
 fn document_told(alloc: Global, schema: SchemaRef<'_>, given: &Value) -> Result<Text, Failed> {
-    let wire = wire_of(alloc, schema, given)?;
+    let names = json_names(alloc, schema)?;
+    let wire = wire_of(alloc, schema, &names, given)?;
     match wire.document(alloc, input_of(alloc, given)?.as_slice()) {
         Ok(document) => answered(alloc, document_text(alloc, &document)),
         Err(error) => refusal(alloc, &error),

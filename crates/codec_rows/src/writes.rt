@@ -7,7 +7,7 @@ use crate::model::input_schema;
 use crate::one_write::{one_write, step_of};
 use crate::told::{answered, push_part, refusal};
 use crate::value_text::{document_told, writes_told};
-use crate::wire::wire_of;
+use crate::wire::{json_names, wire_of};
 use serde_json::Value;
 use smithy_document::{DocumentShapeSerializer, JsonCodec};
 use smithy_schema::SchemaRef;
@@ -122,7 +122,9 @@ fn by_codec<C: Codec>(
 
 // By the JSON of the schema.
 fn by_wire(alloc: Global, schema: Option<SchemaRef<'_>>, given: &Value) -> Result<Text, Failed> {
-    let wire = wire_of(alloc, schema.ok_or(Failed)?, given)?;
+    let node = schema.ok_or(Failed)?;
+    let names = json_names(alloc, node)?;
+    let wire = wire_of(alloc, node, &names, given)?;
     by_codec(alloc, &wire, schema, given)
 }
 

@@ -28,6 +28,7 @@ use Rattle.smithy_wire.specs.Unwire.{item_step, part_step, within, number_read, 
 use Rattle.smithy_wire.specs.WireText.{held_in, held_of, json_in, wire_held}
 use Rattle.smithy_wire.specs.WireTimes.{before_blank, spelled}
 use Rattle.smithy_wire.specs.declared.unread.Unread.{Unread}
+use Rattle.smithy_wire.specs.declared.wire_style.WireStyle.{WireStyle}
 
 abbrev IsCanonical : Document → Type 0
 IsCanonical d = is_canonical d ≡ true
@@ -110,29 +111,29 @@ number_canonically (entries value) s = number_document (plain_number s) (plain_c
 number_canonically document s = number_document (plain_number s) (plain_canonical s)
 number_canonically (other k) s = number_document (plain_number s) (plain_canonical s)
 
-time_canonical : (format : Format) (s : List ℕ) → IfSome (time_read format s) IsCanonical
-time_canonical format s = go (before_blank s)
+time_canonical : (floors : Bool) (format : Format) (s : List ℕ) → IfSome (time_read floors format s) IsCanonical
+time_canonical floors format s = go (before_blank s)
   where
     seconds : (o : Option ℤ) → IfSome (option_map (λ z. doc.number (number_of z)) o) IsCanonical
     seconds None = tt
     seconds (Some z) = number_canonical z
 
-    go : (o : Option (List ℕ)) → IfSome (option_map_or (λ front. Some (doc.string front)) o (option_map (λ z. doc.number (number_of z)) (spelled format s))) IsCanonical
-    go None = seconds (spelled format s)
+    go : (o : Option (List ℕ)) → IfSome (option_map_or (λ front. Some (doc.string front)) o (option_map (λ z. doc.number (number_of z)) (spelled floors format s))) IsCanonical
+    go None = seconds (spelled floors format s)
     go (Some front) = refl
 
-string_canonical : (f : Form) (s : List ℕ) → IfSome (string_read f s) IsCanonical
-string_canonical date_time s = time_canonical DateTime s
-string_canonical http_date s = time_canonical HttpDate s
-string_canonical big_integer s = number_or (decimal_number s) (doc.string s) (decimal_canonical s) refl
-string_canonical big_decimal s = number_or (decimal_number s) (doc.string s) (decimal_canonical s) refl
-string_canonical free s = refl
-string_canonical (fields side n) s = refl
-string_canonical (items element) s = refl
-string_canonical (entries value) s = refl
-string_canonical (whole k) s = refl
-string_canonical document s = refl
-string_canonical (other k) s = refl
+string_canonical : (floors : Bool) (f : Form) (s : List ℕ) → IfSome (string_read floors f s) IsCanonical
+string_canonical floors date_time s = time_canonical floors DateTime s
+string_canonical floors http_date s = time_canonical floors HttpDate s
+string_canonical floors big_integer s = number_or (decimal_number s) (doc.string s) (decimal_canonical s) refl
+string_canonical floors big_decimal s = number_or (decimal_number s) (doc.string s) (decimal_canonical s) refl
+string_canonical floors free s = refl
+string_canonical floors (fields side n) s = refl
+string_canonical floors (items element) s = refl
+string_canonical floors (entries value) s = refl
+string_canonical floors (whole k) s = refl
+string_canonical floors document s = refl
+string_canonical floors (other k) s = refl
 
 -- ---- values
 
@@ -157,27 +158,27 @@ put_all_canonical [] ms h j = j
 put_all_canonical (p ∷ ps) ms h j = put_all_canonical ps (put p.0 p.1 ms) h.1 (put_canonical p.0 p.1 ms h.0 j)
 
 mutual
-  value_canonical : (names : Bool) (f : Form) (j : Json) → IfOk (unwire names f j) IsCanonical
-  value_canonical names f json.null = refl
-  value_canonical names f (json.boolean b) = refl
-  value_canonical names f (json.number s) = told_or IsCanonical (number_read f s) (unread s f) (number_canonically f s)
-  value_canonical names f (json.string s) = told_or IsCanonical (string_read f s) (unread s f) (string_canonical f s)
-  value_canonical names f (json.array js) = gives AreItemsCanonical IsCanonical doc.array (λ ds h. h) (unwire_items names (element_form f) 0 js) (items_canonical names (element_form f) 0 js)
-  value_canonical names f (json.object ms) =
-      gives ArePairsCanonical IsCanonical (λ ps. doc.object (members_of ps)) (λ ps h. put_all_canonical ps doc.no_members h refl) (unwire_pairs names f ms) (pairs_canonical names f ms)
+  value_canonical : (style : WireStyle) (f : Form) (j : Json) → IfOk (unwire style f j) IsCanonical
+  value_canonical style f json.null = refl
+  value_canonical style f (json.boolean b) = refl
+  value_canonical style f (json.number s) = told_or IsCanonical (number_read f s) (unread s f) (number_canonically f s)
+  value_canonical style f (json.string s) = told_or IsCanonical (string_read style.floors_times f s) (unread s f) (string_canonical style.floors_times f s)
+  value_canonical style f (json.array js) = gives AreItemsCanonical IsCanonical doc.array (λ ds h. h) (unwire_items style (element_form f) 0 js) (items_canonical style (element_form f) 0 js)
+  value_canonical style f (json.object ms) =
+      gives ArePairsCanonical IsCanonical (λ ps. doc.object (members_of ps)) (λ ps h. put_all_canonical ps doc.no_members h refl) (unwire_pairs style f ms) (pairs_canonical style f ms)
 
-  items_canonical : (names : Bool) (f : Form) (i : ℕ) (js : json.Items) → IfOk (unwire_items names f i js) AreItemsCanonical
-  items_canonical names f i json.no_items = refl
-  items_canonical names f i (json.item j js) =
-      tries IsCanonical AreItemsCanonical _ (λ d h. gives AreItemsCanonical AreItemsCanonical (doc.item d) (λ ds k. and_from (is_canonical d) (are_canonical_items ds) h k) (unwire_items names f (suc i) js) (items_canonical names f (suc i) js))
-      (within (item_step i) (unwire names f j)) (behind IsCanonical (item_step i) (unwire names f j) (value_canonical names f j))
+  items_canonical : (style : WireStyle) (f : Form) (i : ℕ) (js : json.Items) → IfOk (unwire_items style f i js) AreItemsCanonical
+  items_canonical style f i json.no_items = refl
+  items_canonical style f i (json.item j js) =
+      tries IsCanonical AreItemsCanonical _ (λ d h. gives AreItemsCanonical AreItemsCanonical (doc.item d) (λ ds k. and_from (is_canonical d) (are_canonical_items ds) h k) (unwire_items style f (suc i) js) (items_canonical style f (suc i) js))
+      (within (item_step i) (unwire style f j)) (behind IsCanonical (item_step i) (unwire style f j) (value_canonical style f j))
 
-  pairs_canonical : (names : Bool) (f : Form) (ms : json.Members) → IfOk (unwire_pairs names f ms) ArePairsCanonical
-  pairs_canonical names f json.no_members = tt
-  pairs_canonical names f (json.member w j ms) =
-      let k = name_in names f w in
-      tries IsCanonical ArePairsCanonical _ (λ d h. gives ArePairsCanonical ArePairsCanonical (λ ps. (k, d) ∷ ps) (λ ps l. (h, l)) (unwire_pairs names f ms) (pairs_canonical names f ms))
-      (within (part_step f k) (unwire names (part_form f k) j)) (behind IsCanonical (part_step f k) (unwire names (part_form f k) j) (value_canonical names (part_form f k) j))
+  pairs_canonical : (style : WireStyle) (f : Form) (ms : json.Members) → IfOk (unwire_pairs style f ms) ArePairsCanonical
+  pairs_canonical style f json.no_members = tt
+  pairs_canonical style f (json.member w j ms) =
+      let k = name_in style.json_names f w in
+      tries IsCanonical ArePairsCanonical _ (λ d h. gives ArePairsCanonical ArePairsCanonical (λ ps. (k, d) ∷ ps) (λ ps l. (h, l)) (unwire_pairs style f ms) (pairs_canonical style f ms))
+      (within (part_step f k) (unwire style (part_form f k) j)) (behind IsCanonical (part_step f k) (unwire style (part_form f k) j) (value_canonical style (part_form f k) j))
 
 -- ---- bodies
 
@@ -189,18 +190,18 @@ result_canonical : (r : Result Document Unread) → IfOk r IsCanonical → HasCa
 result_canonical (Ok d) h = h
 result_canonical (Err u) h = tt
 
-json_canonical : (names : Bool) (f : Form) (o : Option Json) → HasCanonical (held_in names f o)
-json_canonical names f (Some j) = result_canonical (unwire names f j) (value_canonical names f j)
-json_canonical names f None = tt
+json_canonical : (style : WireStyle) (f : Form) (o : Option Json) → HasCanonical (held_in style f o)
+json_canonical style f (Some j) = result_canonical (unwire style f j) (value_canonical style f j)
+json_canonical style f None = tt
 
-body_canonical : (names : Bool) (f : Form) (bytes : List ℕ) → IfSome (wire_held names f bytes) HasCanonical
+body_canonical : (style : WireStyle) (f : Form) (bytes : List ℕ) → IfSome (wire_held style f bytes) HasCanonical
 unfolding wire_held
-body_canonical names f bytes = go (length bytes == 0)
+body_canonical style f bytes = go (length bytes == 0)
   where
-    go : (b : Bool) → HasCanonical (if b then held.document (doc.object doc.no_members) else held_in names f (json_in bytes))
+    go : (b : Bool) → HasCanonical (if b then held.document (doc.object doc.no_members) else held_in style f (json_in bytes))
     go true = refl
-    go false = json_canonical names f (json_in bytes)
+    go false = json_canonical style f (json_in bytes)
 
 -- the document that a body is
-pub held_canonical : (names : Bool) (f : Form) (bytes : List ℕ) (d : Document) → wire_held names f bytes ≡ Some (held.document d) → is_canonical d ≡ true
-held_canonical names f bytes d is = subst (λ o. IfSome o HasCanonical) is (body_canonical names f bytes)
+pub held_canonical : (style : WireStyle) (f : Form) (bytes : List ℕ) (d : Document) → wire_held style f bytes ≡ Some (held.document d) → is_canonical d ≡ true
+held_canonical style f bytes d is = subst (λ o. IfSome o HasCanonical) is (body_canonical style f bytes)

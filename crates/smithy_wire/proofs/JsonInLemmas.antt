@@ -6,6 +6,7 @@ use Rattle.smithy_serde.specs.Held as held
 use Rattle.smithy_types.specs.Documents as doc
 use Rattle.smithy_wire.specs.Forms.{Form}
 use Rattle.smithy_wire.specs.WireText.{held_in, json_in, json_of, wire_held}
+use Rattle.smithy_wire.specs.declared.wire_style.WireStyle.{WireStyle}
 
 pub in_utf8 : (bytes : List ℕ) → IsUtf8 bytes → json_in bytes ≡ json_of bytes
 unfolding json_in
@@ -21,10 +22,10 @@ not_utf8 bytes h = none_at bytes _ refl h
 
 -- ---- what is had at hand of bytes
 
-pub empty_held : (names : Bool) (f : Form) (bytes : List ℕ) → (length bytes == 0) ≡ true → wire_held names f bytes ≡ Some (held.document (doc.object doc.no_members))
+pub empty_held : (style : WireStyle) (f : Form) (bytes : List ℕ) → (length bytes == 0) ≡ true → wire_held style f bytes ≡ Some (held.document (doc.object doc.no_members))
 unfolding wire_held
-empty_held names f bytes e = ap (λ b. Some (if b then held.document (doc.object doc.no_members) else held_in names f (json_in bytes))) e
+empty_held style f bytes e = ap (λ b. Some (if b then held.document (doc.object doc.no_members) else held_in style f (json_in bytes))) e
 
-pub some_held : (names : Bool) (f : Form) (bytes : List ℕ) → (length bytes == 0) ≡ false → wire_held names f bytes ≡ Some (held_in names f (json_in bytes))
+pub some_held : (style : WireStyle) (f : Form) (bytes : List ℕ) → (length bytes == 0) ≡ false → wire_held style f bytes ≡ Some (held_in style f (json_in bytes))
 unfolding wire_held
-some_held names f bytes e = ap (λ b. Some (if b then held.document (doc.object doc.no_members) else held_in names f (json_in bytes))) e
+some_held style f bytes e = ap (λ b. Some (if b then held.document (doc.object doc.no_members) else held_in style f (json_in bytes))) e

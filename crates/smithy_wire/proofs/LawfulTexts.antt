@@ -5,6 +5,7 @@ use Rattle.std.specs.Str.{is_utf8}
 use Rattle.smithy_types.specs.Texts.{are_distinct}
 use Rattle.smithy_schema.specs.Nodes.{members_of}
 use Rattle.smithy_document.proofs.SoundDocuments.{sound_means}
+use Rattle.smithy_wire.specs.Styles.{refusing}
 use Rattle.smithy_wire.specs.WireNames.{names_of}
 use Rattle.smithy_wire.specs.WireText.{wire_held}
 use Rattle.smithy_wire.specs.Laws.{UndoesItself, IsReadBack, IsTextLawful, TextsDiffer}
@@ -17,13 +18,13 @@ undoes_itself side s name stand =
     swapped_back side s name (and_parts (are_distinct (flat_map names_of (members_of s))) (list_all is_utf8 (flat_map names_of (members_of s))) stand).0
 
 pub is_read_back : IsReadBack
-is_read_back names f d stand sound = unwire-wire names f d stand (sound_means d sound)
+is_read_back style f d stand sound = unwire-wire style f d stand (sound_means d sound)
 
 pub is_text_lawful : IsTextLawful
-is_text_lawful names f stand = wire_is_lawful names f stand
+is_text_lawful style f stand = wire_is_lawful style f stand
 
 pub texts_differ : TextsDiffer
 texts_differ names f stand d e sound other low flat same =
-    let law = wire_is_lawful names f stand in
-    let both = sym (law.reads_back d sound low) ∙ ap (wire_held names f) same ∙ law.reads_back e other flat in
+    let law = wire_is_lawful (refusing names) f stand in
+    let both = sym (law.reads_back d sound low) ∙ ap (wire_held (refusing names) f) same ∙ law.reads_back e other flat in
     cc both

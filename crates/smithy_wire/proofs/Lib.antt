@@ -1,14 +1,18 @@
 pub mod BlankLemmas
 pub mod CanonicalReads
 pub mod Common
+pub mod EachLemmas
+pub mod FieldLemmas
 pub mod FinishedTexts
 pub mod JsonInLemmas
+pub mod KnownLemmas
 pub mod LawfulTexts
 pub mod MemberLemmas
 pub mod MisfitWalks
 pub mod NameLaws
 pub mod NumberLaws
 pub mod OnLiterals
+pub mod PartLemmas
 pub mod PathLemmas
 pub mod PlainLemmas
 pub mod ReadLemmas
@@ -19,3 +23,4 @@ pub mod TimeLaws
 pub mod WireLaws
 pub mod WriteLemmas
 pub mod WrittenJson
+pub mod ZoneLemmas

@@ -100,7 +100,7 @@ distinct_front x (z ∷ xs) ys e here there =
         cc (behind, apart)
     go false is here apart rest = rest here there
 
-only_one : (x : List ℕ) (ms : List Schema) (m n : Schema) → are_distinct (flat_map names_of ms) ≡ true → Among m ms → Among n ms
+pub only_one : (x : List ℕ) (ms : List Schema) (m n : Schema) → are_distinct (flat_map names_of ms) ≡ true → Among m ms → Among n ms
     → is_one_of x (names_of m) ≡ true → is_one_of x (names_of n) ≡ true → m ≡ n
 only_one x [] m n apart here there one other = absurd here
 only_one x (c ∷ cs) m n apart (inl here) (inl there) one other = here ∙ sym there
@@ -160,7 +160,7 @@ named_field side s x m e = go (member_named s x) (named_found s x) e
     go None at e = absurd (cc e)
     go (Some n) at e = by n (is_field side n) refl (sym at) e
 
-field_at : (side : Option Side) (s : Schema) (m : Schema) → are_distinct (flat_map names_of (members_of s)) ≡ true → IsFieldOf side s m → field_named side s (name_of m) ≡ Some m
+pub field_at : (side : Option Side) (s : Schema) (m : Schema) → are_distinct (flat_map names_of (members_of s)) ≡ true → IsFieldOf side s m → field_named side s (name_of m) ≡ Some m
 field_at side s m apart field =
     let found = found_where (is_named (Some (name_of m))) (members_of s) m field.1 (has_own_name side m field.0) in
     let is = found_among (is_named (Some (name_of m))) (members_of s) found.0 found.1 in
@@ -175,7 +175,7 @@ json_field side s x m e =
     let field = filtered (is_field side) (members_of s) m found.1 in
     (same_from (json_name m) x found.0, (field.0, field.1))
 
-json_at : (side : Option Side) (s : Schema) (m : Schema) → are_distinct (flat_map names_of (members_of s)) ≡ true → IsFieldOf side s m → field_in_json side s (json_name m) ≡ Some m
+pub json_at : (side : Option Side) (s : Schema) (m : Schema) → are_distinct (flat_map names_of (members_of s)) ≡ true → IsFieldOf side s m → field_in_json side s (json_name m) ≡ Some m
 json_at side s m apart field =
     let test = λ (n : Schema). same_text (json_name n) (json_name m) in
     let found = found_where test (filter (is_field side) (members_of s)) m (kept (is_field side) (members_of s) m field.1 field.0) (same_self (json_name m)) in

@@ -1,5 +1,5 @@
 -- Documents of JSON values, an item or a member at a time.
-use Rattle.smithy_wire.proofs.Common.{◌≡◌, refl, sym, ap, ◌∙◌, subst, ℕ, zero, suc, ◌+◌, ◌<◌, ◌≤◌, arith, Bool, List, [], ◌∷◌, length, drop, Result, Ok, Err}
+use Rattle.smithy_wire.proofs.Common.{◌≡◌, refl, sym, ap, ◌∙◌, subst, ℕ, zero, suc, ◌+◌, ◌<◌, ◌≤◌, arith, List, [], ◌∷◌, length, drop, Result, Ok, Err}
 use Rattle.std.proofs.Common.{get_or}
 use Rattle.std.proofs.lemmas.List.{drop_more}
 use Rattle.std.proofs.Math.ListN.{drop_of_length-le}
@@ -13,6 +13,7 @@ use Rattle.smithy_types.specs.Documents as doc
 use Rattle.smithy_types.specs.Documents.{Document, Items, Members, items_snoc, put, put_all, members_of}
 use Rattle.smithy_types.specs.Results.{then_give, then_try}
 use Rattle.smithy_wire.specs.declared.unread.Unread.{Unread}
+use Rattle.smithy_wire.specs.declared.wire_style.WireStyle.{WireStyle}
 use Rattle.std.specs.Prelude.{IsErrAnd}
 use Rattle.smithy_types.specs.DocumentView.{view, items_view as documents_view, members_view as fields_view}
 use Rattle.smithy_types.specs.declared.document.Document as code
@@ -44,18 +45,18 @@ and_all : (found : Items) (d : Document) (r : Result Items Unread) → then_give
 and_all found d (Ok es) = ap (λ (x : Items). Ok x) (sym (and_snoc found d es))
 and_all found d (Err u) = refl
 
-pub items_begin : (n : Bool) (f : Form) (vs : Values) → then_give (unwire_items n f 0 (items_view vs)) (and_items doc.no_items) ≡ unwire_items n f 0 (items_view vs)
+pub items_begin : (n : WireStyle) (f : Form) (vs : Values) → then_give (unwire_items n f 0 (items_view vs)) (and_items doc.no_items) ≡ unwire_items n f 0 (items_view vs)
 items_begin n f vs = go (unwire_items n f 0 (items_view vs))
   where
     go : (r : Result Items Unread) → then_give r (and_items doc.no_items) ≡ r
     go (Ok ds) = refl
     go (Err u) = refl
 
-items_here : (n : Bool) (f : Form) (i : ℕ) (vs : Values) (v : Value Global) → i < length vs → v ≡ get_or vs i v
+items_here : (n : WireStyle) (f : Form) (i : ℕ) (vs : Values) (v : Value Global) → i < length vs → v ≡ get_or vs i v
     → unwire_items n f i (items_view (drop i vs)) ≡ then_try (within (item_step i) (unwire n f (value_view v))) λ d. then_give (unwire_items n f (suc i) (items_view (drop (i + 1) vs))) (doc.item d)
 items_here n f i vs v within is = ap (λ ws. unwire_items n f i (items_view ws)) (drop_more vs i v within ∙ ap (λ w. w ∷ drop (i + 1) vs) (sym is))
 
-pub items_more : (n : Bool) (f : Form) (i : ℕ) (vs : Values) (v : Value Global) (found : Items) (d : Document) (all : Result Items Unread) → i < length vs → v ≡ get_or vs i v
+pub items_more : (n : WireStyle) (f : Form) (i : ℕ) (vs : Values) (v : Value Global) (found : Items) (d : Document) (all : Result Items Unread) → i < length vs → v ≡ get_or vs i v
     → within (item_step i) (unwire n f (value_view v)) ≡ Ok d → then_give (unwire_items n f i (items_view (drop i vs))) (and_items found) ≡ all
     → then_give (unwire_items n f (i + 1) (items_view (drop (i + 1) vs))) (and_items (items_snoc found d)) ≡ all
 items_more n f i vs v found d all within is one h =
@@ -65,12 +66,12 @@ items_more n f i vs v found d all within is one h =
     ∙ ap (λ r. then_give (then_try r λ x. then_give (unwire_items n f (suc i) (items_view (drop (i + 1) vs))) (doc.item x)) (and_items found)) (sym one)
     ∙ ap (λ r. then_give r (and_items found)) (sym (items_here n f i vs v within is)) ∙ h
 
-pub items_fail : (n : Bool) (f : Form) (i : ℕ) (vs : Values) (v : Value Global) (found : Items) (u : Unread) (all : Result Items Unread) → i < length vs → v ≡ get_or vs i v
+pub items_fail : (n : WireStyle) (f : Form) (i : ℕ) (vs : Values) (v : Value Global) (found : Items) (u : Unread) (all : Result Items Unread) → i < length vs → v ≡ get_or vs i v
     → within (item_step i) (unwire n f (value_view v)) ≡ Err u → then_give (unwire_items n f i (items_view (drop i vs))) (and_items found) ≡ all → all ≡ Err u
 items_fail n f i vs v found u all within is one h =
     sym h ∙ ap (λ r. then_give r (and_items found)) (items_here n f i vs v within is ∙ ap (λ r. then_try r λ x. then_give (unwire_items n f (suc i) (items_view (drop (i + 1) vs))) (doc.item x)) one)
 
-pub items_end : (n : Bool) (f : Form) (i : ℕ) (vs : Values) (found : Items) (all : Result Items Unread) → length vs ≤ i
+pub items_end : (n : WireStyle) (f : Form) (i : ℕ) (vs : Values) (found : Items) (all : Result Items Unread) → length vs ≤ i
     → then_give (unwire_items n f i (items_view (drop i vs))) (and_items found) ≡ all → all ≡ Ok found
 items_end n f i vs found all past h =
     sym h ∙ ap (λ ws. then_give (unwire_items n f i (items_view ws)) (and_items found)) (drop_of_length-le vs past) ∙ ap (λ (x : Items). Ok x) (and_none found)
@@ -87,32 +88,32 @@ put_on : (found : Members) (k : List ℕ) (d : Document) (r : Result (List (List
 put_on found k d (Ok ps) = refl
 put_on found k d (Err u) = refl
 
-abbrev pub rest_of : Bool → Form → ℕ → Fields → Result (List (List ℕ × Document)) Unread
+abbrev pub rest_of : WireStyle → Form → ℕ → Fields → Result (List (List ℕ × Document)) Unread
 rest_of n f i ms = unwire_pairs n f (members_view (drop i ms))
 
-abbrev pub one_of : Bool → Form → (Bor (List ℕ) × Value Global) → Result Document Unread
-one_of n f m = within (part_step f (name_in n f m.0.now)) (unwire n (part_form f (name_in n f m.0.now)) (value_view m.1))
+abbrev pub one_of : WireStyle → Form → (Bor (List ℕ) × Value Global) → Result Document Unread
+one_of n f m = within (part_step f (name_in n.json_names f m.0.now)) (unwire n (part_form f (name_in n.json_names f m.0.now)) (value_view m.1))
 
-members_here : (n : Bool) (f : Form) (i : ℕ) (ms : Fields) (m : Bor (List ℕ) × Value Global) → i < length ms → m ≡ get_or ms i m
-    → rest_of n f i ms ≡ then_try (one_of n f m) λ d. then_give (rest_of n f (i + 1) ms) (λ ps. (name_in n f m.0.now, d) ∷ ps)
+members_here : (n : WireStyle) (f : Form) (i : ℕ) (ms : Fields) (m : Bor (List ℕ) × Value Global) → i < length ms → m ≡ get_or ms i m
+    → rest_of n f i ms ≡ then_try (one_of n f m) λ d. then_give (rest_of n f (i + 1) ms) (λ ps. (name_in n.json_names f m.0.now, d) ∷ ps)
 members_here n f i ms m within is = ap (λ ws. unwire_pairs n f (members_view ws)) (drop_more ms i m within ∙ ap (λ w. w ∷ drop (i + 1) ms) (sym is))
 
-pub members_more : (n : Bool) (f : Form) (i : ℕ) (ms : Fields) (m : Bor (List ℕ) × Value Global) (found : Members) (d : Document) (all : Result Members Unread) → i < length ms → m ≡ get_or ms i m
-    → within (part_step f (name_in n f m.0.now)) (unwire n (part_form f (name_in n f m.0.now)) (value_view m.1)) ≡ Ok d
+pub members_more : (n : WireStyle) (f : Form) (i : ℕ) (ms : Fields) (m : Bor (List ℕ) × Value Global) (found : Members) (d : Document) (all : Result Members Unread) → i < length ms → m ≡ get_or ms i m
+    → within (part_step f (name_in n.json_names f m.0.now)) (unwire n (part_form f (name_in n.json_names f m.0.now)) (value_view m.1)) ≡ Ok d
     → then_give (unwire_pairs n f (members_view (drop i ms))) (λ ps. put_all ps found) ≡ all
-    → then_give (unwire_pairs n f (members_view (drop (i + 1) ms))) (λ ps. put_all ps (put (name_in n f m.0.now) d found)) ≡ all
+    → then_give (unwire_pairs n f (members_view (drop (i + 1) ms))) (λ ps. put_all ps (put (name_in n.json_names f m.0.now) d found)) ≡ all
 members_more n f i ms m found d all within is one h =
-    sym (put_on found (name_in n f m.0.now) d (rest_of n f (i + 1) ms))
-    ∙ ap (λ r. then_give (then_try r λ x. then_give (rest_of n f (i + 1) ms) (λ ps. (name_in n f m.0.now, x) ∷ ps)) (λ ps. put_all ps found)) (sym one)
+    sym (put_on found (name_in n.json_names f m.0.now) d (rest_of n f (i + 1) ms))
+    ∙ ap (λ r. then_give (then_try r λ x. then_give (rest_of n f (i + 1) ms) (λ ps. (name_in n.json_names f m.0.now, x) ∷ ps)) (λ ps. put_all ps found)) (sym one)
     ∙ ap (λ r. then_give r (λ ps. put_all ps found)) (sym (members_here n f i ms m within is)) ∙ h
 
-pub members_fail : (n : Bool) (f : Form) (i : ℕ) (ms : Fields) (m : Bor (List ℕ) × Value Global) (found : Members) (u : Unread) (all : Result Members Unread) → i < length ms → m ≡ get_or ms i m
-    → within (part_step f (name_in n f m.0.now)) (unwire n (part_form f (name_in n f m.0.now)) (value_view m.1)) ≡ Err u
+pub members_fail : (n : WireStyle) (f : Form) (i : ℕ) (ms : Fields) (m : Bor (List ℕ) × Value Global) (found : Members) (u : Unread) (all : Result Members Unread) → i < length ms → m ≡ get_or ms i m
+    → within (part_step f (name_in n.json_names f m.0.now)) (unwire n (part_form f (name_in n.json_names f m.0.now)) (value_view m.1)) ≡ Err u
     → then_give (unwire_pairs n f (members_view (drop i ms))) (λ ps. put_all ps found) ≡ all → all ≡ Err u
 members_fail n f i ms m found u all within is one h =
-    sym h ∙ ap (λ r. then_give r (λ ps. put_all ps found)) (members_here n f i ms m within is ∙ ap (λ r. then_try r λ x. then_give (rest_of n f (i + 1) ms) (λ ps. (name_in n f m.0.now, x) ∷ ps)) one)
+    sym h ∙ ap (λ r. then_give r (λ ps. put_all ps found)) (members_here n f i ms m within is ∙ ap (λ r. then_try r λ x. then_give (rest_of n f (i + 1) ms) (λ ps. (name_in n.json_names f m.0.now, x) ∷ ps)) one)
 
-pub members_end : (n : Bool) (f : Form) (i : ℕ) (ms : Fields) (found : Members) (all : Result Members Unread) → length ms ≤ i
+pub members_end : (n : WireStyle) (f : Form) (i : ℕ) (ms : Fields) (found : Members) (all : Result Members Unread) → length ms ≤ i
     → then_give (unwire_pairs n f (members_view (drop i ms))) (λ ps. put_all ps found) ≡ all → all ≡ Ok found
 members_end n f i ms found all past h = sym h ∙ ap (λ ws. then_give (unwire_pairs n f (members_view ws)) (λ ps. put_all ps found)) (drop_of_length-le ms past)
 
@@ -124,7 +125,7 @@ member_depth (w ∷ ms) (suc i) m within is = let inside : depth (value_view m.1
 -- ---- refusals
 
 -- what one part can't be read as, is what the whole can't
-pub refused_item : (n : Bool) (f : Form) (i : ℕ) (vs : Values) (v : Value Global) (found : Items) (e : ReadError) (r : Result Documents ReadError) → IsErrAnd r (λ y. y ≡ e) → i < length vs → v ≡ get_or vs i v
+pub refused_item : (n : WireStyle) (f : Form) (i : ℕ) (vs : Values) (v : Value Global) (found : Items) (e : ReadError) (r : Result Documents ReadError) → IsErrAnd r (λ y. y ≡ e) → i < length vs → v ≡ get_or vs i v
     → Reads view (within (item_step i) (unwire n f (value_view v))) (Err e) → then_give (unwire_items n f i (items_view (drop i vs))) (and_items found) ≡ unwire_items n f 0 (items_view vs)
     → Reads documents_view (unwire_items n f 0 (items_view vs)) r
 refused_item n f i vs v found e (Ok ds) same inside is one h = absurd same
@@ -134,7 +135,7 @@ refused_item n f i vs v found e (Err y) same inside is one h = go y (subst (λ x
     go (error.Unread u) told = items_fail n f i vs v found u (unwire_items n f 0 (items_view vs)) inside is told h
     go error.OutOfMemory told = tt
 
-pub refused_member : (n : Bool) (f : Form) (i : ℕ) (ms : Fields) (m : Bor (List ℕ) × Value Global) (found : Members) (e : ReadError) (r : Result CodeMembers ReadError) → IsErrAnd r (λ y. y ≡ e) → i < length ms → m ≡ get_or ms i m
+pub refused_member : (n : WireStyle) (f : Form) (i : ℕ) (ms : Fields) (m : Bor (List ℕ) × Value Global) (found : Members) (e : ReadError) (r : Result CodeMembers ReadError) → IsErrAnd r (λ y. y ≡ e) → i < length ms → m ≡ get_or ms i m
     → Reads view (one_of n f m) (Err e) → then_give (unwire_pairs n f (members_view (drop i ms))) (λ ps. put_all ps found) ≡ then_give (unwire_pairs n f (members_view ms)) members_of
     → Reads fields_view (then_give (unwire_pairs n f (members_view ms)) members_of) r
 refused_member n f i ms m found e (Ok d) same inside is one h = absurd same
@@ -145,9 +146,12 @@ refused_member n f i ms m found e (Err y) same inside is one h = go y (subst (λ
     go error.OutOfMemory told = tt
 
 -- a part that was read by the name, the form and the step that were found
-pub one_read : (n : Bool) (f : Form) (m : Bor (List ℕ) × Value Global) (name : List ℕ) (g : Form) (step : List ℕ) (r : Result code.Document ReadError)
-    → name ≡ name_in n f m.0.now → g ≡ part_form f name → step ≡ part_step f name → Reads view (within step (unwire n g (value_view m.1))) r → Reads view (one_of n f m) r
-one_read n f m name g step r named formed stepped h =
-    subst (λ k. Reads view (within (part_step f k) (unwire n (part_form f k) (value_view m.1))) r) named
-    (subst (λ x. Reads view (within x (unwire n (part_form f name) (value_view m.1))) r) stepped
-    (subst (λ x. Reads view (within step (unwire n x (value_view m.1))) r) formed h))
+pub part_read : (n : WireStyle) (f : Form) (m : Bor (List ℕ) × Value Global) (name : List ℕ) (o : WireStyle) (g : Form) (step : List ℕ) (r : Result code.Document ReadError)
+    → name ≡ name_in n.json_names f m.0.now → o ≡ n → g ≡ part_form f (name_in n.json_names f m.0.now) → step ≡ part_step f name
+    → Reads view (within step (unwire o g (value_view m.1))) r → Reads view (one_of n f m) r
+part_read n f m name o g step r named kept formed stepped h =
+    let own = name_in n.json_names f m.0.now in
+    subst (λ k. Reads view (within (part_step f k) (unwire n (part_form f own) (value_view m.1))) r) named
+    (subst (λ x. Reads view (within x (unwire n (part_form f own) (value_view m.1))) r) stepped
+    (subst (λ x. Reads view (within step (unwire n x (value_view m.1))) r) formed
+    (subst (λ x. Reads view (within step (unwire x g (value_view m.1))) r) kept h)))

@@ -1,5 +1,5 @@
 -- Worked rows of the definitions.
-use Rattle.smithy_wire.proofs.Common.{◌≡◌, refl, false, Some, None, pos}
+use Rattle.smithy_wire.proofs.Common.{◌≡◌, refl, true, false, Some, None, pos}
 use Rattle.std.specs.Prelude.{codes, neg_ℤ}
 use Rattle.json.specs.Json as json
 use Rattle.smithy_ids.specs.declared.shape_type.ShapeType.TheVariants as kind
@@ -55,9 +55,21 @@ pub big_integer_with_an_exponent : number_read big_integer (codes "1e3") ≡ Som
 unfolding wire_on_literals
 big_integer_with_an_exponent = refl
 
-pub time_that_is_read : string_read http_date (codes "Tue, 09 Jan 2018 18:47:00 GMT") ≡ Some (doc.number (doc.positive 1515523620))
+pub time_that_is_read : string_read false http_date (codes "Tue, 09 Jan 2018 18:47:00 GMT") ≡ Some (doc.number (doc.positive 1515523620))
 unfolding wire_on_literals
 time_that_is_read = refl
+
+pub time_with_an_offset : string_read false date_time (codes "2018-01-10t00:17:00+05:30") ≡ Some (doc.number (doc.positive 1515523620))
+unfolding wire_on_literals
+time_with_an_offset = refl
+
+pub time_with_a_fraction : string_read true date_time (codes "2018-01-09T18:47:00.999Z") ≡ Some (doc.number (doc.positive 1515523620))
+unfolding wire_on_literals
+time_with_a_fraction = refl
+
+pub fraction_is_refused : string_read false http_date (codes "Tue, 09 Jan 2018 18:47:00.5 GMT") ≡ None
+unfolding wire_on_literals
+fraction_is_refused = refl
 
 pub refusal_with_its_path : unread_text record { text = codes "1.5"; word = codes "integer"; path = codes ".Table[2]" } ≡ codes "cannot read 1.5 as integer at Table[2]"
 unfolding wire_on_literals

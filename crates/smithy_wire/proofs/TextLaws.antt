@@ -27,16 +27,18 @@ use Rattle.smithy_types.specs.declared.date_time.Format.TheVariants.{DateTime, H
 use Rattle.smithy_document.proofs.SoundDocuments.{IsSoundNumber, IsSound, AreItemsSound, AreMembersSound, sound_means}
 use Rattle.json.proofs.Printed.Utf8.{IsUtf8-are_ascii}
 use Rattle.smithy_wire.specs.declared.side.Side.{Side}
+use Rattle.smithy_wire.specs.declared.wire_style.WireStyle.{WireStyle}
 use Rattle.smithy_wire.specs.WireNames.{json_name, names_of, field_named, field_in_json, swapped}
 use Rattle.smithy_wire.specs.ExactNumbers.{is_number, is_integer}
 use Rattle.smithy_wire.specs.Forms.{Form, free, fields, items, entries, date_time, http_date, big_integer, big_decimal, whole, document, other, element_form, part_form, name_in}
-use Rattle.smithy_wire.specs.Standing.{Stand}
+use Rattle.smithy_wire.specs.Standing.{NodeStands, Stand}
+use Rattle.smithy_wire.proofs.EachLemmas.{closed_stands, each_element, each_part}
 use Rattle.smithy_wire.specs.Wire.{wire, wire_items, wire_members, wire_number, wire_string}
 use Rattle.smithy_wire.specs.WireText.{wire_text, json_in, held_of, held_in, wire_held}
 use Rattle.smithy_wire.proofs.NameLaws.{same_from, named_field, json_field, own_name, own_json_name, one_of_members}
 use Rattle.smithy_wire.proofs.NumberLaws.{decimal_is_number, decimal_utf8, is_number-means}
 use Rattle.smithy_wire.proofs.TimeLaws.{in_range, within_calendar}
-use Rattle.smithy_wire.proofs.WireLaws.{stands_element, stands_part, unwire-wire}
+use Rattle.smithy_wire.proofs.WireLaws.{unwire-wire}
 use Rattle.smithy_wire.proofs.WrittenJson.{IsWritable, AreItemsWritable, AreMembersWritable, printed_some, read_printed}
 
 -- a scalar of JSON that can be written
@@ -146,7 +148,7 @@ mutual
   written names f (doc.boolean b) stand h = tt
   written names f (doc.number n) stand h = (number_written f n h).writable
   written names f (doc.string s) stand h = (string_written f s h).writable
-  written names f (doc.array ds) stand h = items_written names (element_form f) ds (λ is. stands_element f (stand is)) h
+  written names f (doc.array ds) stand h = items_written names (element_form f) ds (λ is. each_element NodeStands closed_stands f (stand is)) h
   written names f (doc.object ms) stand h = members_written names f ms stand h
 
   items_written : (names : Bool) (f : Form) (ds : doc.Items) → Stand names f → AreItemsSound ds → AreItemsWritable (wire_items names f ds)
@@ -156,7 +158,7 @@ mutual
   members_written : (names : Bool) (f : Form) (ms : doc.Members) → Stand names f → AreMembersSound ms → AreMembersWritable (wire_members names f ms)
   members_written names f doc.no_members stand h = tt
   members_written names f (doc.member k d ms) stand h =
-      (name_utf8 names f k stand h.0, written names (part_form f k) d (λ is. stands_part f k (stand is)) h.1, members_written names f ms stand h.3)
+      (name_utf8 names f k stand h.0, written names (part_form f k) d (λ is. each_part NodeStands closed_stands f k (stand is)) h.1, members_written names f ms stand h.3)
 
 mutual
   depth_is : (names : Bool) (f : Form) (d : Document) → IsSound d → depth (wire names f d) ≡ nesting d
@@ -185,18 +187,18 @@ not_zero (b ∷ text) some = go (length (b ∷ text) == 0) refl
     go false e = refl
     go true e = absurd (let none : length (b ∷ text) ≡ 0 = eqb-true (length (b ∷ text)) 0 e in omega (arith, none))
 
-pub wire_is_lawful : (names : Bool) (f : Form) → Stand names f → IsLawfulText (wire_text names f) (wire_held names f)
+pub wire_is_lawful : (style : WireStyle) (f : Form) → Stand style.json_names f → IsLawfulText (wire_text style.json_names f) (wire_held style f)
 unfolding wire_text wire_held
-wire_is_lawful names f stand = record {
-  is_not_empty = λ d sound. printed_some (wire names f d) (written names f d stand (sound_means d sound));
+wire_is_lawful style f stand = record {
+  is_not_empty = λ d sound. printed_some (wire style.json_names f d) (written style.json_names f d stand (sound_means d sound));
   reads_back = λ d sound low. read_back d sound low;
 }
   where
-    read_back : (d : Document) → IsTrue (is_sound d) → nesting d ≤ max_nesting → wire_held names f (wire_text names f d) ≡ Some (held.document d)
+    read_back : (d : Document) → IsTrue (is_sound d) → nesting d ≤ max_nesting → wire_held style f (wire_text style.json_names f d) ≡ Some (held.document d)
     read_back d sound low =
         let h = sound_means d sound in
-        let writable = written names f d stand h in
-        let shallow : depth (wire names f d) ≤ 127 = omega (arith, depth_is names f d h, low) in
-        ap (λ b. Some (if b then held.document (doc.object doc.no_members) else held_in names f (json_in (print (json_tokens (wire names f d)))))) (not_zero (print (json_tokens (wire names f d))) (printed_some (wire names f d) writable))
-        ∙ ap (λ o. Some (held_in names f o)) (read_printed (wire names f d) writable shallow)
-        ∙ ap (λ r. Some (held_of r)) (unwire-wire names f d stand h)
+        let writable = written style.json_names f d stand h in
+        let shallow : depth (wire style.json_names f d) ≤ 127 = omega (arith, depth_is style.json_names f d h, low) in
+        ap (λ b. Some (if b then held.document (doc.object doc.no_members) else held_in style f (json_in (print (json_tokens (wire style.json_names f d)))))) (not_zero (print (json_tokens (wire style.json_names f d))) (printed_some (wire style.json_names f d) writable))
+        ∙ ap (λ o. Some (held_in style f o)) (read_printed (wire style.json_names f d) writable shallow)
+        ∙ ap (λ r. Some (held_of r)) (unwire-wire style f d stand h)

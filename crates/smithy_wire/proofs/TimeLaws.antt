@@ -1,11 +1,10 @@
 -- The text of a time is spelled as it, ends in no blank, and is ASCII.
 use Rattle.std.proofs.Common.{leb-true, lt-ltb, le-leb}
 use Rattle.std.specs.Prelude.{unsigned_abs, int_le, neg_ℤ, codes, ◌+ℤ◌, ◌/◌, ◌%◌}
-use Rattle.smithy_wire.proofs.Common.{◌≡◌, refl, sym, ap, ◌∙◌, ℕ, ◌-◌, ◌+◌, ◌^◌, ◌≤◌, arith, Bool, true, false, cond, if◌then◌else◌, List, [], ◌∷◌, ◌++◌, length, take, drop, Option, Some, None, option_map, ℤ, pos, negsuc, and_parts, and_from, length-append}
+use Rattle.smithy_wire.proofs.Common.{◌≡◌, refl, sym, ap, ◌∙◌, ℕ, ◌-◌, ◌+◌, ◌^◌, ◌≤◌, arith, Bool, true, false, cond, if◌then◌else◌, List, [], ◌∷◌, ◌++◌, length, take, drop, Option, Some, None, option_map, option_and_then, ℤ, pos, negsuc, and_parts, and_from, length-append}
 use Rattle.std.proofs.Math.Seq.{drop-append_seam, drop-append-add, take-append_seam}
 use Rattle.std.specs.Option.{option_or}
 use Rattle.std.specs.Str.{str_to_ascii_uppercase}
-use Rattle.smithy_types.specs.TimestampReading.{timestamp_of}
 use Rattle.smithy_types.specs.Texts.{same_text}
 use Rattle.smithy_types.specs.declared.date_time.Format.{Format}
 use Rattle.smithy_types.specs.declared.date_time.Format.TheVariants.{EpochSeconds, DateTime, HttpDate}
@@ -13,7 +12,7 @@ use Rattle.smithy_types.specs.Timestamps.{is_in_calendar, since_year_one, timest
 use Rattle.smithy_types.specs.Calendar.{date_of}
 use Rattle.smithy_serde.specs.Ranges.{is_signed_within}
 use Rattle.smithy_strings.proofs.UnwireLaws.{time_back}
-use Rattle.smithy_wire.specs.WireTimes.{spelled, at_end, before_end, before_blank}
+use Rattle.smithy_wire.specs.WireTimes.{spelled, at_end, at_zone, before_end, before_blank, before_zone, in_zone}
 
 -- ---- the end of a text
 
@@ -47,11 +46,13 @@ within_calendar format z t is = go (is_in_calendar z) is
     go true is = refl
     go false is = absurd (cc is)
 
-pub spelled_date_time : (z : ℤ) (t : List ℕ) → timestamp_text DateTime z ≡ Some t → spelled DateTime t ≡ Some z
-spelled_date_time z t is = ap (λ o. option_or o (timestamp_of DateTime (str_to_ascii_uppercase t))) (time_back DateTime z t (in_range z (within_calendar DateTime z t is)) is)
+pub spelled_date_time : (floors : Bool) (z : ℤ) (t : List ℕ) → timestamp_text DateTime z ≡ Some t → spelled floors DateTime t ≡ Some z
+spelled_date_time floors z t is = ap (λ o. option_or o (in_zone floors (str_to_ascii_uppercase t))) (time_back DateTime z t (in_range z (within_calendar DateTime z t is)) is)
 
-pub spelled_http_date : (z : ℤ) (t : List ℕ) → timestamp_text HttpDate z ≡ Some t → spelled HttpDate t ≡ Some z
-spelled_http_date z t is = time_back HttpDate z t (in_range z (within_calendar HttpDate z t is)) is
+pub spelled_http_date : (floors : Bool) (z : ℤ) (t : List ℕ) → timestamp_text HttpDate z ≡ Some t → spelled floors HttpDate t ≡ Some z
+spelled_http_date floors z t is =
+    ap (λ o. option_or o (option_and_then (at_zone floors HttpDate (codes " GMT")) (before_zone (codes " GMT") t)))
+    (time_back HttpDate z t (in_range z (within_calendar HttpDate z t is)) is)
 
 -- the end of a text of a time
 date_time_end : (n : ℕ) → at_end 1 (date_time_text n) ≡ 90 ∷ []

@@ -4,6 +4,7 @@ pub mod Forms
 pub mod Laws
 pub mod Misfits
 pub mod Standing
+pub mod Styles
 pub mod Unwire
 pub mod Wire
 pub mod WireNames
@@ -12,3 +13,4 @@ pub mod WireTimes
 pub mod views
 -- what shows the code, under the path of the other modules too
 pub use Rattle.smithy_wire.specs.views.WireOf
+pub use Rattle.smithy_wire.specs.views.KnownForms

@@ -7,6 +7,7 @@ use Rattle.smithy_types.specs.declared.date_time.Format.{Format}
 use Rattle.smithy_types.specs.declared.date_time.Format.TheVariants.{DateTime, HttpDate}
 use Rattle.smithy_wire.specs.Words.{Json, Document, number_of, number_text, option_map_or, then_try, then_give}
 use Rattle.smithy_wire.specs.declared.unread.Unread.{Unread}
+use Rattle.smithy_wire.specs.declared.wire_style.WireStyle.{WireStyle}
 use Rattle.smithy_wire.specs.ExactNumbers.{is_integer, plain_number, whole_number, decimal_number}
 use Rattle.smithy_wire.specs.WireTimes.{spelled, before_blank}
 use Rattle.smithy_wire.specs.Forms.{Form, free, fields, date_time, http_date, big_integer, big_decimal, whole, element_form, part_form, name_in, form_word}
@@ -43,38 +44,39 @@ number_read big_decimal s = Some (doc.string s)
 number_read _ s = option_map doc.number (plain_number s)
 
 -- a text with a blank at its end, without it; else the seconds that it spells
-abbrev pub time_read : Format → List ℕ → Option Document
-time_read format s = option_map_or (λ front. Some (doc.string front)) (before_blank s) (option_map (λ z. doc.number (number_of z)) (spelled format s))
+abbrev pub time_read : Bool → Format → List ℕ → Option Document
+time_read floors format s =
+    option_map_or (λ front. Some (doc.string front)) (before_blank s) (option_map (λ z. doc.number (number_of z)) (spelled floors format s))
 
 -- a number where the text is its decimal, else the text
 abbrev pub decimal_read : List ℕ → Document
 decimal_read s = option_map_or doc.number (decimal_number s) (doc.string s)
 
 -- the document of a text
-abbrev pub string_read : Form → List ℕ → Option Document
-string_read date_time s = time_read DateTime s
-string_read http_date s = time_read HttpDate s
-string_read big_integer s = Some (decimal_read s)
-string_read big_decimal s = Some (decimal_read s)
-string_read _ s = Some (doc.string s)
+abbrev pub string_read : Bool → Form → List ℕ → Option Document
+string_read floors date_time s = time_read floors DateTime s
+string_read floors http_date s = time_read floors HttpDate s
+string_read floors big_integer s = Some (decimal_read s)
+string_read floors big_decimal s = Some (decimal_read s)
+string_read floors _ s = Some (doc.string s)
 
 -- the document of a JSON value; of one name the last value stays
 abbrev mutual
-  pub unwire : Bool → Form → Json → Result Document Unread
-  unwire names f json.null = Ok doc.null
-  unwire names f (json.boolean b) = Ok (doc.boolean b)
-  unwire names f (json.number s) = ok_or (number_read f s) (unread s f)
-  unwire names f (json.string s) = ok_or (string_read f s) (unread s f)
-  unwire names f (json.array js) = then_give (unwire_items names (element_form f) 0 js) doc.array
-  unwire names f (json.object ms) = then_give (unwire_pairs names f ms) (λ ps. doc.object (members_of ps))
+  pub unwire : WireStyle → Form → Json → Result Document Unread
+  unwire style f json.null = Ok doc.null
+  unwire style f (json.boolean b) = Ok (doc.boolean b)
+  unwire style f (json.number s) = ok_or (number_read f s) (unread s f)
+  unwire style f (json.string s) = ok_or (string_read style.floors_times f s) (unread s f)
+  unwire style f (json.array js) = then_give (unwire_items style (element_form f) 0 js) doc.array
+  unwire style f (json.object ms) = then_give (unwire_pairs style f ms) (λ ps. doc.object (members_of ps))
 
-  pub unwire_items : Bool → Form → ℕ → json.Items → Result doc.Items Unread
-  unwire_items names f i json.no_items = Ok doc.no_items
-  unwire_items names f i (json.item j js) =
-      then_try (within (item_step i) (unwire names f j)) λ d. then_give (unwire_items names f (suc i) js) (doc.item d)
+  pub unwire_items : WireStyle → Form → ℕ → json.Items → Result doc.Items Unread
+  unwire_items style f i json.no_items = Ok doc.no_items
+  unwire_items style f i (json.item j js) =
+      then_try (within (item_step i) (unwire style f j)) λ d. then_give (unwire_items style f (suc i) js) (doc.item d)
 
-  pub unwire_pairs : Bool → Form → json.Members → Result (List (List ℕ × Document)) Unread
-  unwire_pairs names f json.no_members = Ok []
-  unwire_pairs names f (json.member w j ms) =
-      let k = name_in names f w in
-      then_try (within (part_step f k) (unwire names (part_form f k) j)) λ d. then_give (unwire_pairs names f ms) (λ ps. (k, d) ∷ ps)
+  pub unwire_pairs : WireStyle → Form → json.Members → Result (List (List ℕ × Document)) Unread
+  unwire_pairs style f json.no_members = Ok []
+  unwire_pairs style f (json.member w j ms) =
+      let k = name_in style.json_names f w in
+      then_try (within (part_step f k) (unwire style (part_form f k) j)) λ d. then_give (unwire_pairs style f ms) (λ ps. (k, d) ∷ ps)

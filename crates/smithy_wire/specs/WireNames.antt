@@ -46,6 +46,10 @@ field_named side schema name = option_map_or (if_field side) (member_named schem
 abbrev pub field_in_json : Option Side → Schema → List ℕ → Option Schema
 field_in_json side schema name = find (λ m. same_text (json_name m) name) (filter (is_field side) (members_of schema))
 
+-- the name in JSON of the field that has this name; other names stay
+abbrev pub named_in_json : Option Side → Schema → List ℕ → List ℕ
+named_in_json side schema name = option_map_or json_name (field_named side schema name) name
+
 -- A field's name and its name in JSON change places, and other names stay. Where names stand, this undoes itself.
 abbrev pub swapped : Option Side → Schema → List ℕ → List ℕ
 swapped side schema name = option_map_or json_name (field_named side schema name) (option_map_or name_of (field_in_json side schema name) name)

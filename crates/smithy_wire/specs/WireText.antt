@@ -15,6 +15,7 @@ use Rattle.smithy_wire.specs.Forms.{Form}
 use Rattle.smithy_wire.specs.Wire.{wire}
 use Rattle.smithy_wire.specs.Unwire.{unwire}
 use Rattle.smithy_wire.specs.declared.unread.Unread.{Unread}
+use Rattle.smithy_wire.specs.declared.wire_style.WireStyle.{WireStyle}
 
 -- the compact JSON text of a document by a node: no blanks
 unfoldable pub wire_text : Bool → Form → Document → List ℕ
@@ -45,10 +46,10 @@ abbrev pub held_of : Result Document Unread → Held
 held_of (Ok d) = held.document d
 held_of (Err u) = held.refused (InvalidInput (unread_text u))
 
-abbrev pub held_in : Bool → Form → Option Json → Held
-held_in names f (Some j) = held_of (unwire names f j)
-held_in names f None = held.refused not_json
+abbrev pub held_in : WireStyle → Form → Option Json → Held
+held_in style f (Some j) = held_of (unwire style f j)
+held_in style f None = held.refused not_json
 
 -- What a reader over a body has at hand. A body of no bytes is the empty object.
-unfoldable pub wire_held : Bool → Form → List ℕ → Option Held
-wire_held names f bytes = Some (if length bytes == 0 then held.document (doc.object doc.no_members) else held_in names f (json_in bytes))
+unfoldable pub wire_held : WireStyle → Form → List ℕ → Option Held
+wire_held style f bytes = Some (if length bytes == 0 then held.document (doc.object doc.no_members) else held_in style f (json_in bytes))

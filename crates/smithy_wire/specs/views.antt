@@ -1,8 +1,12 @@
+pub mod FieldNames
 pub mod FormView
 pub mod JsonTaken
+pub mod KnownForms
 pub mod MemberSteps
 pub mod MisfitView
+pub mod PartView
 pub mod ShownNames
+pub mod TimeCuts
 pub mod WireOf
 pub mod WireReads
 pub mod WireSeen

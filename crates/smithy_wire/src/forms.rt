@@ -1,11 +1,11 @@
 // What a place of a body is read and written as, by its node.
 ghost use Rattle.std.specs.Prelude.{◌≡◌, option_map};
 ghost use Rattle.smithy_wire.specs.Words.{schema_of, shape, time_format};
-ghost use Rattle.smithy_wire.specs.Forms.{body_form, either_format, element_form, form_by, form_kind, form_of, form_or_free, form_word, is_coded, is_coded_payload, name_in, part_form, time_form};
+ghost use Rattle.smithy_wire.specs.Forms.{body_form, either_format, element_form, form_by, form_kind, form_of, form_or_free, form_word, is_coded, is_coded_payload, part_form, time_form};
 ghost use Rattle.smithy_wire.specs.views.FormView.{form_view};
 ghost use Rattle.smithy_wire.specs.views.MemberSteps.{payload_from, coded_payload_in};
 
-use crate::names::{field_named, swapped};
+use crate::names::field_named;
 use crate::side::Side;
 use smithy_ids::{ShapeType, TimestampFormat};
 use smithy_schema::SchemaRef;
@@ -166,28 +166,6 @@ impl<'t> Form<'t> {
             Form::Whole(_) => Form::Free,
             Form::Other(_) => Form::Free,
         }
-    }
-}
-
-/// A field's name in JSON for its own, and back, where JSON names are applied.
-pub(crate) fn name_in<'a>(json_names: bool, form: Form<'a>, name: &'a str) -> &'a str
-    ensures { result.now ≡ name_in json_names (form_view form.entry) name.now }
-{
-    if !json_names {
-        return name;
-    }
-    match form {
-        Form::Fields(side, schema) => swapped(side, schema, name),
-        Form::Free => name,
-        Form::Items(_) => name,
-        Form::Entries(_) => name,
-        Form::DateTime => name,
-        Form::HttpDate => name,
-        Form::BigInteger => name,
-        Form::BigDecimal => name,
-        Form::Whole(_) => name,
-        Form::Document => name,
-        Form::Other(_) => name,
     }
 }
 

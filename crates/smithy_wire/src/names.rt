@@ -1,9 +1,13 @@
 // The names of fields in JSON (Smithy, jsonName trait).
-ghost use Rattle.std.specs.Prelude.{◌≡◌, option_map};
-ghost use Rattle.smithy_wire.specs.Words.{name_of, schema_of};
-ghost use Rattle.smithy_wire.specs.WireNames.{json_name, is_elsewhere, is_field, field_named, field_in_json, swapped};
-ghost use Rattle.smithy_wire.specs.views.MemberSteps.{json_field_at};
+ghost use Rattle.std.specs.Prelude.{◌≡◌, true, option_map};
+ghost use Rattle.std.specs.Borrow.{Bor};
+ghost use Rattle.smithy_wire.specs.Words.{member_at, members_of, name_of, schema_of};
+ghost use Rattle.smithy_wire.specs.WireNames.{json_name, is_elsewhere, is_field, if_field, field_named, field_in_json, names_stand};
+ghost use Rattle.smithy_wire.specs.views.FieldNames.{MayTell, Tells};
+ghost use Rattle.smithy_wire.specs.views.MemberSteps.{json_field_at, if_named};
+ghost use Rattle.smithy_wire.specs.declared.node_names.NodeNames.{NodeNames as Told};
 
+use crate::node_names::NodeNames;
 use crate::side::Side;
 use smithy_schema::{Binding, SchemaRef};
 
@@ -45,6 +49,17 @@ fn is_field(side: Option<Side>, member: SchemaRef<'_>) -> bool
     member.member_name().is_some() && !is_elsewhere(side, member)
 }
 
+// The member, where it is a field.
+fn if_field<'t>(side: Option<Side>, member: SchemaRef<'t>) -> Option<SchemaRef<'t>>
+    ensures { option_map schema_of result ≡ if_field side (schema_of member.entry) }
+{
+    if is_field(side, member) {
+        Some(member)
+    } else {
+        None
+    }
+}
+
 /// The field of a structure that has this name. Takes no memory.
 pub(crate) fn field_named<'t>(
     side: Option<Side>,
@@ -53,12 +68,7 @@ pub(crate) fn field_named<'t>(
 ) -> Option<SchemaRef<'t>>
     ensures { option_map schema_of result ≡ field_named side (schema_of schema.entry) name.now }
 {
-    let member = schema.member_schema(name)?;
-    if is_field(side, member) {
-        Some(member)
-    } else {
-        None
-    }
+    if_field(side, schema.member_schema(name)?)
 }
 
 // The member at a position, where it is a field that has this name in JSON.
@@ -90,16 +100,69 @@ fn field_in_json<'t>(side: Option<Side>, schema: SchemaRef<'t>, name: &str) -> O
     None
 }
 
-/// A field's name in JSON for its own, and its own for that in JSON; other names stay. A name that no field has is looked for
-/// among the names in JSON, one after another. Takes no memory.
-pub(crate) fn swapped<'a>(side: Option<Side>, schema: SchemaRef<'a>, name: &'a str) -> &'a str
-    ensures { result.now ≡ swapped side (schema_of schema.entry) name.now }
+// The member at a position, where it has this name in JSON.
+fn named_at<'t>(schema: SchemaRef<'t>, position: usize, name: &str) -> Option<SchemaRef<'t>>
+    ensures { option_map schema_of result ≡ if_named name.now (member_at (schema_of schema.entry) position) }
 {
-    match field_named(side, schema, name) {
-        Some(member) => json_name(member),
-        None => match field_in_json(side, schema, name) {
-            Some(member) => name_of(member),
-            None => name,
+    let member = schema.member_schema_by_index(position)?;
+    if json_name(member) == name {
+        Some(member)
+    } else {
+        None
+    }
+}
+
+// The field that has this name in JSON, where names stand: it is looked for at this position first.
+fn field_found<'t>(
+    side: Option<Side>,
+    schema: SchemaRef<'t>,
+    position: usize,
+    name: &str,
+) -> Option<SchemaRef<'t>>
+    requires { names_stand (members_of (schema_of schema)) ≡ true }
+    ensures { option_map schema_of result ≡ field_in_json side (schema_of schema.entry) name.now }
+{
+    match named_at(schema, position, name) {
+        Some(member) => if_field(side, member),
+        None => field_in_json(side, schema, name),
+    }
+}
+
+// The field that has this name in JSON, where names stand, found by what is told of the names of its structure.
+fn told_field<'t>(
+    names: &NodeNames,
+    side: Option<Side>,
+    schema: SchemaRef<'t>,
+    name: &str,
+) -> Option<SchemaRef<'t>>
+    requires stand { names_stand (members_of (schema_of schema)) ≡ true }
+    requires told { Tells (schema_of schema) names.now }
+    ensures { option_map schema_of result ≡ field_in_json side (schema_of schema.entry) name.now }
+{
+    match names {
+        NodeNames::Own => field_in_json(side, schema, name),
+        NodeNames::Few => field_in_json(side, schema, name),
+        NodeNames::Mapped(positions) => match positions.get(name) {
+            Some(position) => field_found(side, schema, *position, name),
+            None => None,
         },
+    }
+}
+
+/// The field that has this name in JSON, where names stand, found by what is told of the names of its structure, or else one
+/// member after another. Takes no memory.
+pub(crate) fn json_field<'t>(
+    told: Option<&NodeNames>,
+    side: Option<Side>,
+    schema: SchemaRef<'t>,
+    name: &str,
+) -> Option<SchemaRef<'t>>
+    requires stand { names_stand (members_of (schema_of schema)) ≡ true }
+    requires told { MayTell (schema_of schema) (option_map (λ (t : Bor Told). t.now) told) }
+    ensures { option_map schema_of result ≡ field_in_json side (schema_of schema.entry) name.now }
+{
+    match told {
+        Some(names) => told_field(names, side, schema, name),
+        None => field_in_json(side, schema, name),
     }
 }

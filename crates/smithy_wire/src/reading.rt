@@ -1,22 +1,23 @@
 // Values of JSON as documents, by a node.
-ghost use Rattle.std.specs.Prelude.{◌≡◌, Ok, IfOk, option_map};
+ghost use Rattle.std.specs.Prelude.{◌≡◌, Ok, option_map};
 ghost use Rattle.smithy_types.specs.DocumentView.{view, number_view};
 ghost use Rattle.smithy_types.specs.Documents as doc;
-ghost use Rattle.smithy_types.specs.TimestampReading.{timestamp_of};
-ghost use Rattle.smithy_types.specs.declared.date_time.Format.TheVariants as time_format;
 ghost use Rattle.smithy_wire.specs.ExactNumbers.{plain_number};
 ghost use Rattle.smithy_wire.specs.Forms as form_of;
 ghost use Rattle.smithy_wire.specs.Unwire.{decimal_read};
-ghost use Rattle.smithy_wire.specs.WireTimes.{before_blank, spelled};
+ghost use Rattle.smithy_wire.specs.WireTimes.{before_blank};
 ghost use Rattle.smithy_wire.specs.Words.{option_map_or};
 ghost use Rattle.smithy_wire.specs.views.FormView.{form_view};
+ghost use Rattle.smithy_wire.specs.views.WireOf.{form_in, style_in};
 ghost use Rattle.smithy_wire.specs.views.WireReads.{Reads, ReadsGiven, ReadsItems, ReadsMembers, ReadsNumber, ReadsString, ReadsTime, ReadsValue};
 
 use crate::exact_numbers::{decimal_number, is_integer, number_text, plain_number, whole_number};
-use crate::forms::{Form, name_in};
+use crate::forms::Form;
+use crate::time_texts::spelled_seconds;
 use crate::unread::{ReadError, Step, cannot_read, part_step, within};
+use crate::wire_json::WireJson;
 use json::Value;
-use smithy_types::{DateTime, Document, Documents, Format, Members, Number, OutOfMemory, Text};
+use smithy_types::{Document, Documents, Format, Members, Number, Text};
 use std::alloc::Global;
 
 // The document of a number, or the refusal of its text.
@@ -87,52 +88,19 @@ fn before_blank(text: &str) -> Option<&str>
     text.strip_suffix(' ')
 }
 
-// The seconds that a text tells in a format.
-fn told_seconds(alloc: Global, format: Format, text: &str) -> Option<i64>
-    ensures { result ≡ timestamp_of format text.now }
-{
-    match DateTime::parse(alloc, text, format) {
-        Ok(time) => Some(time.secs()),
-        Err(_) => None,
-    }
-}
-
-// Those of a date-time with letters in either case.
-fn date_time_seconds(alloc: Global, text: &str) -> Result<Option<i64>, OutOfMemory>
-    ensures { IfOk result (λ o. o ≡ spelled time_format.DateTime text.now) }
-{
-    match told_seconds(alloc, Format::DateTime, text) {
-        Some(seconds) => Ok(Some(seconds)),
-        None => {
-            let capitals = text.to_ascii_uppercase(alloc)?;
-            Ok(told_seconds(alloc, Format::DateTime, capitals.as_str()))
-        }
-    }
-}
-
-// The seconds that a text spells.
-fn spelled_seconds(alloc: Global, format: Format, text: &str) -> Result<Option<i64>, OutOfMemory>
-    ensures { IfOk result (λ o. o ≡ spelled format text.now) }
-{
-    match format {
-        Format::DateTime => date_time_seconds(alloc, text),
-        Format::HttpDate => Ok(told_seconds(alloc, Format::HttpDate, text)),
-        Format::EpochSeconds => Ok(told_seconds(alloc, Format::EpochSeconds, text)),
-    }
-}
-
 fn time_document(
     alloc: Global,
+    floors: bool,
     form: Form<'_>,
     format: Format,
     text: &str,
 ) -> Result<Document, ReadError>
-    ensures { ReadsTime format (form_view form.entry) text.now result }
+    ensures { ReadsTime floors format (form_view form.entry) text.now result }
 {
     if let Some(front) = before_blank(text) {
         return string_document(alloc, front);
     }
-    match spelled_seconds(alloc, format, text)? {
+    match spelled_seconds(alloc, floors, format, text)? {
         Some(seconds) => Ok(Document::Number(Number::from_i64(seconds))),
         None => Err(cannot_read(alloc, text, form)),
     }
@@ -147,12 +115,17 @@ fn decimal_document(alloc: Global, text: &str) -> Result<Document, ReadError>
     }
 }
 
-fn read_string(alloc: Global, form: Form<'_>, text: &str) -> Result<Document, ReadError>
-    ensures { ReadsString (form_view form.entry) text.now result }
+fn read_string(
+    alloc: Global,
+    floors: bool,
+    form: Form<'_>,
+    text: &str,
+) -> Result<Document, ReadError>
+    ensures { ReadsString floors (form_view form.entry) text.now result }
 {
     match form {
-        Form::DateTime => time_document(alloc, form, Format::DateTime, text),
-        Form::HttpDate => time_document(alloc, form, Format::HttpDate, text),
+        Form::DateTime => time_document(alloc, floors, form, Format::DateTime, text),
+        Form::HttpDate => time_document(alloc, floors, form, Format::HttpDate, text),
         Form::BigInteger => decimal_document(alloc, text),
         Form::BigDecimal => decimal_document(alloc, text),
         Form::Free => string_document(alloc, text),
@@ -165,27 +138,26 @@ fn read_string(alloc: Global, form: Form<'_>, text: &str) -> Result<Document, Re
     }
 }
 
-/// The document that a value of JSON is by a form, or what can't be read. Takes memory.
+/// The document that a value of JSON is by a node, or what can't be read. Takes memory.
 #[cycle(read)]
 pub(crate) fn document_of(
     alloc: Global,
-    json_names: bool,
-    form: Form<'_>,
+    wire: WireJson<'_>,
     value: &Value<'_>,
 ) -> Result<Document, ReadError>
-    ensures { ReadsValue json_names (form_view form.entry) value.now result }
+    ensures { ReadsValue (style_in wire.entry) (form_in wire.entry) value.now result }
 {
     match value {
         Value::Null => Ok(Document::Null),
         Value::Bool(truth) => Ok(Document::Bool(*truth)),
-        Value::Number(text) => read_number(alloc, form, *text),
-        Value::String(text) => read_string(alloc, form, *text),
+        Value::Number(text) => read_number(alloc, wire.form, *text),
+        Value::String(text) => read_string(alloc, wire.style.floors_times, wire.form, *text),
         Value::Array(items) => {
-            let found = items_of(alloc, json_names, form.element(), items)?;
+            let found = items_of(alloc, wire.element(), items)?;
             Ok(Document::Array(found))
         }
         Value::Object(members) => {
-            let found = members_of(alloc, json_names, form, members)?;
+            let found = members_of(alloc, wire, members)?;
             Ok(Document::Object(found))
         }
     }
@@ -194,16 +166,15 @@ pub(crate) fn document_of(
 #[cycle(read)]
 fn items_of(
     alloc: Global,
-    json_names: bool,
-    form: Form<'_>,
+    wire: WireJson<'_>,
     items: &Vec<Value<'_>>,
 ) -> Result<Documents, ReadError>
-    ensures { ReadsItems json_names (form_view form.entry) items.now.items result }
+    ensures { ReadsItems (style_in wire.entry) (form_in wire.entry) items.now.items result }
 {
     let mut found = Documents::new(alloc);
     'items: for position in 0..items.len() {
         let value = &items[position];
-        let tried = document_of(alloc, json_names, form, value);
+        let tried = document_of(alloc, wire, value);
         let item = within(alloc, Step::Item(position), tried)?;
         found.push(item)?;
     }
@@ -213,18 +184,17 @@ fn items_of(
 #[cycle(read)]
 fn members_of(
     alloc: Global,
-    json_names: bool,
-    form: Form<'_>,
+    wire: WireJson<'_>,
     members: &Vec<(&str, Value<'_>)>,
 ) -> Result<Members, ReadError>
-    ensures { ReadsMembers json_names (form_view form.entry) members.now.items result }
+    ensures { ReadsMembers (style_in wire.entry) (form_in wire.entry) members.now.items result }
 {
     let mut found = Members::new(alloc);
     'members: for member in members {
-        let name = name_in(json_names, form, member.0);
-        let tried = document_of(alloc, json_names, form.part(name), &member.1);
-        let document = within(alloc, part_step(form, name), tried)?;
-        found.insert(Text::from_str(alloc, name)?, document)?;
+        let part = wire.read_part(member.0);
+        let tried = document_of(alloc, part.place, &member.1);
+        let document = within(alloc, part_step(wire.form, part.name), tried)?;
+        found.insert(Text::from_str(alloc, part.name)?, document)?;
     }
     Ok(found)
 }

@@ -1,6 +1,6 @@
 // The codec of the JSON of a node.
 ghost use Rattle.smithy_wire.specs.WireText.{wire_text, wire_held};
-ghost use Rattle.smithy_wire.specs.views.WireOf.{form_in, names_in, IsLawfulWire};
+ghost use Rattle.smithy_wire.specs.views.WireOf.{form_in, names_in, style_in, IsLawfulWire};
 
 use crate::wire_json::WireJson;
 use crate::wire_serializer::WireSerializer;
@@ -15,7 +15,7 @@ impl<'t> Codec for WireJson<'t> {
 
     ghost text = { λ c. wire_text (names_in c) (form_in c) };
 
-    ghost holds = { λ c. wire_held (names_in c) (form_in c) };
+    ghost holds = { λ c. wire_held (style_in c) (form_in c) };
 
     ghost lawful = { IsLawfulWire };
 
@@ -24,8 +24,7 @@ impl<'t> Codec for WireJson<'t> {
     fn create_serializer(&self, alloc: Global) -> Result<WireSerializer<'t>, SerdeError> {
         Ok(WireSerializer {
             alloc,
-            form: self.form,
-            json_names: self.json_names,
+            wire: *self,
             told: DocumentShapeSerializer::new(alloc),
         })
     }

@@ -1,7 +1,7 @@
 // The serializer of the JSON of a node.
 ghost use Rattle.smithy_wire.specs.views.WireSeen.{wire_seen};
 
-use crate::forms::Form;
+use crate::wire_json::WireJson;
 use crate::writing::wire_blob;
 use smithy_document::DocumentShapeSerializer;
 use smithy_schema::SchemaRef;
@@ -13,8 +13,7 @@ use std::alloc::Global;
 #[derive(Drop)]
 pub struct WireSerializer<'t> {
     pub(crate) alloc: Global,
-    pub(crate) form: Form<'t>,
-    pub(crate) json_names: bool,
+    pub(crate) wire: WireJson<'t>,
     pub(crate) told: DocumentShapeSerializer,
 }
 
@@ -36,14 +35,9 @@ impl<'t> ShapeSerializer for WireSerializer<'t> {
 
 impl<'t> FinishSerializer for WireSerializer<'t> {
     fn finish(self) -> Result<Blob, SerdeError> {
-        let WireSerializer {
-            alloc,
-            form,
-            json_names,
-            told,
-        } = self;
+        let WireSerializer { alloc, wire, told } = self;
         match told.into_document()? {
-            Some(document) => Ok(wire_blob(alloc, json_names, form, &document)?),
+            Some(document) => Ok(wire_blob(alloc, wire, &document)?),
             None => Ok(Blob::from_vec(Vec::new(alloc))),
         }
     }

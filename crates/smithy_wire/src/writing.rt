@@ -12,10 +12,12 @@ ghost use Rattle.smithy_wire.specs.ExactNumbers.{is_number};
 ghost use Rattle.smithy_wire.specs.Wire.{wire_time};
 ghost use Rattle.smithy_wire.specs.WireText.{wire_text};
 ghost use Rattle.smithy_wire.specs.views.FormView.{form_view};
+ghost use Rattle.smithy_wire.specs.views.WireOf.{form_in, names_in};
 ghost use Rattle.smithy_wire.specs.views.WireWrites.{time_in, Writes, WritesItems, WritesMembers, WritesNumber, WritesString};
 
 use crate::exact_numbers::{is_integer, is_number, number_text};
-use crate::forms::{Form, name_in};
+use crate::forms::Form;
+use crate::wire_json::WireJson;
 use json::{Token, Writer};
 use smithy_types::{
     Blob, DateTime, Document, Documents, Format, Members, Number, OutOfMemory, Text, TypesError,
@@ -174,24 +176,23 @@ fn write_string(
 fn write_document(
     alloc: Global,
     writer: &mut Writer,
-    names: bool,
-    form: Form<'_>,
+    wire: WireJson<'_>,
     document: &Document,
 ) -> Result<(), OutOfMemory>
-    ensures { Writes names (form_view form.entry) (view document.now) writer.old writer.new result }
+    ensures { Writes wire.entry (view document.now) writer.old writer.new result }
 {
     match document {
         Document::Null => write_token(writer, Token::Null),
         Document::Bool(truth) => write_token(writer, Token::Bool(*truth)),
-        Document::Number(number) => write_number(alloc, writer, form, *number),
-        Document::String(text) => write_string(alloc, writer, form, text.as_str()),
+        Document::Number(number) => write_number(alloc, writer, wire.form, *number),
+        Document::String(text) => write_string(alloc, writer, wire.form, text.as_str()),
         Document::Array(items) => {
             write_token(writer, Token::BeginArray)?;
-            write_items(alloc, writer, names, form.element(), items)
+            write_items(alloc, writer, wire.element(), items)
         }
         Document::Object(members) => {
             write_token(writer, Token::BeginObject)?;
-            write_members(alloc, writer, names, form, members)
+            write_members(alloc, writer, wire, members)
         }
     }
 }
@@ -201,15 +202,14 @@ fn write_document(
 fn write_items(
     alloc: Global,
     writer: &mut Writer,
-    names: bool,
-    form: Form<'_>,
+    wire: WireJson<'_>,
     documents: &Documents,
 ) -> Result<(), OutOfMemory>
-    ensures { WritesItems names (form_view form.entry) (items_view documents.now) writer.old writer.new result }
+    ensures { WritesItems wire.entry (items_view documents.now) writer.old writer.new result }
 {
     let items = documents.as_slice();
     'items: for item in items {
-        write_document(alloc, writer, names, form, item)?;
+        write_document(alloc, writer, wire, item)?;
     }
     write_token(writer, Token::EndArray)
 }
@@ -219,30 +219,30 @@ fn write_items(
 fn write_members(
     alloc: Global,
     writer: &mut Writer,
-    names: bool,
-    form: Form<'_>,
+    wire: WireJson<'_>,
     members: &Members,
 ) -> Result<(), OutOfMemory>
-    ensures { WritesMembers names (form_view form.entry) (members_view members.now) writer.old writer.new result }
+    ensures { WritesMembers wire.entry (members_view members.now) writer.old writer.new result }
 {
     'members: for (name, member) in members.iter() {
-        write_token(writer, Token::Key(name_in(names, form, name)))?;
-        write_document(alloc, writer, names, form.part(name), member)?;
+        let part = wire.written_part(name);
+        write_token(writer, Token::Key(part.name))?;
+        write_document(alloc, writer, part.place, member)?;
     }
     write_token(writer, Token::EndObject)
 }
 
-/// The compact JSON text of a document by a form. Takes memory for the text.
+/// The compact JSON text of a document by a node. Takes memory for the text.
 #[tactic(auto, unfolding(crate::specs::WireText::wire_text))]
 pub(crate) fn wire_blob(
     alloc: Global,
-    names: bool,
-    form: Form<'_>,
+    wire: WireJson<'_>,
     document: &Document,
 ) -> Result<Blob, OutOfMemory>
-    ensures { IfOk result (λ b. b ≡ wire_text names (form_view form.entry) (view document.now)) }
+    ensures { IfOk result
+        (λ b. b ≡ wire_text (names_in wire.entry) (form_in wire.entry) (view document.now)) }
 {
     let mut writer = Writer::new(Vec::with_capacity(alloc, FIRST_BYTES)?);
-    write_document(alloc, &mut writer, names, form, document)?;
+    write_document(alloc, &mut writer, wire, document)?;
     Ok(Blob::from_vec(writer.into_inner()))
 }

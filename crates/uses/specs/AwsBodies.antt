@@ -18,7 +18,7 @@ use Rattle.smithy_wire.specs.Forms.{body_form}
 use Rattle.smithy_wire.specs.WireNames.{stands}
 use Rattle.smithy_wire.specs.WireText.{wire_held, wire_text}
 use Rattle.smithy_wire.specs.declared.wire_json.WireJson.{WireJson}
-use Rattle.smithy_wire.specs.WireOf.{form_in, names_in}
+use Rattle.smithy_wire.specs.WireOf.{form_in, style_in}
 use Rattle.uses.specs.RoundTrip.{ComesBackFrom}
 
 -- the text by the schema of the document of these writes, with names in JSON
@@ -37,4 +37,4 @@ AwsAnswers schema ws endpoint omit result =
 -- where the body is a document by the node, the structure comes back from that
 abbrev pub ComesFromBody : WireJson → List ℕ → ValueReader → Result StructValue SerdeError → Type 0
 ComesFromBody wire body reader result =
-    (d : Document) → wire_held (names_in wire) (form_in wire) body ≡ Some (held.document d) → ComesBackFrom reader d result
+    (d : Document) → wire_held (style_in wire) (form_in wire) body ≡ Some (held.document d) → ComesBackFrom reader d result

@@ -13,7 +13,11 @@ members_from schema i = filter_map (at_place schema.table) (drop i schema.node.m
 abbrev pub if_in_json : Option Side → List ℕ → Option Schema → Option Schema
 if_in_json side name member = option_map_or (λ m. if is_field side m && same_text (json_name m) name then Some m else None) member None
 
--- the same of the member at a position
+-- the member, where it has this name in JSON
+abbrev pub if_named : List ℕ → Option Schema → Option Schema
+if_named name member = option_map_or (λ m. if same_text (json_name m) name then Some m else None) member None
+
+-- the field that the member at a position is, where it has this name in JSON
 abbrev pub json_field_at : Option Side → List ℕ → Schema → ℕ → Option Schema
 json_field_at side name schema i = if_in_json side name (member_at schema i)
 

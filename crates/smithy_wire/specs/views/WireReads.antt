@@ -18,6 +18,7 @@ use Rattle.smithy_wire.specs.declared.unread.Unread.{Unread}
 use Rattle.smithy_wire.specs.declared.unread.ReadError.{ReadError}
 use Rattle.smithy_wire.specs.declared.unread.ReadError.TheVariants as error
 use Rattle.smithy_wire.specs.declared.unread.Step.{Step}
+use Rattle.smithy_wire.specs.declared.wire_style.WireStyle.{WireStyle}
 use Rattle.smithy_wire.specs.declared.unread.Step.TheVariants as step
 
 -- what can't be read, or want of memory
@@ -44,21 +45,21 @@ ReadsGiven f s n result = Reads view (ok_or (option_map doc.number n) (unread s 
 abbrev pub ReadsNumber : Form → List ℕ → Result code.Document ReadError → Type 0
 ReadsNumber f s result = Reads view (ok_or (number_read f s) (unread s f)) result
 
-abbrev pub ReadsTime : Format → Form → List ℕ → Result code.Document ReadError → Type 0
-ReadsTime format f s result = Reads view (ok_or (time_read format s) (unread s f)) result
+abbrev pub ReadsTime : Bool → Format → Form → List ℕ → Result code.Document ReadError → Type 0
+ReadsTime floors format f s result = Reads view (ok_or (time_read floors format s) (unread s f)) result
 
-abbrev pub ReadsString : Form → List ℕ → Result code.Document ReadError → Type 0
-ReadsString f s result = Reads view (ok_or (string_read f s) (unread s f)) result
+abbrev pub ReadsString : Bool → Form → List ℕ → Result code.Document ReadError → Type 0
+ReadsString floors f s result = Reads view (ok_or (string_read floors f s) (unread s f)) result
 
 -- and of a value, of the items of an array and of the members of an object
-abbrev pub ReadsValue : Bool → Form → Value Global → Result code.Document ReadError → Type 0
-ReadsValue names f v result = Reads view (unwire names f (value_view v)) result
+abbrev pub ReadsValue : WireStyle → Form → Value Global → Result code.Document ReadError → Type 0
+ReadsValue style f v result = Reads view (unwire style f (value_view v)) result
 
-abbrev pub ReadsItems : Bool → Form → List (Value Global) → Result Documents ReadError → Type 0
-ReadsItems names f vs result = Reads documents_view (unwire_items names f 0 (items_view vs)) result
+abbrev pub ReadsItems : WireStyle → Form → List (Value Global) → Result Documents ReadError → Type 0
+ReadsItems style f vs result = Reads documents_view (unwire_items style f 0 (items_view vs)) result
 
-abbrev pub ReadsMembers : Bool → Form → List (Bor (List ℕ) × Value Global) → Result Members ReadError → Type 0
-ReadsMembers names f ms result = Reads fields_view (then_give (unwire_pairs names f (members_view ms)) doc.members_of) result
+abbrev pub ReadsMembers : WireStyle → Form → List (Bor (List ℕ) × Value Global) → Result Members ReadError → Type 0
+ReadsMembers style f ms result = Reads fields_view (then_give (unwire_pairs style f (members_view ms)) doc.members_of) result
 
 -- what was tried behind a step, from one step further out
 abbrev pub ReadsWithin : List ℕ → Result code.Document ReadError → Result code.Document ReadError → Type 0

@@ -1,5 +1,5 @@
 -- What a writer of a body does.
-use Rattle.std.specs.Prelude.{ℕ, Bool, List, Option, option_map, Result, ℤ}
+use Rattle.std.specs.Prelude.{ℕ, List, Option, option_map, Result, ℤ}
 use Rattle.json.specs.Tree.{json_tokens, items_tokens, members_tokens}
 use Rattle.json.specs.Written.{Written}
 use Rattle.smithy_document.specs.views.Printing.{Prints}
@@ -9,6 +9,8 @@ use Rattle.smithy_types.specs.declared.date_time.Format.{Format}
 use Rattle.smithy_wire.specs.Words.{Document, Number}
 use Rattle.smithy_wire.specs.Forms.{Form}
 use Rattle.smithy_wire.specs.Wire.{wire, wire_items, wire_members, wire_number, wire_string}
+use Rattle.smithy_wire.specs.declared.wire_json.WireJson.{WireJson}
+use Rattle.smithy_wire.specs.views.WireOf.{form_in, names_in}
 
 -- the text of seconds in a calendar's format, where the year is 1 to 9999
 abbrev pub time_in : Format → ℤ → Option (List ℕ)
@@ -21,11 +23,11 @@ WritesNumber f n old new result = Prints (json_tokens (wire_number f n)) old new
 abbrev pub WritesString : {A E : Type 0} → Form → List ℕ → Written → Written → Result A E → Type 0
 WritesString f s old new result = Prints (json_tokens (wire_string f s)) old new result
 
-abbrev pub Writes : {A E : Type 0} → Bool → Form → Document → Written → Written → Result A E → Type 0
-Writes names f d old new result = Prints (json_tokens (wire names f d)) old new result
+abbrev pub Writes : {A E : Type 0} → WireJson → Document → Written → Written → Result A E → Type 0
+Writes w d old new result = Prints (json_tokens (wire (names_in w) (form_in w) d)) old new result
 
-abbrev pub WritesItems : {A E : Type 0} → Bool → Form → doc.Items → Written → Written → Result A E → Type 0
-WritesItems names f ds old new result = Prints (items_tokens (wire_items names f ds)) old new result
+abbrev pub WritesItems : {A E : Type 0} → WireJson → doc.Items → Written → Written → Result A E → Type 0
+WritesItems w ds old new result = Prints (items_tokens (wire_items (names_in w) (form_in w) ds)) old new result
 
-abbrev pub WritesMembers : {A E : Type 0} → Bool → Form → doc.Members → Written → Written → Result A E → Type 0
-WritesMembers names f ms old new result = Prints (members_tokens (wire_members names f ms)) old new result
+abbrev pub WritesMembers : {A E : Type 0} → WireJson → doc.Members → Written → Written → Result A E → Type 0
+WritesMembers w ms old new result = Prints (members_tokens (wire_members (names_in w) (form_in w) ms)) old new result

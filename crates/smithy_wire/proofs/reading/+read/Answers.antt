@@ -3,9 +3,9 @@ use Rattle.json.specs.Tree.{depth}
 use Rattle.json.specs.Value.{value_view, items_view}
 use Rattle.smithy_types.specs.DocumentView.{view, items_view as documents_view, members_view as fields_view}
 use Rattle.smithy_wire.specs.Unwire.{unwire, unwire_items}
-use Rattle.smithy_wire.specs.views.FormView.{form_view}
+use Rattle.smithy_wire.specs.views.WireOf.{form_in, style_in}
 use Rattle.smithy_wire.specs.views.WireReads.{step_view}
-use Rattle.smithy_wire.proofs.ReadLemmas.{items_more, items_end, item_depth, member_depth, one_read, refused_item, refused_member}
+use Rattle.smithy_wire.proofs.ReadLemmas.{items_more, items_end, item_depth, member_depth, part_read, refused_item, refused_member}
 use Rattle.smithy_wire.proofs.reading.+read.Goals as goal
 
 -- ---- items
@@ -21,8 +21,8 @@ items_of-document_of-tried-requires t c =
 
 pub items_of-items-preserved : goal.items_of-items-preserved
 items_of-items-preserved t c =
-    let n = c.args.json_names in
-    let f = form_view c.args.form in
+    let n = style_in c.args.wire in
+    let f = form_in c.args.wire in
     let vs = c.args.items.now.items in
     let v = c.index-value.result.now in
     let i = c.items.position in
@@ -34,8 +34,8 @@ items_of-items-preserved t c =
 
 pub items_of-returns-in_err-item : goal.items_of-returns-in_err-item
 items_of-returns-in_err-item t c =
-    let n = c.args.json_names in
-    let f = form_view c.args.form in
+    let n = style_in c.args.wire in
+    let f = form_in c.args.wire in
     let vs = c.args.items.now.items in
     let v = c.index-value.result.now in
     let i = c.items.position in
@@ -48,7 +48,7 @@ pub items_of-returns : goal.items_of-returns
 items_of-returns t c =
     let vs = c.args.items.now.items in
     let size : c.len-position-end.result ≡ length vs = c.len-position-end.ensures ∙ c.args.items.now.ok.0 in
-    items_end c.args.json_names (form_view c.args.form) c.items.position vs (documents_view c.items.found) (unwire_items c.args.json_names (form_view c.args.form) 0 (items_view vs)) (omega (arith, c.items-test.false, size)) c.items.invariant
+    items_end (style_in c.args.wire) (form_in c.args.wire) c.items.position vs (documents_view c.items.found) (unwire_items (style_in c.args.wire) (form_in c.args.wire) 0 (items_view vs)) (omega (arith, c.items-test.false, size)) c.items.invariant
 
 -- ---- members
 
@@ -64,11 +64,11 @@ members_of-document_of-tried-requires t c =
 
 pub members_of-returns-in_err-document : goal.members_of-returns-in_err-document
 members_of-returns-in_err-document t c =
-    let n = c.args.json_names in
-    let f = form_view c.args.form in
+    let n = style_in c.args.wire in
+    let f = form_in c.args.wire in
     let ms = c.args.members.now.items in
     let m = c.member-item.result in
     let within = rw c.deref-member-items.ensures.value at c.members-test.true in
     let is = rw c.deref-member-items.ensures.value at c.member-item.is in
     refused_member n f c.members.member-index ms m (fields_view c.members.found) c.in_err-document.field-0.0 c.from_residual.result c.from_residual.ensures.1 within is
-    (one_read n f m c.name_in-name.result.now (form_view c.part.result) (step_view c.part_step.result) (Err c.in_err-document.field-0.0) c.name_in-name.ensures c.part.ensures c.part_step.ensures (c.in_err-document.ensures (unwire n (form_view c.part.result) (value_view m.1)) c.document_of-tried.ensures)) c.members.invariant
+    (part_read n f m c.read_part-part.result.name.now (style_in c.read_part-part.result.place) (form_in c.read_part-part.result.place) (step_view c.part_step.result) (Err c.in_err-document.field-0.0) c.read_part-part.ensures.name c.read_part-part.ensures.style c.read_part-part.ensures.form c.part_step.ensures (c.in_err-document.ensures (unwire (style_in c.read_part-part.result.place) (form_in c.read_part-part.result.place) (value_view m.1)) c.document_of-tried.ensures)) c.members.invariant

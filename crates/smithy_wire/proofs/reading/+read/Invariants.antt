@@ -6,7 +6,7 @@ use Rattle.smithy_types.specs.DocumentView.{items_view as documents_view, member
 use Rattle.smithy_types.specs.Documents.{members_of, put_all}
 use Rattle.smithy_types.specs.Results.{then_give}
 use Rattle.smithy_wire.specs.Unwire.{unwire_items, unwire_pairs}
-use Rattle.smithy_wire.specs.views.FormView.{form_view}
+use Rattle.smithy_wire.specs.views.WireOf.{form_in, style_in}
 use Rattle.smithy_wire.proofs.reading.+read.Given as goal
 
 -- arrays and objects count twice, so that a list counts between itself and its items
@@ -22,10 +22,10 @@ decreases-members_of l = 2 * members_depth (members_view l.members.now.items) + 
 
 abbrev pub invariant-items_of-items : goal.invariant-items_of-items
 invariant-items_of-items l =
-    then_give (unwire_items l.json_names (form_view l.form) l.position (items_view (drop l.position l.items.items))) (and_items (documents_view l.found))
-    ≡ unwire_items l.json_names (form_view l.form) 0 (items_view l.items.items)
+    then_give (unwire_items (style_in l.wire) (form_in l.wire) l.position (items_view (drop l.position l.items.items))) (and_items (documents_view l.found))
+    ≡ unwire_items (style_in l.wire) (form_in l.wire) 0 (items_view l.items.items)
 
 abbrev pub invariant-members_of-members : goal.invariant-members_of-members
 invariant-members_of-members l =
-    then_give (unwire_pairs l.json_names (form_view l.form) (members_view (drop l.member-index l.members.items))) (λ ps. put_all ps (fields_view l.found))
-    ≡ then_give (unwire_pairs l.json_names (form_view l.form) (members_view l.members.items)) members_of
+    then_give (unwire_pairs (style_in l.wire) (form_in l.wire) (members_view (drop l.member-index l.members.items))) (λ ps. put_all ps (fields_view l.found))
+    ≡ then_give (unwire_pairs (style_in l.wire) (form_in l.wire) (members_view l.members.items)) members_of
