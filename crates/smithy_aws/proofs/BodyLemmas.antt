@@ -14,20 +14,21 @@ use Rattle.smithy_serde.specs.declared.builders.ValueReader.{ValueReader}
 use Rattle.smithy_serde.specs.declared.error.SerdeError.{SerdeError}
 use Rattle.smithy_serde.specs.declared.struct_value.StructValue.{StructValue}
 use Rattle.smithy_wire.specs.Forms.{Form, whole_form}
-use Rattle.smithy_wire.specs.WireOf.{form_in, names_in}
+use Rattle.smithy_wire.specs.WireOf.{form_in, style_in}
+use Rattle.smithy_wire.specs.Styles.{refusing}
 use Rattle.smithy_wire.specs.WireText.{wire_held}
 use Rattle.smithy_wire.specs.declared.wire_json.WireJson.{WireJson}
 use Rattle.smithy_aws.specs.BodyValues.{aws_json_value, held_in_body, GivesValue}
 
-told : (names : Bool) (f : Form) (r : Response) → wire_held names f (unwrap_or r.body []) ≡ Some (held_in_body names f r)
+told : (names : Bool) (f : Form) (r : Response) → wire_held (refusing names) f (unwrap_or r.body []) ≡ Some (held_in_body names f r)
 unfolding wire_held
 told names f r = refl
 
 -- what a reader of a node's JSON has at hand
-pub at_hand : (held : Option Held) (c : WireJson) (names : Bool) (f : Form) (r : Response) (bytes : List ℕ) → held ≡ wire_held (names_in c) (form_in c) bytes
-    → names_in c ≡ names → form_in c ≡ f → bytes ≡ unwrap_or r.body [] → held ≡ Some (held_in_body names f r)
+pub at_hand : (held : Option Held) (c : WireJson) (names : Bool) (f : Form) (r : Response) (bytes : List ℕ) → held ≡ wire_held (style_in c) (form_in c) bytes
+    → style_in c ≡ refusing names → form_in c ≡ f → bytes ≡ unwrap_or r.body [] → held ≡ Some (held_in_body names f r)
 at_hand held c names f r bytes is same form there =
-    is ∙ ap (λ k. wire_held k (form_in c) bytes) same ∙ ap (λ g. wire_held names g bytes) form ∙ ap (wire_held names f) there ∙ told names f r
+    is ∙ ap (λ k. wire_held k (form_in c) bytes) same ∙ ap (λ g. wire_held (refusing names) g bytes) form ∙ ap (wire_held (refusing names) f) there ∙ told names f r
 
 -- a refusal that is passed on
 pub given_on : (value : Result Value SerdeError) (e : SerdeError) (result : Result StructValue SerdeError) → IsErrAnd result (λ y. y ≡ e) → GivesValue value (Err e) → GivesValue value result

@@ -13,11 +13,12 @@ use Rattle.smithy_serde.specs.declared.error.SerdeError.{SerdeError}
 use Rattle.smithy_serde.specs.declared.error.SerdeError.TheVariants.{OutOfMemory}
 use Rattle.smithy_serde.specs.declared.struct_value.StructValue.{StructValue}
 use Rattle.smithy_wire.specs.Forms.{Form, whole_form}
+use Rattle.smithy_wire.specs.Styles.{refusing}
 use Rattle.smithy_wire.specs.WireText.{wire_held}
 
 -- what a reader of the body has at hand, which is told of each body
 abbrev pub held_in_body : Bool → Form → Response → Held
-held_in_body names f r = unwrap_or (wire_held names f (unwrap_or r.body [])) (refused OutOfMemory)
+held_in_body names f r = unwrap_or (wire_held (refusing names) f (unwrap_or r.body [])) (refused OutOfMemory)
 
 -- AWS JSON 1.0 and 1.1: what the body has for the members, whatever bindings they have; a null member is not there
 unfoldable pub aws_json_value : Schema → Response → Result Value SerdeError

@@ -14,7 +14,7 @@ returns-in_err-body c = λ n there.
 pub returns-in_err-value : goal.returns-in_err-value
 returns-in_err-value c =
     let n = schema_of c.in-Some.schema in
-    let held = at_hand _ c.of_whole-wire.result false _ c.args.response.now _ c.in_ok-body.ensures.begins.has c.of_whole-wire.ensures.names c.of_whole-wire.ensures.form c.body_bytes.ensures in
+    let held = at_hand _ c.of_whole-wire.result false _ c.args.response.now _ c.in_ok-body.ensures.begins.has c.of_whole-wire.ensures.style c.of_whole-wire.ensures.form c.body_bytes.ensures in
     at_the_place (λ m. GivesValue (aws_json_value m c.args.response.now) c.from_residual-in_err-value.result) c.args.table.now c.args.shape.0 n c.in-Some.ensures.node
     (given_on _ c.in_err-value.field-0.0 c.from_residual-in_err-value.result (search rules)
     (whole_refused n c.args.response.now c.new.result _ (c.new.ensures.node ∙ sym c.in-Some.ensures.node) held _ c.in_err-value.ensures.gives))
@@ -27,6 +27,6 @@ returns-in_err-present c = λ n there.
 pub returns : goal.returns
 returns c =
     let n = schema_of c.in-Some.schema in
-    let held = at_hand _ c.of_whole-wire.result false _ c.args.response.now _ c.in_ok-body.ensures.begins.has c.of_whole-wire.ensures.names c.of_whole-wire.ensures.form c.body_bytes.ensures in
+    let held = at_hand _ c.of_whole-wire.result false _ c.args.response.now _ c.in_ok-body.ensures.begins.has c.of_whole-wire.ensures.style c.of_whole-wire.ensures.form c.body_bytes.ensures in
     at_the_place (λ m. GivesValue (aws_json_value m c.args.response.now) (Ok c.in_ok-present.field-0)) c.args.table.now c.args.shape.0 n c.in-Some.ensures.node
     (whole_read n c.args.response.now c.new.result _ (c.new.ensures.node ∙ sym c.in-Some.ensures.node) held _ _ c.in_ok-value.ensures.gives c.in_ok-present.ensures.members)

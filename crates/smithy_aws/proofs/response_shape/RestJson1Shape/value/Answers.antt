@@ -15,7 +15,7 @@ returns-in_err-body c =
 pub returns-in_err-value : goal.returns-in_err-value
 returns-in_err-value c =
     let s = c.args.self.now in
-    let held = at_hand _ c.wire.result true _ c.args.response.now _ c.in_ok-body.ensures.begins.has c.wire.ensures.names c.wire.ensures.form c.body_bytes.ensures in
+    let held = at_hand _ c.wire.result true _ c.args.response.now _ c.in_ok-body.ensures.begins.has c.wire.ensures.style c.wire.ensures.form c.body_bytes.ensures in
     given_on _ c.in_err-value.field-0.0 c.from_residual-in_err-value.result (search rules)
     (rest_refused s.table.now s.shape.0 s.is_error c.args.response.now c.args.policy _ s.has_node held _ c.in_err-value.ensures)
 
@@ -27,5 +27,5 @@ returns-in_err-present c =
 pub returns : goal.returns
 returns c =
     let s = c.args.self.now in
-    let held = at_hand _ c.wire.result true _ c.args.response.now _ c.in_ok-body.ensures.begins.has c.wire.ensures.names c.wire.ensures.form c.body_bytes.ensures in
+    let held = at_hand _ c.wire.result true _ c.args.response.now _ c.in_ok-body.ensures.begins.has c.wire.ensures.style c.wire.ensures.form c.body_bytes.ensures in
     rest_read s.table.now s.shape.0 s.is_error c.args.response.now c.args.policy _ s.has_node held _ _ c.in_ok-value.ensures c.in_ok-present.ensures.members
