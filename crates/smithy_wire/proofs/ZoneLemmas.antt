@@ -14,7 +14,7 @@ use Rattle.std.specs.Prelude.{MatchOption, codes, nat_le, slice_index}
 use Rattle.std.specs.Str.{IsCharBoundary, IsUtf8}
 use Rattle.std.specs.Str.Pattern.{FindsTextSuffix}
 use Rattle.smithy_types.specs.declared.date_time.Format.TheVariants.{DateTime}
-use Rattle.smithy_types.specs.Texts.{hyphen, plus_sign, same_text}
+use Rattle.smithy_types.specs.Texts.{ascii, same_text}
 use Rattle.smithy_json.proofs.OrderedPairs.{same_self}
 use Rattle.smithy_wire.specs.WireTimes.{at_end, at_zone, before_end, before_offset, before_zone, clock_seconds, is_behind, offset_sign, without_offset}
 use Rattle.smithy_wire.specs.views.TimeCuts.{CutsAtPoint}
@@ -64,9 +64,9 @@ pub record IsSigned (text : List ℕ) : Type 0 where
   pub ascii : slice_index text (length text - 6) < 128
 
 sign_ascii : (b : ℕ) → is_some (is_behind b) ≡ true → b < 128
-sign_ascii b e = go (b == plus_sign) refl (b == hyphen) refl e
+sign_ascii b e = go (b == ascii "+") refl (b == ascii "-") refl e
   where
-    go : (p : Bool) → (b == plus_sign) ≡ p → (q : Bool) → (b == hyphen) ≡ q → is_some (if p then Some false else if q then Some true else None) ≡ true → b < 128
+    go : (p : Bool) → (b == ascii "+") ≡ p → (q : Bool) → (b == ascii "-") ≡ q → is_some (if p then Some false else if q then Some true else None) ≡ true → b < 128
     go true is q at e = let same : b ≡ 43 = eqb-true b 43 is in omega (arith, same)
     go false is true at e = let same : b ≡ 45 = eqb-true b 45 at in omega (arith, same)
     go false is false at e = absurd (cc e)

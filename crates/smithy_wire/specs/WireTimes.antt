@@ -3,7 +3,7 @@ use Rattle.std.specs.Prelude.{ℕ, ◌-◌, ◌==◌, nat_le, Bool, true, false,
 use Rattle.std.specs.List.{before_first, after_first}
 use Rattle.std.specs.Str.{str_to_ascii_uppercase}
 use Rattle.smithy_types.specs.BigNumbers.{are_digits}
-use Rattle.smithy_types.specs.Texts.{full_stop, hyphen, plus_sign}
+use Rattle.smithy_types.specs.Texts.{ascii}
 use Rattle.smithy_types.specs.declared.date_time.Format.{Format}
 use Rattle.smithy_types.specs.declared.date_time.Format.TheVariants.{DateTime, EpochSeconds, HttpDate}
 use Rattle.smithy_types.specs.TimestampReading.{timestamp_of}
@@ -28,7 +28,7 @@ before_zone zone text = if same_text (at_end (length zone) text) zone then Some 
 -- without a point and digits at its end
 abbrev pub without_fraction : List ℕ → List ℕ
 without_fraction text =
-    if are_digits (after_first (λ b. b == full_stop) text) then before_first (λ b. b == full_stop) text else text
+    if are_digits (after_first (λ b. b == ascii ".") text) then before_first (λ b. b == ascii ".") text else text
 
 abbrev pub clipped : Bool → List ℕ → List ℕ
 clipped floors text = if floors then without_fraction text else text
@@ -39,7 +39,7 @@ at_zone floors format zone text = timestamp_of format (clipped floors text ++ zo
 
 -- six bytes from the end stands a sign: the one of a time that is behind
 abbrev pub is_behind : ℕ → Option Bool
-is_behind b = if b == plus_sign then Some false else if b == hyphen then Some true else None
+is_behind b = if b == ascii "+" then Some false else if b == ascii "-" then Some true else None
 
 abbrev pub offset_sign : List ℕ → Option Bool
 offset_sign text = if nat_le 6 (length text) then is_behind (slice_index text (length text - 6)) else None
