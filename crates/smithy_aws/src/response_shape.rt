@@ -26,7 +26,8 @@ pub struct RestJson1Shape<'t> {
 impl<'t> RestJson1Shape<'t> {
     ghost use Rattle.std.specs.Prelude.{◌≡◌, true, IfOk};
     ghost use Rattle.smithy_wire.specs.Forms as forms;
-    ghost use Rattle.smithy_wire.specs.WireOf.{form_in, names_in};
+    ghost use Rattle.smithy_wire.specs.WireOf.{form_in, style_in};
+    ghost use Rattle.smithy_wire.specs.Styles.{refusing};
     ghost use Rattle.smithy_wire.specs.declared.side.Side.TheVariants as side;
     ghost use Rattle.smithy_aws.specs.BodyValues.{GivesValue};
     ghost use Rattle.smithy_aws.specs.ResponseShapes.{shape_of, IsTaken};
@@ -87,7 +88,7 @@ impl<'t> RestJson1Shape<'t> {
     // The JSON of a body.
     fn wire(&self) -> WireJson<'t>
         ensures form { form_in result ≡ forms.body_form side.Response (shape_of self.now).schema }
-        ensures names { names_in result ≡ true }
+        ensures style { style_in result ≡ refusing true }
     {
         let table = self.table;
         let Some(schema) = table.get(self.shape) else {
