@@ -1,1 +1,4 @@
 pub mod ErrorCodes
+pub mod Payloads
+pub mod Ready
+pub mod views

@@ -2,5 +2,8 @@
 #![tactic(auto)]
 
 mod error_codes;
+mod payload;
+mod ready;
 
 pub use error_codes::error_code;
+pub use ready::ReadyInput;
