@@ -2,6 +2,7 @@
 // output tells how many rows there are, and how many failed.
 #![tactic(auto)]
 
+mod aws;
 mod documents;
 mod given_job;
 mod items;
@@ -52,6 +53,9 @@ impl Answers for Calls {
             return Ok(text);
         }
         if let Some(text) = requests::answer(alloc, call, given)? {
+            return Ok(text);
+        }
+        if let Some(text) = aws::answer(alloc, call, given)? {
             return Ok(text);
         }
         if let Some(text) = misfits::answer(alloc, call, given)? {

@@ -1,2 +1,4 @@
 pub mod BodyLemmas
+pub mod PayloadSteps
+pub mod ReadyLemmas
 pub mod ShapeLemmas
