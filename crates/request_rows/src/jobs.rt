@@ -85,8 +85,9 @@ fn shallow(alloc: Global, value: &JsonValue<'_>, levels: usize) -> Result<Text, 
 fn present(alloc: Global, value: &JsonValue<'_>) -> Result<Text, Failed> {
     match read_job(alloc, value) {
         Ok(job) => {
+            let writes = job.writes.present(alloc)?;
             let nodes = job.further.as_ref().unwrap_or(&job.table);
-            both_levels(alloc, nodes, &job.writes.present(alloc)?)
+            both_levels(alloc, nodes, &writes)
         }
         Err(refusal) => no_job(alloc, refusal),
     }
