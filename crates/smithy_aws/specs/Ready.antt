@@ -1,5 +1,6 @@
 -- The writes of an input as AWS restJson1 takes them.
 use Rattle.std.specs.Prelude.{Bool, false, not, ◌&&◌, Option, Some, None, option_and_then}
+use Rattle.std.specs.Bool.{then_some}
 use Rattle.std.specs.List.{list_any}
 use Rattle.std.specs.Option.{option_map_or}
 use Rattle.smithy_ids.specs.Kinds.{same_kind}
@@ -7,7 +8,7 @@ use Rattle.smithy_ids.specs.declared.shape_type.ShapeType.TheVariants as kind
 use Rattle.smithy_schema.specs.Nodes.{Schema, member_at}
 use Rattle.smithy_serde.specs.Present.{present_members}
 use Rattle.smithy_serde.specs.Values.{Label, Writes, label_of, list_of, no_writes, structure, write}
-use Rattle.smithy_serde.specs.Writes.{only_if, resolve}
+use Rattle.smithy_serde.specs.Writes.{resolve}
 use Rattle.smithy_aws.specs.Payloads.{is_payload_member, payload_of}
 
 -- the member that a write with this node is for
@@ -24,7 +25,7 @@ is_written schema ws = list_any (λ w. is_for_payload schema w.label) (list_of w
 
 -- the member, where it is a structure and isn't written
 abbrev pub if_unwritten : Bool → Schema → Option Schema
-if_unwritten is_written m = only_if (same_kind m.node.kind kind.Structure && not is_written) m
+if_unwritten is_written m = then_some (same_kind m.node.kind kind.Structure && not is_written) m
 
 -- the payload, where it is a structure and none of the writes is for it
 abbrev pub unwritten : Schema → Writes → Option Schema
