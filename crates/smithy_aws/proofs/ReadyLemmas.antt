@@ -1,7 +1,7 @@
 -- Which member a write is for.
 use Rattle.std.proofs.Common.{◌≡◌, refl, ℕ, Option, Some, None, option_and_then, is_some}
-use Rattle.smithy_schema.specs.Nodes.{Schema, member_at}
 use Rattle.std.specs.Bool.{then_some}
+use Rattle.smithy_schema.specs.Nodes.{Schema, member_at}
 
 -- the one at its position, where there is one
 pub at_index : (s : Schema) (i : ℕ) → option_and_then (member_at s) (then_some (is_some (member_at s i)) i) ≡ member_at s i
