@@ -40,45 +40,60 @@ struct Calls;
 
 impl Answers for Calls {
     fn answer(&self, alloc: Global, call: &str, given: &Value) -> Result<Text, Failed> {
-        if let Some(text) = models::answer(alloc, call, given)? {
+        if let Some(text) = of_jobs(alloc, call, given)? {
             return Ok(text);
         }
-        if let Some(text) = jobs::answer(alloc, call, given)? {
+        if let Some(text) = of_messages(alloc, call, given)? {
             return Ok(text);
         }
-        if let Some(text) = items::answer(alloc, call, given)? {
-            return Ok(text);
-        }
-        if let Some(text) = many::answer(alloc, call, given)? {
-            return Ok(text);
-        }
-        if let Some(text) = requests::answer(alloc, call, given)? {
-            return Ok(text);
-        }
-        if let Some(text) = aws::answer(alloc, call, given)? {
-            return Ok(text);
-        }
-        if let Some(text) = misfits::answer(alloc, call, given)? {
-            return Ok(text);
-        }
-        if let Some(text) = outputs::answer(alloc, call, given)? {
-            return Ok(text);
-        }
-        if let Some(text) = pointing::answer(alloc, call, given)? {
-            return Ok(text);
-        }
-        if let Some(text) = service::answer(alloc, call, given)? {
-            return Ok(text);
-        }
-        if let Some(text) = templates::answer(alloc, call, given)? {
-            return Ok(text);
-        }
-        if let Some(text) = runs::answer(alloc, call, given)? {
-            return Ok(text);
-        }
-        if let Some(text) = wrong_places::answer(alloc, call, given)? {
-            return Ok(text);
-        }
-        documents::answer(alloc, call, given)?.ok_or(Failed)
+        of_texts(alloc, call, given)?.ok_or(Failed)
     }
+}
+
+// The answer of a call that reads a model, a job or many of them; none of another.
+fn of_jobs(alloc: Global, call: &str, given: &Value) -> Result<Option<Text>, Failed> {
+    if let Some(text) = models::answer(alloc, call, given)? {
+        return Ok(Some(text));
+    }
+    if let Some(text) = jobs::answer(alloc, call, given)? {
+        return Ok(Some(text));
+    }
+    if let Some(text) = items::answer(alloc, call, given)? {
+        return Ok(Some(text));
+    }
+    if let Some(text) = many::answer(alloc, call, given)? {
+        return Ok(Some(text));
+    }
+    wrong_places::answer(alloc, call, given)
+}
+
+// The answer of a call that makes a request or a response, or of one on its input or output; none of another.
+fn of_messages(alloc: Global, call: &str, given: &Value) -> Result<Option<Text>, Failed> {
+    if let Some(text) = requests::answer(alloc, call, given)? {
+        return Ok(Some(text));
+    }
+    if let Some(text) = misfits::answer(alloc, call, given)? {
+        return Ok(Some(text));
+    }
+    if let Some(text) = aws::answer(alloc, call, given)? {
+        return Ok(Some(text));
+    }
+    if let Some(text) = outputs::answer(alloc, call, given)? {
+        return Ok(Some(text));
+    }
+    pointing::answer(alloc, call, given)
+}
+
+// The answer of a call on names of services, templates, whole runs or documents; none of another.
+fn of_texts(alloc: Global, call: &str, given: &Value) -> Result<Option<Text>, Failed> {
+    if let Some(text) = service::answer(alloc, call, given)? {
+        return Ok(Some(text));
+    }
+    if let Some(text) = templates::answer(alloc, call, given)? {
+        return Ok(Some(text));
+    }
+    if let Some(text) = runs::answer(alloc, call, given)? {
+        return Ok(Some(text));
+    }
+    documents::answer(alloc, call, given)
 }
