@@ -367,25 +367,30 @@ fn kept(alloc: Global, pairs: &[Pair]) -> Result<Places, OutOfMemory>
     mapped(alloc, pairs)
 }
 
-// Begins to keep places once there are few pairs no longer. That is tried at one number of pairs alone, so that where a
-// name stands twice, it isn't tried at each further pair. Few names behind those that rise are searched, more make a map.
+// Whether what is kept of places changes before one more pair comes: once there are few pairs no longer. That is so at one
+// number of pairs alone, so that where a name stands twice, it isn't tried at each further pair. Few names behind those that
+// rise are searched, more make a map.
+fn is_turn(places: &Places, pairs: &[Pair]) -> bool
+    requires { ArePlaces places.now (map name_of pairs.now) }
+{
+    match places {
+        Places::Searched => pairs.len() == FEW_PAIRS,
+        Places::Rising(count) => pairs.len() - *count == FEW_PAIRS,
+        Places::Mapped(_) => false,
+    }
+}
+
+// Keeps places as is best of so many pairs.
+#[inline(never)]
 fn keep_places(alloc: Global, places: &mut Places, pairs: &[Pair]) -> Result<(), OutOfMemory>
     requires { ArePlaces places.old (map name_of pairs.now) }
     ensures { ArePlaces places.new (map name_of pairs.now) }
 {
-    match places {
-        Places::Searched => {
-            if pairs.len() == FEW_PAIRS {
-                *places = kept(alloc, pairs)?;
-            }
-        }
-        Places::Rising(count) => {
-            if pairs.len() - *count == FEW_PAIRS {
-                *places = mapped(alloc, pairs)?;
-            }
-        }
-        Places::Mapped(_) => {}
-    }
+    *places = match places {
+        Places::Searched => kept(alloc, pairs)?,
+        Places::Rising(_) => mapped(alloc, pairs)?,
+        Places::Mapped(_) => return Ok(()),
+    };
     Ok(())
 }
 
@@ -398,6 +403,9 @@ fn make_room(pairs: &mut Vec<Pair>, places: &mut Places) -> Result<(), OutOfMemo
     ensures index { ArePlaces places.new (map name_of pairs.new.items) }
 {
     pairs.reserve(if pairs.is_empty() { FIRST_ROOM } else { 1 })?;
+    if !is_turn(places, pairs) {
+        return Ok(());
+    }
     keep_places(*pairs.allocator(), places, pairs)
 }
 
