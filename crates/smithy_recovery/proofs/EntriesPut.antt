@@ -22,7 +22,7 @@ use Rattle.smithy_serde.specs.declared.value.ShapeValue.{ShapeValue}
 use Rattle.smithy_serde.proofs.WritesLemmas.{appended-no_writes, appended_assoc}
 use Rattle.smithy_binding.specs.NormalForm.{unless_empty}
 use Rattle.smithy_recovery.specs.views.KeptEntries.{is_again, last_entry, last_entries, map_seen, text_put, part_put, headers_put, ArePlaces, has_entry_nodes}
-use Rattle.smithy_recovery.specs.views.KeptQueries.{shown_values, entries_in, has_key, AreValuesDefined}
+use Rattle.smithy_recovery.specs.views.KeptQueries.{shown_values, entries_in, has_key, value_under, new_put, AreValuesDefined}
 use Rattle.smithy_recovery.specs.views.NameOrder.{text_seen, IsInOrder}
 use Rattle.smithy_recovery.specs.declared.named_texts.NamedText.{NamedText}
 use Rattle.smithy_recovery.specs.MapParts.{as_text, entry_behind, entries_behind, text_entries, prefix_part}
@@ -198,7 +198,7 @@ value_there m i j at nodes = ap is_some at.value_node ∙ (and_parts (is_some (k
 -- Values that are kept by their keys.
 
 -- an insertion into the map
-pub value_inserted : (t : Table) (es : List (String Global × ShapeValue)) (k : String Global) (v : ShapeValue)
+value_inserted : (t : Table) (es : List (String Global × ShapeValue)) (k : String Global) (v : ShapeValue)
     → shown_values t (insert_entry string_cmp es k v) ≡ with_value (string_bytes k) (value_in t v) (shown_values t es)
 value_inserted t [] k v = refl
 value_inserted t (e ∷ es) k v = go (string_cmp k e.0) (value_inserted t es k v)
@@ -211,7 +211,7 @@ value_inserted t (e ∷ es) k v = go (string_cmp k e.0) (value_inserted t es k v
     go Equal rest = refl
     go Greater rest = ap (λ xs. (string_bytes e.0, value_in t e.1) ∷ xs) rest
 
-pub defined_inserted : (t : Table) (es : List (String Global × ShapeValue)) (k : String Global) (v : ShapeValue) → IsDefined t v → AreValuesDefined t es → AreValuesDefined t (insert_entry string_cmp es k v)
+defined_inserted : (t : Table) (es : List (String Global × ShapeValue)) (k : String Global) (v : ShapeValue) → IsDefined t v → AreValuesDefined t es → AreValuesDefined t (insert_entry string_cmp es k v)
 defined_inserted t [] k v is all = (is, tt)
 defined_inserted t (e ∷ es) k v is all = go (string_cmp k e.0) (defined_inserted t es k v is all.1)
   where
@@ -221,12 +221,39 @@ defined_inserted t (e ∷ es) k v is all = go (string_cmp k e.0) (defined_insert
     go Greater rest = (all.0, rest)
 
 -- what is found of a key
-pub key_found : (t : Table) (key : List ℕ) (m : BTreeMap (String Global) ShapeValue) → is_some (get_by_text m key) ≡ has_key key (entries_in t m)
+key_found : (t : Table) (key : List ℕ) (m : BTreeMap (String Global) ShapeValue) → is_some (get_by_text m key) ≡ has_key key (entries_in t m)
 key_found t key m = go (get_by_text m key) ∙ ap is_some (lookup-pairs_of (value_in t) key m.entries)
   where
     go : (p : Option ShapeValue) → is_some p ≡ is_some (option_map (value_in t) p)
     go None = refl
     go (Some v) = refl
+
+key_kept : (t : Table) (key : List ℕ) (k : String Global) (m : BTreeMap (String Global) ShapeValue) (o : Option ShapeValue) → string_bytes k ≡ key → get_by_text m (string_bytes k) ≡ o
+    → has_key key (entries_in t m) ≡ is_some o
+key_kept t key k m o is found = ap (λ x. has_key x (entries_in t m)) (sym is) ∙ sym (key_found t (string_bytes k) m) ∙ ap is_some found
+
+put_where : (here : Option Schema) (ps : List (List ℕ)) (es : Entries) (key : List ℕ) (b : Bool) → has_key key es ≡ b → new_put here ps es key ≡ cond b (Some es) (option_map (λ v. with_value key v es) (value_under here ps))
+put_where here ps es key b is = ap (λ x. cond x (Some es) (option_map (λ v. with_value key v es) (value_under here ps))) is
+
+-- a key's entry: where there is one nothing is put, and else the value of the pieces is, if they have one
+module _ (t : Table) (here : Option Schema) (ps : List (List ℕ)) (key : List ℕ) (k : String Global) (is : string_bytes k ≡ key) (old : BTreeMap (String Global) ShapeValue) where
+  pub put_there : (new : List (String Global × ShapeValue)) → is_some (get_by_text old (string_bytes k)) ≡ true → new ≡ old.entries → new_put here ps (entries_in t old) key ≡ Some (shown_values t new)
+  put_there new there same =
+      put_where here ps (entries_in t old) key true (key_kept t key k old (get_by_text old (string_bytes k)) is refl ∙ there) ∙ ap (λ es. Some (shown_values t es)) (sym same)
+
+  pub put_first : (new : List (String Global × ShapeValue)) (v : ShapeValue) → get_by_text old (string_bytes k) ≡ None → value_under here ps ≡ Some (value_in t v) → new ≡ insert_entry string_cmp old.entries k v
+      → new_put here ps (entries_in t old) key ≡ Some (shown_values t new)
+  put_first new v none value put =
+      put_where here ps (entries_in t old) key false (key_kept t key k old None is none) ∙ ap (option_map (λ x. with_value key x (entries_in t old))) value
+      ∙ ap (λ n. Some (with_value n (value_in t v) (entries_in t old))) (sym is) ∙ ap (λ es. Some es) (sym (ap (shown_values t) put ∙ value_inserted t old.entries k v))
+
+  pub put_none : get_by_text old (string_bytes k) ≡ None → value_under here ps ≡ None → new_put here ps (entries_in t old) key ≡ None
+  put_none none value =
+      put_where here ps (entries_in t old) key false (key_kept t key k old None is none) ∙ ap (option_map (λ x. with_value key x (entries_in t old))) value
+
+pub first_defined : (t : Table) (old : BTreeMap (String Global) ShapeValue) (new : List (String Global × ShapeValue)) (k : String Global) (v : ShapeValue) → new ≡ insert_entry string_cmp old.entries k v → IsDefined t v
+    → AreValuesDefined t old.entries → AreValuesDefined t new
+first_defined t old new k v put is all = subst (AreValuesDefined t) (sym put) (defined_inserted t old.entries k v is all)
 
 -- the part of a map by the values that are kept of it
 pub part_kept : (t : Table) (m : Schema) (o : Option Entries) (es : List (String Global × ShapeValue)) → o ≡ Some (shown_values t es) → (length es ≡ 0 → ⊥) → part_of m o ≡ Some (Some (map_value (Some m) (shown_values t es)))

@@ -7,7 +7,7 @@ use Rattle.smithy_serde.specs.Values.{Value}
 use Rattle.smithy_serde.specs.declared.value.ShapeValue.{ShapeValue}
 use Rattle.smithy_recovery.specs.Finding.{Finds}
 use Rattle.smithy_recovery.specs.views.Keeping.{Keeps, KeepsPart}
-use Rattle.smithy_recovery.specs.views.KeptQueries.{Entries, QueryNames, KeptValues, key_to_come, value_put, under_put, pieces_put, KeepsEntries}
+use Rattle.smithy_recovery.specs.views.KeptQueries.{Entries, QueryNames, KeptValues, unnamed_key, value_put, under_put, pieces_put, KeepsEntries}
 use Rattle.smithy_recovery.specs.views.Pieces.{NamedPieces, named_left}
 use Rattle.smithy_recovery.specs.declared.error.RecoverError.{RecoverError}
 use Rattle.smithy_recovery.specs.declared.error.RecoverError.TheVariants.{NotPlaced, OutOfMemory}
@@ -17,7 +17,7 @@ shown ps = map (λ p. p.now) ps
 
 module _ (names : QueryNames) (here : Option Schema) (name : List ℕ) (es : Entries) where
   -- some pieces, by the key
-  pub under_some : (ps : List (Bor (List ℕ))) → (length ps == 0) ≡ false → (o : Option (Option (List ℕ))) → key_to_come names es name ≡ o → under_put names here name (shown ps) es ≡ option_and_then (value_put here (shown ps) es) o
+  pub under_some : (ps : List (Bor (List ℕ))) → (length ps == 0) ≡ false → (o : Option (Option (List ℕ))) → unnamed_key names name ≡ o → under_put names here name (shown ps) es ≡ option_and_then (value_put here (shown ps) es) o
   under_some [] some o is = absurd (cc some)
   under_some (p ∷ ps) some o is = ap (option_and_then (value_put here (shown (p ∷ ps)) es)) is
 

@@ -20,7 +20,7 @@ use Rattle.smithy_strings.proofs.UnescapeLaws.{unescape_is_exact}
 use Rattle.smithy_binding.specs.NormalForm.{unless_empty}
 use Rattle.smithy_binding.proofs.DistinctNames.{same_text-sym}
 use Rattle.smithy_document.proofs.OrderedPairs.{same_name, looked, Ascends, absent, up_tail, all_ascend}
-use Rattle.smithy_recovery.specs.views.KeptQueries.{Entries, QueryNames, is_named, HasNames, is_to_come, key_to_come, value_under, value_put, under_put, pieces_put}
+use Rattle.smithy_recovery.specs.views.KeptQueries.{Entries, QueryNames, is_named, HasNames, unnamed_key, value_under, value_put, under_put, pieces_put}
 use Rattle.smithy_recovery.specs.MapParts.{entry_named, query_entry, query_entries, query_map_part}
 use Rattle.smithy_recovery.specs.views.Pieces.{NamedPieces, HasLeft, named_left}
 use Rattle.smithy_recovery.specs.QueryParts.{own_query, pieces_named}
@@ -80,13 +80,16 @@ value_entry : (key : List ℕ) (o : Option Value) (es : Entries) → option_map 
 value_entry key None es = refl
 value_entry key (Some v) es = refl
 
--- a key's value is put where it is to come, and where it is there it is put again
-key_put : (key : List ℕ) (here : Option Schema) (ps : List (List ℕ)) (es : Entries) (b : Bool) (o : Option Value) → lookup (same_text key) es ≡ o → Ascends es
-    → ((v : Value) → o ≡ Some v → cond b (Some None) (as_entry key (value_under here ps)) ≡ Some (Some (key, v)))
-    → value_put here ps es (then_some (cond b false (not (is_some o))) key) ≡ put_entry (cond b (Some None) (as_entry key (value_under here ps))) es
-key_put key here ps es true o at up met = refl
-key_put key here ps es false None at up met = value_entry key (value_under here ps) es
-key_put key here ps es false (Some v) at up met = ap Some (sym (put_again key v es up at)) ∙ ap (λ x. put_entry x es) (sym (met v refl))
+-- a key's value is put where it has none, and where it is there it is put again
+key_put : (key : List ℕ) (here : Option Schema) (ps : List (List ℕ)) (es : Entries) (b : Bool) → Ascends es
+    → ((v : Value) → lookup (same_text key) es ≡ Some v → cond b (Some None) (as_entry key (value_under here ps)) ≡ Some (Some (key, v)))
+    → value_put here ps es (then_some (not b) key) ≡ put_entry (cond b (Some None) (as_entry key (value_under here ps))) es
+key_put key here ps es true up met = refl
+key_put key here ps es false up met = go (lookup (same_text key) es) refl
+  where
+    go : (o : Option Value) → lookup (same_text key) es ≡ o → cond (is_some o) (Some es) (option_map (λ v. with_value key v es) (value_under here ps)) ≡ put_entry (as_entry key (value_under here ps)) es
+    go None at = value_entry key (value_under here ps) es
+    go (Some v) at = ap Some (sym (put_again key v es up at)) ∙ ap (λ x. put_entry x es) (sym (met v at))
 
 -- The entries of a query, whose pieces, a template's and the names of query members are kept by their names.
 
@@ -124,13 +127,13 @@ module _ (t : Template) (all : List (List ℕ)) (here : Option Schema) (ps : Lis
 
   -- one name further
   some_put : (name : List ℕ) (es : Entries) → Ascends es → AllByRecursion IsOwn es → (xs : List (List ℕ)) → left_at name ≡ xs → entry_named all here name xs ≡ option_and_then (of_key xs) (unescaped name)
-      → option_and_then (value_put here xs es) (key_to_come names es name) ≡ put_entry (option_and_then (of_key xs) (unescaped name)) es
+      → option_and_then (value_put here xs es) (unnamed_key names name) ≡ put_entry (option_and_then (of_key xs) (unescaped name)) es
   some_put name es up all_own xs is whole = go (unescaped name) refl
     where
-      go : (o : Option (List ℕ)) → unescaped name ≡ o → option_and_then (value_put here xs es) (option_map (λ key. then_some (is_to_come names es key) key) o) ≡ put_entry (option_and_then (of_key xs) o) es
+      go : (o : Option (List ℕ)) → unescaped name ≡ o → option_and_then (value_put here xs es) (option_map (λ key. then_some (not (is_named names key)) key) o) ≡ put_entry (option_and_then (of_key xs) o) es
       go None u = refl
       go (Some key) u =
-          key_put key here xs es (is_named names key) (lookup (same_text key) es) refl up
+          key_put key here xs es (is_named names key) up
           (λ v at.
           ap (λ b. cond b (Some None) (as_entry key (value_under here xs))) (named key) ∙ ap (option_and_then (of_key xs)) (sym u) ∙ sym whole ∙ ap (entry_named all here name) (sym is)
           ∙ ap entry_at (sym ((unescape_is_exact name).has_escape key u).1) ∙ found_has IsOwn key v es all_own at)

@@ -1,12 +1,12 @@
 // The map of a query beside its members (Smithy, HTTP protocol bindings, httpQueryParams).
 ghost use Rattle.std.specs.Prelude.{◌≡◌, IsTrue, IfOk, OnOk, Some, length, map, option_map};
-ghost use Rattle.smithy_schema.specs.Nodes.{Table};
 ghost use Rattle.smithy_schema.specs.References.{schema_of as node};
 ghost use Rattle.smithy_binding.specs.Bindings.{query_names};
 ghost use Rattle.smithy_binding.specs.views.Entries.{query_name_at};
+ghost use Rattle.smithy_recovery.specs.Finding.{Finds};
 ghost use Rattle.smithy_recovery.specs.views.Keeping.{KeepsOf};
 ghost use Rattle.smithy_recovery.specs.views.KeptEntries.{HasEntries, has_entry_nodes};
-ghost use Rattle.smithy_recovery.specs.views.KeptQueries.{is_named, HasNames, entries_in, AreKeptDefined, AreEntriesDefined, has_key, is_to_come, TellsKey, value_under, PutsValue, PutsUnder, PutsLeft, StaysKept, StaysKeptWith, KeepsQuery, KeepsQueryBeside, map_kept};
+ghost use Rattle.smithy_recovery.specs.views.KeptQueries.{is_named, HasNames, entries_in, AreKeptDefined, AreEntriesDefined, unnamed_key, value_under, PutsNew, PutsUnder, PutsLeft, StaysKept, KeepsQuery, KeepsQueryBeside, map_kept};
 
 use crate::entry_values::entry_value;
 use crate::error::RecoverError;
@@ -19,6 +19,7 @@ use smithy_strings::percent_decode;
 use smithy_types::{OutOfMemory, Text};
 use std::alloc::Global;
 use std::collections::BTreeMap;
+use std::collections::btree_map::Entry;
 
 /// The names of query members, each with the position of a member that has it.
 pub type QueryNames = BTreeMap<String, usize>;
@@ -68,38 +69,17 @@ fn is_named(names: &QueryNames, name: &str) -> bool
     names.contains_key(name)
 }
 
-fn has_key(entries: &Entries, key: &str) -> bool
-    ensures { (t : Table) → result ≡ has_key key.now (entries_in t entries.now) }
-{
-    entries.contains_key(key)
-}
-
-// Whether a key's entry is to come: it is no query member's and has none yet.
-fn is_to_come(names: &QueryNames, entries: &Entries, key: &str) -> bool
-    ensures { (t : Table) → result ≡ is_to_come names.now (entries_in t entries.now) key.now }
-{
-    if is_named(names, key) {
-        return false;
-    }
-    !has_key(entries, key)
-}
-
-// The key whose escape a name is, where its entry is to come. `NotPlaced` where it is none's escape.
-fn key_to_come(
-    alloc: Global,
-    names: &QueryNames,
-    entries: &Entries,
-    name: &str,
-) -> Result<Option<Text>, RecoverError>
-    ensures { TellsKey names.now entries.now name.now result }
+// The key whose escape a name is, where it is no query member's. `NotPlaced` where it is none's escape.
+fn unnamed_key(alloc: Global, names: &QueryNames, name: &str) -> Result<Option<Text>, RecoverError>
+    ensures { Finds (λ k. k) result (unnamed_key names.now name.now) }
 {
     let Some(key) = percent_decode(alloc, name)? else {
         return Err(RecoverError::NotPlaced);
     };
-    if is_to_come(names, entries, key.as_str()) {
-        Ok(Some(key))
-    } else {
+    if is_named(names, key.as_str()) {
         Ok(None)
+    } else {
+        Ok(Some(key))
     }
 }
 
@@ -115,16 +95,28 @@ fn value_under(
     entry_value(alloc, here, texts.as_slice())
 }
 
-// Puts a value at a key.
-fn put(entries: &mut Entries, key: Text, value: ShapeValue) -> Result<(), OutOfMemory>
-    ensures value { OnOk result (PutsValue key value entries.old entries.new) }
-    ensures defined { OnOk result (StaysKeptWith value entries.old entries.new) }
+// Puts the entry of the pieces at a key, unless there is one.
+fn put_new(
+    alloc: Global,
+    entries: &mut Entries,
+    here: SchemaRef<'_>,
+    key: Text,
+    pieces: &[&str],
+) -> Result<(), RecoverError>
+    ensures put { PutsNew (node here.entry) key pieces.now entries.old entries.new result }
+    ensures defined { OnOk result (StaysKept (node here.entry).table entries.old entries.new) }
 {
-    entries.insert(key.into_string(), value)?;
-    Ok(())
+    match entries.entry(key.into_string())? {
+        Entry::Occupied(_) => Ok(()),
+        Entry::Vacant(entry) => {
+            let value = value_under(alloc, here, pieces)?;
+            entry.insert(value);
+            Ok(())
+        }
+    }
 }
 
-// Puts the entry of the pieces under a name, where it is to come.
+// Puts the entry of the pieces under a name, where it is no query member's and has none yet.
 fn put_under(
     alloc: Global,
     names: &QueryNames,
@@ -139,12 +131,8 @@ fn put_under(
     if pieces.is_empty() {
         return Ok(());
     }
-    match key_to_come(alloc, names, entries, name)? {
-        Some(key) => {
-            let value = value_under(alloc, here, pieces)?;
-            put(entries, key, value)?;
-            Ok(())
-        }
+    match unnamed_key(alloc, names, name)? {
+        Some(key) => put_new(alloc, entries, here, key, pieces),
         None => Ok(()),
     }
 }

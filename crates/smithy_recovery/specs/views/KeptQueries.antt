@@ -1,5 +1,5 @@
 -- Entries of a query map that are kept by their keys, and the names of query members.
-use Rattle.std.specs.Prelude.{◌≡◌, ℕ, Bool, false, not, List, [], ◌∷◌, map, Option, Some, None, Result, Ok, Err, String, option_map, option_and_then, is_some, string_bytes, if◌then◌else◌}
+use Rattle.std.specs.Prelude.{◌≡◌, ℕ, Bool, not, List, [], ◌∷◌, map, Option, Some, None, Result, Ok, Err, String, option_map, option_and_then, is_some, string_bytes, if◌then◌else◌}
 use Rattle.std.specs.Borrow.{Bor}
 use Rattle.std.specs.BTreeMap.{BTreeMap, get_by_text}
 use Rattle.std.specs.Global.{Global}
@@ -69,31 +69,27 @@ map_kept kept m = Some (map_value (Some m) (entries_in m.table kept))
 abbrev pub has_key : List ℕ → Entries → Bool
 has_key key es = is_some (lookup (same_text key) es)
 
--- a key's entry is to come: it is no query member's and has none yet
-abbrev pub is_to_come : QueryNames → Entries → List ℕ → Bool
-is_to_come names es key = if is_named names key then false else not (has_key key es)
-
--- the key whose escape a name is, where its entry is to come; none where it is none's escape
-abbrev pub key_to_come : QueryNames → Entries → List ℕ → Option (Option (List ℕ))
-key_to_come names es name = option_map (λ key. then_some (is_to_come names es key) key) (unescaped name)
-
--- the key of a name is told, whichever table the entries are over
-abbrev pub TellsKey : QueryNames → KeptValues → (name : List ℕ) → Result (Option (List ℕ)) RecoverError → Type 0
-TellsKey names entries name result = (t : Table) → Finds (λ k. k) result (key_to_come names (entries_in t entries) name)
+-- the key whose escape a name is, where it is no query member's; none where it is none's escape
+abbrev pub unnamed_key : QueryNames → List ℕ → Option (Option (List ℕ))
+unnamed_key names name = option_map (λ key. then_some (not (is_named names key)) key) (unescaped name)
 
 -- the value of an entry by its pieces
 abbrev pub value_under : Option Schema → List (List ℕ) → Option Value
 value_under here ps = option_and_then (entry_value here) (each piece_text ps)
 
--- the value of these pieces is put at a key, if there is one
+-- the entry of these pieces is put at a key, unless there is one
+abbrev pub new_put : Option Schema → List (List ℕ) → Entries → List ℕ → Option Entries
+new_put here ps es key = if has_key key es then Some es else option_map (λ v. with_value key v es) (value_under here ps)
+
+-- the same at a key that may not be there
 abbrev pub value_put : Option Schema → List (List ℕ) → Entries → Option (List ℕ) → Option Entries
 value_put here ps es None = Some es
-value_put here ps es (Some key) = option_map (λ v. with_value key v es) (value_under here ps)
+value_put here ps es (Some key) = new_put here ps es key
 
--- the entry of the pieces under a name is put where it is to come; nothing of no pieces
+-- the entry of the pieces under a name is put where it is no query member's and has none yet; nothing of no pieces
 abbrev pub under_put : QueryNames → Option Schema → (name : List ℕ) → List (List ℕ) → Entries → Option Entries
 under_put names here name [] es = Some es
-under_put names here name (piece ∷ more) es = option_and_then (value_put here (piece ∷ more) es) (key_to_come names es name)
+under_put names here name (piece ∷ more) es = option_and_then (value_put here (piece ∷ more) es) (unnamed_key names name)
 
 -- the entries of the names of these pieces, one after another
 abbrev pub pieces_put : (own pieces : NamedPieces) → QueryNames → Option Schema → List (List ℕ) → Entries → Option Entries
@@ -103,18 +99,16 @@ pieces_put own pieces names here (piece ∷ more) es =
     (pieces_put own pieces names here more)
     (under_put names here (named_piece piece).0 (named_left own pieces (named_piece piece).0) es)
 
--- a value is put at a key
-abbrev pub PutsValue : List ℕ → ShapeValue → (before after : KeptValues) → Type 0
-PutsValue key v before after = (t : Table) → entries_in t after ≡ with_value key (value_in t v) (entries_in t before)
-
 -- what is kept is still of the table's nodes
 abbrev pub StaysKept : Table → (before after : KeptValues) → Type 0
 StaysKept t before after = AreKeptDefined t before → AreKeptDefined t after
 
-abbrev pub StaysKeptWith : ShapeValue → (before after : KeptValues) → Type 0
-StaysKeptWith v before after = (t : Table) → IsDefined t v → StaysKept t before after
+-- the entry of the pieces at a key, by the node of its value
+abbrev pub PutsNew : {A : Type 0} → Schema → (key : List ℕ) → List (Bor (List ℕ)) → (before after : KeptValues) → Result A RecoverError → Type 0
+PutsNew n key pieces before after result =
+    Finds (λ _. entries_in n.table after) result (new_put (Some n) (map (λ p. p.now) pieces) (entries_in n.table before) key)
 
--- the entry of the pieces under a name, by the node of its value
+-- the same under a name
 abbrev pub PutsUnder : {A : Type 0} → Schema → QueryNames → (name : List ℕ) → List (Bor (List ℕ)) → (before after : KeptValues) → Result A RecoverError → Type 0
 PutsUnder n names name pieces before after result =
     Finds (λ _. entries_in n.table after) result (under_put names (Some n) name (map (λ p. p.now) pieces) (entries_in n.table before))
