@@ -1,17 +1,7 @@
 -- What the calls of the gateway answer.
 use Rattle.std.specs.Prelude.{◌≡◌, ℕ, true, List, [], length, Some, Result, Err, option_map, IfOk}
-use Rattle.smithy_types.specs.Documents.{Document}
-use Rattle.smithy_http.specs.Facts.{facts}
-use Rattle.smithy_http.specs.Requests.{Request}
-use Rattle.smithy_schema.specs.Nodes.{Schema, Table, at_place}
-use Rattle.smithy_schema.specs.declared.parts.SchemaIndex.{SchemaIndex}
-use Rattle.smithy_serde.specs.Values.{Write}
-use Rattle.smithy_binding.specs.Answer.{place}
-use Rattle.smithy_binding.specs.Placing.{Protocol, OmitFlags, with_defaults}
-use Rattle.smithy_binding.specs.Protocols.{Parts, protocol_of}
+use Rattle.smithy_gateway.specs.Words.{Document, facts, Request, Schema, Table, at_place, SchemaIndex, Write, place, Protocol, OmitFlags, with_defaults, Parts, protocol_of, RecoverError, NotPlaced}
 use Rattle.smithy_gateway.specs.Calls.{Texts, IsPosted, IsNormal, IsCall}
-use Rattle.smithy_recovery.specs.declared.error.RecoverError.{RecoverError}
-use Rattle.smithy_recovery.specs.declared.error.RecoverError.TheVariants.{NotPlaced}
 
 -- what holds of the schema at a place of a table
 abbrev pub AtSchema : Table → SchemaIndex → (Schema → Type 0) → Type 0

@@ -1,15 +1,7 @@
 -- An input that a request posts whole.
 use Rattle.std.specs.Prelude.{◌≡◌, ℕ, codes, List, Option, Some, option_map, IsTrue}
-use Rattle.smithy_types.specs.Documents.{Document}
-use Rattle.smithy_http.specs.Requests.{Request}
-use Rattle.smithy_schema.specs.Nodes.{Schema}
 use Rattle.smithy_serde.specs.DocumentOf.{doc_of}
-use Rattle.smithy_serde.specs.Held.{Held}
-use Rattle.smithy_serde.specs.Values.{structure, Write, writes_of}
-use Rattle.smithy_binding.specs.NormalForm.{view}
-use Rattle.smithy_binding.specs.Placing.{Protocol, OmitFlags}
-use Rattle.smithy_binding.specs.Protocols.{Parts, protocol_of}
-use Rattle.smithy_binding.specs.Typed.{IsTyped, is_shallow}
+use Rattle.smithy_gateway.specs.Words.{Document, Request, Schema, Held, structure, Write, writes_of, view, Protocol, OmitFlags, Parts, protocol_of, IsTyped, is_shallow}
 
 -- the text of a document in each codec of a type
 abbrev pub Texts : Type 0 → Type 0

@@ -1,19 +1,6 @@
 -- The request of the same input in the other protocol.
 use Rattle.std.specs.Prelude.{ℕ, codes, Bool, false, ◌&&◌, List, [], Option, None, option_and_then, if◌then◌else◌}
-use Rattle.std.specs.Option.{option_map_or}
-use Rattle.std.specs.Result.{result_ok}
-use Rattle.smithy_types.specs.Texts.{same_text}
-use Rattle.smithy_http.specs.Requests.{Request}
-use Rattle.smithy_schema.specs.Nodes.{Schema}
-use Rattle.smithy_serde.specs.Lawful.{max_nesting}
-use Rattle.smithy_serde.specs.Values.{structure, Write, Writes, writes_of}
-use Rattle.std.specs.Bool.{then_some}
-use Rattle.smithy_binding.specs.Answer.{place}
-use Rattle.smithy_binding.specs.Placing.{OmitFlags, Protocol}
-use Rattle.smithy_binding.specs.Rpc.{rpc_answer}
-use Rattle.smithy_recovery.specs.BodyParts.{held_writes}
-use Rattle.smithy_recovery.specs.Recovered.{Reading, recovered}
-use Rattle.smithy_recovery.specs.Shallow.{is_shallow_at}
+use Rattle.smithy_gateway.specs.Words.{option_map_or, result_ok, same_text, Request, Schema, max_nesting, structure, Write, Writes, writes_of, then_some, place, OmitFlags, Protocol, rpc_answer, held_writes, Reading, recovered, is_shallow_at}
 use Rattle.smithy_gateway.specs.Calls.{Calling}
 
 -- the request that posts an input whole, if it has no fault
@@ -44,13 +31,13 @@ posts_writes protocol ws q =
     && option_map_or (λ p. same_text p.body q.body) (result_ok (rpc_answer protocol ws [] keep_all)) false
 
 -- the normal form of what was read, where the request posts just that
-abbrev pub posted_form : Reading → OmitFlags → Calling → Request → List Write → Option (List Write)
-posted_form r omit calling q ws =
-    option_and_then (λ us. then_some (posts_writes calling.protocol (writes_of us) q) us) (normal_form r omit ws)
+abbrev pub posted_form : Reading → OmitFlags → Protocol → Request → List Write → Option (List Write)
+posted_form r omit protocol q ws =
+    option_and_then (λ us. then_some (posts_writes protocol (writes_of us) q) us) (normal_form r omit ws)
 
 -- The input that a request posts.
 unfoldable pub called : Reading → OmitFlags → Calling → Request → Option (List Write)
-called r omit calling q = option_and_then (posted_form r omit calling q) (read_call calling r.schema q)
+called r omit calling q = option_and_then (posted_form r omit calling.protocol q) (read_call calling r.schema q)
 
 -- To REST: that input, placed.
 unfoldable pub rest_of : Reading → OmitFlags → Calling → Request → Option Request

@@ -1,18 +1,6 @@
 -- What the gateway keeps.
-use Rattle.std.specs.Prelude.{◌≡◌, ◌↔◌, ℕ, List, Some, option_map, IsTrue}
-use Rattle.smithy_types.specs.Grammars.{is_legal_target}
-use Rattle.smithy_http.specs.Facts.{facts}
-use Rattle.smithy_http.specs.Requests.{Request}
-use Rattle.smithy_schema.specs.Nodes.{Schema}
-use Rattle.smithy_schema.specs.WellMade.{is_well_made}
-use Rattle.smithy_serde.specs.Values.{Write}
-use Rattle.smithy_binding.specs.Answer.{place}
-use Rattle.smithy_binding.specs.Checked.{checked_input}
-use Rattle.smithy_binding.specs.NormalForm.{view}
-use Rattle.smithy_binding.specs.Placing.{OmitFlags, endpoint_or_slash}
-use Rattle.smithy_binding.specs.Protocols.{Parts}
-use Rattle.smithy_binding.specs.Typed.{IsTyped, is_shallow}
-use Rattle.smithy_recovery.specs.Recovered.{Reading, reading_by, recovered}
+use Rattle.std.specs.Prelude.{◌≡◌, ◌↔◌, ℕ, List, Some, IsTrue}
+use Rattle.smithy_gateway.specs.Words.{is_legal_target, facts, Request, Schema, is_well_made, Write, checked_input, view, OmitFlags, endpoint_or_slash, Parts, is_shallow, Reading, reading_by, recovered, HasFactsOf}
 use Rattle.smithy_gateway.specs.Calls.{Texts, Holds, Calling, calling_by, call_document, IsPosted, IsCall}
 use Rattle.smithy_gateway.specs.Gateway.{rpc_of, called, rest_of}
 
@@ -21,13 +9,6 @@ abbrev pub CalledIsExact : Reading → Calling → Type 0
 CalledIsExact r calling =
     (omit : OmitFlags) (q : Request) (ws : List Write) → IsTrue (checked_input r.schema) → IsTrue (is_well_made r.schema) →
     (called r omit calling q ≡ Some ws) ↔ IsCall r.protocol r.schema r.endpoint omit calling.protocol.text_of q ws
-
--- a request has the facts of a typed input's
-pub record IsSent (r : Reading) (omit : OmitFlags) (v : List Write) (q : Request) : Type 0 where
-  pub checked : IsTrue (checked_input r.schema)
-  pub well_made : IsTrue (is_well_made r.schema)
-  pub typed : IsTyped r.protocol r.schema r.endpoint omit v
-  pub seen : option_map facts (place r.protocol r.schema v r.endpoint omit) ≡ Some (facts q)
 
 -- the request to RPC posts the normal form
 pub record HasRpc (r : Reading) (omit : OmitFlags) (calling : Calling) (rpc_endpoint : List ℕ) (rpc_omit : OmitFlags) (v : List Write) (q : Request) : Type 0 where
@@ -38,8 +19,9 @@ pub record HasRpc (r : Reading) (omit : OmitFlags) (calling : Calling) (rpc_endp
 -- Each request with the facts of a typed input's has a request to RPC, to each legal endpoint, which posts the normal form.
 abbrev pub PostsView : Reading → Calling → Type 0
 PostsView r calling =
-    (omit : OmitFlags) (v : List Write) (q : Request) (rpc_endpoint : List ℕ) (rpc_omit : OmitFlags) → IsSent r omit v q →
-    IsTrue (is_legal_target (endpoint_or_slash rpc_endpoint)) → HasRpc r omit calling rpc_endpoint rpc_omit v q
+    (omit : OmitFlags) (v : List Write) (q : Request) (rpc_endpoint : List ℕ) (rpc_omit : OmitFlags) → IsTrue (checked_input r.schema) →
+    IsTrue (is_well_made r.schema) → HasFactsOf r omit q v → IsTrue (is_legal_target (endpoint_or_slash rpc_endpoint)) →
+    HasRpc r omit calling rpc_endpoint rpc_omit v q
 
 -- the request to REST has the facts of the typed input's, and the normal form is recovered of it
 pub record HasRest (r : Reading) (omit : OmitFlags) (calling : Calling) (v : List Write) (p q : Request) : Type 0 where
@@ -52,8 +34,8 @@ pub record HasRest (r : Reading) (omit : OmitFlags) (calling : Calling) (v : Lis
 -- the first.
 abbrev pub PlacesView : Reading → Calling → Type 0
 PlacesView r calling =
-    (omit : OmitFlags) (v : List Write) (p q : Request) → IsSent r omit v q →
-    IsTrue (is_shallow (call_document (view r.schema v))) → IsPosted calling.protocol.text_of (view r.schema v) p →
+    (omit : OmitFlags) (v : List Write) (p q : Request) → IsTrue (checked_input r.schema) → IsTrue (is_well_made r.schema) →
+    HasFactsOf r omit q v → IsTrue (is_shallow (call_document (view r.schema v))) → IsPosted calling.protocol.text_of (view r.schema v) p →
     HasRest r omit calling v p q
 
 -- the same by the parts of two protocols, with the texts of their codecs and what the readers have at hand, for every schema

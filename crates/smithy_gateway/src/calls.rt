@@ -1,13 +1,7 @@
 // The input that a request posts whole.
 ghost use Rattle.std.specs.Prelude.{◌≡◌, codes};
-ghost use Rattle.smithy_types.specs.Texts.{same_text};
-ghost use Rattle.smithy_schema.specs.References.{schema_of};
-ghost use Rattle.smithy_serde.specs.Lawful.{max_nesting};
-ghost use Rattle.smithy_serde.specs.StructValues.{members_of};
-ghost use Rattle.smithy_serde.specs.Values.{structure};
-ghost use Rattle.smithy_binding.specs.Protocols.{protocol_of};
-ghost use Rattle.smithy_recovery.specs.Shallow.{is_shallow_at};
 ghost use Rattle.smithy_recovery.specs.views.Stages.{Tells};
+ghost use Rattle.smithy_gateway.specs.Words.{same_text, schema_of, max_nesting, members_of, structure, protocol_of, is_shallow_at};
 ghost use Rattle.smithy_gateway.specs.Gateway.{posts_writes};
 ghost use Rattle.smithy_gateway.specs.views.Sending.{IsSet, KeepsCall, FindsForm, FindsCall};
 
@@ -91,16 +85,9 @@ fn posted_form<'t, C: Codec, D: Codec>(
     requires lawful_rpc { D.lawful rpc.now.codec }
     ensures { FindsForm C.text C.holds D.text D.holds rest.now rpc.now at.entry read.now request.now result }
 {
-    let Setting {
-        table,
-        place,
-        node,
-        endpoint,
-        omit,
-    } = at;
-    let placed = placed(alloc, rest, node, read, endpoint, omit)?;
-    let input = recover_request(alloc, rest, &placed, table, place, endpoint, omit)?;
-    if !is_posted(alloc, rpc, node, &input, request)? {
+    let sent = placed(alloc, rest, at, read)?;
+    let input = recover_request(alloc, rest, &sent, at.table, at.place, at.endpoint, at.omit)?;
+    if !is_posted(alloc, rpc, at.node, &input, request)? {
         return Err(RecoverError::NotPlaced);
     }
     Ok(input)

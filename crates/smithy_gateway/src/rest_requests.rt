@@ -1,10 +1,9 @@
 // From RPC to REST.
-ghost use Rattle.smithy_serde.specs.StoredValues.{HasNode};
-ghost use Rattle.smithy_recovery.specs.Recovering.{IsCheckedAt};
+ghost use Rattle.smithy_gateway.specs.Words.{HasNode, IsCheckedAt};
 ghost use Rattle.smithy_gateway.specs.Answers.{IsRest, NoCall};
 
+use crate::GatewayError;
 use crate::calls::call_input;
-use crate::error::GatewayError;
 use crate::sending::placed;
 use crate::setting::Setting;
 use smithy_binding::{HttpBindingProtocol, HttpRpcProtocol};
@@ -51,5 +50,5 @@ pub fn to_rest<C: Codec, D: Codec>(
         omit,
     };
     let input = call_input(alloc, rest, rpc, at, request)?;
-    placed(alloc, rest, node, &input, endpoint, omit)
+    placed(alloc, rest, at, &input)
 }

@@ -1,12 +1,9 @@
 // From REST to RPC.
 ghost use Rattle.std.specs.Prelude.{◌≡◌, IsTrue, IfOk};
-ghost use Rattle.smithy_types.specs.Grammars.{is_legal_target};
-ghost use Rattle.smithy_serde.specs.StoredValues.{HasNode};
-ghost use Rattle.smithy_binding.specs.Placing.{endpoint_or_slash};
-ghost use Rattle.smithy_recovery.specs.Recovering.{IsCheckedAt};
+ghost use Rattle.smithy_gateway.specs.Words.{is_legal_target, HasNode, endpoint_or_slash, IsCheckedAt};
 ghost use Rattle.smithy_gateway.specs.Answers.{IsRpc, call_headers, NoInput};
 
-use crate::error::GatewayError;
+use crate::GatewayError;
 use crate::sending::posted;
 use smithy_binding::{HttpBindingProtocol, HttpRpcProtocol};
 use smithy_http::Request;

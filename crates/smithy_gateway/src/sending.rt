@@ -1,14 +1,11 @@
 // The request of an input, by either protocol.
 ghost use Rattle.std.specs.Prelude.{IsTrue, Result};
-ghost use Rattle.std.specs.Result.{result_ok};
-ghost use Rattle.smithy_http.specs.Requests.{Request as Sent};
-ghost use Rattle.smithy_schema.specs.References.{schema_of};
-ghost use Rattle.smithy_binding.specs.Checked.{checked_input};
 ghost use Rattle.smithy_binding.specs.Faults.{Fault};
 ghost use Rattle.smithy_binding.specs.Refusing.{Answers};
-ghost use Rattle.smithy_recovery.specs.Finding.{Finds};
+ghost use Rattle.smithy_gateway.specs.Words.{result_ok, Request as Sent, schema_of, checked_input, Finds};
 ghost use Rattle.smithy_gateway.specs.views.Sending.{Places, Posts};
 
+use crate::setting::Setting;
 use smithy_binding::{HttpBindingProtocol, HttpRpcProtocol};
 use smithy_http::Request;
 use smithy_recovery::RecoverError;
@@ -26,20 +23,18 @@ fn found(outcome: Result<Request, SerdeError>) -> Result<Request, RecoverError>
     }
 }
 
-/// The request of an input, placed by its schema. `NotPlaced` where it has none. Takes memory.
+/// The request of an input, placed by what is set. `NotPlaced` where it has none. Takes memory.
 pub fn placed<C: Codec>(
     alloc: Global,
     rest: &HttpBindingProtocol<C>,
-    schema: SchemaRef<'_>,
+    at: Setting<'_, '_>,
     input: &StructValue<'_>,
-    endpoint: &str,
-    omit: OmitFlags,
 ) -> Result<Request, RecoverError>
-    requires checked { IsTrue (checked_input (schema_of schema)) }
+    requires checked { IsTrue (checked_input (schema_of at.node)) }
     requires lawful { C.lawful rest.now.codec }
-    ensures { Places C.text rest.now schema.entry input.now endpoint.now omit result }
+    ensures { Places C.text rest.now at.entry input.now result }
 {
-    found(rest.serialize_request(alloc, input, schema, endpoint, omit))
+    found(rest.serialize_request(alloc, input, at.node, at.endpoint, at.omit))
 }
 
 /// The request that posts an input whole. `NotPlaced` where it has none. Takes memory.

@@ -1,5 +1,5 @@
 -- Texts that are cut at the first `&`, `?` or `=`.
-use Rattle.std.proofs.Common.{◌≡◌, refl, ap, sym, ◌∙◌, drop, ℕ, ◌+◌, ◌<◌, suc, arith, Bool, true, false, not, cond, ◌==◌, ◌||◌, List, [], ◌∷◌, ◌++◌, length, Option, Some, None, option_map, MatchOption, lit<}
+use Rattle.std.proofs.Common.{◌≡◌, refl, ap, sym, ◌∙◌, drop, ℕ, ◌+◌, ◌<◌, suc, arith, Bool, true, false, not, cond, ◌==◌, ◌||◌, List, [], ◌∷◌, length, Option, Some, None, option_map, MatchOption, lit<}
 use Rattle.std.specs.Borrow.{Bor}
 use Rattle.std.specs.List.{slice_split, onto_first, position_or_len, before_first, after_first}
 use Rattle.std.proofs.lemmas.List.Splits.{slice_split_first}

@@ -45,3 +45,4 @@ pub mod InRange
 pub mod Nested
 pub mod Shaping
 pub mod Knowing
+pub mod WholeDocument

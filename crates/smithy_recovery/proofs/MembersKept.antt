@@ -56,7 +56,7 @@ text_map_nodes m e =
     let b = and_parts (same_kind m.node.kind kind.Map) (is_plain_string (key_of m)) a.0 in
     and_from _ _ (plain_node (key_of m) b.1) (plain_node (value_of m) a.1)
 
-query_map_nodes : (m : Schema) → is_query_map m ≡ true → has_entry_nodes m ≡ true
+pub query_map_nodes : (m : Schema) → is_query_map m ≡ true → has_entry_nodes m ≡ true
 query_map_nodes m e =
     let a = and_parts _ (is_plain_string (value_of m) || is_plain_list (value_of m)) e in
     let b = and_parts (same_kind m.node.kind kind.Map) (is_plain_string (key_of m)) a.0 in

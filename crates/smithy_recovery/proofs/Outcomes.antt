@@ -43,34 +43,19 @@ not_placed (serde_error.BlobDecodeFailed text) a told = absurd told
 not_placed (serde_error.TimestampParseFailed text) a told = absurd told
 
 -- an input that has no request has none with the same facts
-none_same : (e : RecoverError) (o : Option Request) (q : Request) → Finds {A = Request} (λ x. x) (Err e) o → Tells (option_map_or (λ p. has_same_facts p q) o false) (Err e)
-none_same NotPlaced o q told = ap (λ p. option_map_or (λ x. has_same_facts x q) p false) told
-none_same OutOfMemory o q told = tt
-
 pub not_same : (e : RecoverError) (o : Option Request) (q : Request) (r : Result Bool RecoverError) → r ≡ Err e → Finds {A = Request} (λ x. x) (Err e) o → Tells (option_map_or (λ p. has_same_facts p q) o false) r
-not_same e o q r is told = rw is (none_same e o q told)
+not_same NotPlaced o q r is told = rw is (ap (λ p. option_map_or (λ x. has_same_facts x q) p false) told)
+not_same OutOfMemory o q r is told = rw is tt
 
 -- where nothing is read, nothing is recovered
-none_of_read : (r : Reading) (omit : OmitFlags) (q : Request) (e : RecoverError) → ReadsTold r q (Err e) → Finds {A = StructValue} (λ v. list_of (members_of v)) (Err e) (recovered r omit q)
-none_of_read r omit q NotPlaced told = none_read r omit q told
-none_of_read r omit q OutOfMemory told = tt
-
 pub not_read : (r : Reading) (omit : OmitFlags) (q : Request) (e : RecoverError) (result : Result StructValue RecoverError) → result ≡ Err e → ReadsTold r q (Err e) → Finds (λ v. list_of (members_of v)) result (recovered r omit q)
-not_read r omit q e result is told = rw is (none_of_read r omit q e told)
+not_read r omit q NotPlaced result is told = rw is (none_read r omit q told)
+not_read r omit q OutOfMemory result is told = rw is tt
 
 -- what code read is what is read, where that is told, as writes that stand over the table
 pub read_over : (r : Reading) (q : Request) (t : Table) (place : ℕ) (ws : WriteList) (us : Writes) → at_place t place ≡ Some r.schema → us ≡ writes_in t ws → ReadsTold r q (Ok ws) → IsTrue (is_body_told r q)
     → read_writes r q ≡ Some (list_of us)
 read_over r q t place ws us at is reads told = (reads told).writes ∙ ap (λ x. Some (list_of (writes_in x ws))) (at_place_table t place r.schema at) ∙ ap (λ w. Some (list_of w)) (sym is)
-
--- where the test of an input refuses, its refusal is the whole's
-none_of_test : (r : Reading) (omit : OmitFlags) (q : Request) (test : Bool) (e : RecoverError) → (test ≡ false → recovered r omit q ≡ None) → Tells test (Err e) → Finds {A = StructValue} (λ v. list_of (members_of v)) (Err e) (recovered r omit q)
-none_of_test r omit q test NotPlaced none told = none told
-none_of_test r omit q test OutOfMemory none told = tt
-
-pub not_tested : (r : Reading) (omit : OmitFlags) (q : Request) (test : Bool) (e : RecoverError) (result : Result StructValue RecoverError) → result ≡ Err e → (test ≡ false → recovered r omit q ≡ None) → Tells test (Err e)
-    → Finds (λ v. list_of (members_of v)) result (recovered r omit q)
-not_tested r omit q test e result is none told = rw is (none_of_test r omit q test e none told)
 
 -- By the laws.
 
@@ -87,6 +72,6 @@ pub lacks : (r : Reading) (omit : OmitFlags) (q : Request) (ws : List Write) →
 lacks r omit q ws exact decide settles typed sound none has =
     let both : None ≡ Some (view r.schema ws) = sym none ∙ view_recovered r omit q ws exact decide settles typed sound has in cc both
 
--- what was refused is recovered of nothing
-pub none_at : (r : Reading) (omit : OmitFlags) (q : Request) (result : Result StructValue RecoverError) → Finds (λ v. list_of (members_of v)) result (recovered r omit q) → result ≡ Err NotPlaced → recovered r omit q ≡ None
-none_at r omit q result told refused = subst (λ x. Finds {A = StructValue} (λ v. list_of (members_of v)) x (recovered r omit q)) refused told
+-- what was refused is nothing
+pub none_at : {A B : Type 0} (show : A → B) (result : Result A RecoverError) (due : Option B) → Finds show result due → result ≡ Err NotPlaced → due ≡ None
+none_at show result due told refused = subst (λ x. Finds show x due) refused told

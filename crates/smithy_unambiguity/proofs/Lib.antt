@@ -51,7 +51,7 @@ mod ViewSeen
 mod ViewTarget
 mod ViewTold
 pub mod ViewTyped
-mod ViewValues
+pub mod ViewValues
 pub mod ViewWrites
 pub mod Viewed
 mod ViewedMaps

@@ -1,26 +1,8 @@
 -- What the parts of the gateway answer.
 use Rattle.std.specs.Prelude.{◌≡◌, ℕ, List, Some, Result, IsTrue}
-use Rattle.std.specs.Result.{result_ok}
-use Rattle.smithy_http.specs.Requests.{Request}
-use Rattle.smithy_schema.specs.Nodes.{Table, at_place}
-use Rattle.smithy_schema.specs.References.{schema_of}
-use Rattle.smithy_schema.specs.WellMade.{is_well_made}
-use Rattle.smithy_serde.specs.StoredValues.{HasNode}
-use Rattle.smithy_serde.specs.StructValues.{members_of}
-use Rattle.smithy_serde.specs.Values.{list_of}
 use Rattle.smithy_serde.specs.declared.struct_value.StructValue.{StructValue}
-use Rattle.smithy_binding.specs.Answer.{place}
-use Rattle.smithy_binding.specs.Checked.{checked_input}
-use Rattle.smithy_binding.specs.Placing.{OmitFlags}
-use Rattle.smithy_binding.specs.Protocols.{Parts, protocol_of}
-use Rattle.smithy_binding.specs.Rpc.{rpc_answer}
-use Rattle.smithy_recovery.specs.Finding.{Finds}
-use Rattle.smithy_recovery.specs.Recovered.{Reading, reading_by}
-use Rattle.smithy_recovery.specs.views.Keeping.{KeepsMembers}
-use Rattle.smithy_recovery.specs.BodyParts.{held_writes}
 use Rattle.smithy_schema.specs.declared.schema_ref.SchemaRef.{SchemaRef}
-use Rattle.smithy_serde.specs.declared.value.WriteList.{WriteList}
-use Rattle.smithy_recovery.specs.declared.error.RecoverError.{RecoverError}
+use Rattle.smithy_gateway.specs.Words.{result_ok, Request, Table, at_place, schema_of, is_well_made, HasNode, members_of, list_of, place, checked_input, OmitFlags, Parts, protocol_of, rpc_answer, Finds, Reading, reading_by, KeepsMembers, held_writes, WriteList, RecoverError}
 use Rattle.smithy_gateway.specs.Calls.{Texts, Holds, calling_by}
 use Rattle.smithy_gateway.specs.Gateway.{posted_form, called}
 use Rattle.smithy_gateway.specs.declared.setting.Setting.{Setting}
@@ -41,9 +23,9 @@ abbrev pub KeepsCall : {D : Type 0} → Holds D → Parts D → Table → Schema
 KeepsCall holds rpc t schema q result = KeepsMembers t (holds rpc.codec q.body) (held_writes (schema_of schema)) result
 
 -- an outcome of code is the request of an input, if it has one
-abbrev pub Places : {C : Type 0} → Texts C → Parts C → SchemaRef → StructValue → List ℕ → OmitFlags → Result Request RecoverError → Type 0
-Places text p schema v endpoint omit result =
-    Finds (λ x. x) result (place (protocol_of text p) (schema_of schema) (list_of (members_of v)) endpoint omit)
+abbrev pub Places : {C : Type 0} → Texts C → Parts C → Setting → StructValue → Result Request RecoverError → Type 0
+Places text p at v result =
+    Finds (λ x. x) result (place (protocol_of text p) (schema_of at.node) (list_of (members_of v)) at.endpoint.now at.omit)
 
 -- an outcome of code is the request that posts an input whole, if it has one
 abbrev pub Posts : {D : Type 0} → Texts D → Parts D → StructValue → List ℕ → OmitFlags → Result Request RecoverError → Type 0
@@ -57,4 +39,4 @@ FindsCall text holds call_text call_holds p rpc at q result =
 -- an outcome of code is the normal form of what was read, where the request posts just that
 abbrev pub FindsForm : {C D : Type 0} → Texts C → Holds C → Texts D → Holds D → Parts C → Parts D → Setting → StructValue → Request → Result StructValue RecoverError → Type 0
 FindsForm text holds call_text call_holds p rpc at read q result =
-    Finds (λ v. list_of (members_of v)) result (posted_form (reading_at text holds p at) at.omit (calling_by call_text call_holds rpc) q (list_of (members_of read)))
+    Finds (λ v. list_of (members_of v)) result (posted_form (reading_at text holds p at) at.omit (protocol_of call_text rpc) q (list_of (members_of read)))

@@ -1,10 +1,11 @@
-use Rattle.smithy_gateway.proofs.Common.{rules, true, false, sym, ◌∙◌, ap, option_and_then, list_of, held_writes, Reading, IsSoundReading, subst, Finds}
-use Rattle.smithy_serde.specs.StructValues.{members_of}
+use Rattle.std.proofs.Common.{rules, true, false, sym, subst, ◌∙◌, ap, option_and_then}
+use Rattle.smithy_gateway.specs.Words.{members_of, list_of, held_writes, Reading, Finds}
 use Rattle.smithy_gateway.specs.Calls.{Calling, calling_by}
 use Rattle.smithy_gateway.specs.Gateway.{posted_form}
 use Rattle.smithy_gateway.specs.views.Sending.{reading_at}
-use Rattle.smithy_gateway.proofs.CallSteps.{called_as, called_by, refused_read, read_some}
+use Rattle.smithy_gateway.proofs.CallExact.{called_as, called_by, refused_read, read_some}
 use Rattle.smithy_gateway.proofs.calls.call_input.Goals as goal
+use Rattle.smithy_recovery.proofs.Decided.{IsSoundReading}
 
 pub returns-then-not-is_post : goal.returns-then-not-is_post
 returns-then-not-is_post g c = called_as _ _ _ _ false (sym c.is_post.ensures ∙ c.if-not-is_post.true)
@@ -15,7 +16,7 @@ returns-in_err-writes g c =
     let calling : Calling = calling_by g.D.Codec.text g.D.Codec.holds c.args.rpc.now in
     let q = c.args.request.now in
     refused_read (λ v. list_of (members_of v)) c.args.at.table.now (calling.holds q.body) (held_writes r.schema) c.in_err-writes.field-0.0 _ c.from_residual.result (search rules) c.in_err-writes.ensures
-    (λ none. called_as r c.args.at.omit calling q true (sym c.is_post.ensures ∙ c.if-not-is_post.false) ∙ ap (option_and_then (posted_form r c.args.at.omit calling q)) none)
+    (λ none. called_as r c.args.at.omit calling q true (sym c.is_post.ensures ∙ c.if-not-is_post.false) ∙ ap (option_and_then (posted_form r c.args.at.omit calling.protocol q)) none)
 
 pub returns : goal.returns
 returns g c =

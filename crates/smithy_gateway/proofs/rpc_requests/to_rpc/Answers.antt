@@ -1,8 +1,9 @@
-use Rattle.smithy_gateway.proofs.Common.{sym, schema_of, Reading, reading_by, IsSoundReading}
-use Rattle.smithy_serde.specs.StructValues.{members_of}
+use Rattle.std.proofs.Common.{sym}
+use Rattle.smithy_gateway.specs.Words.{schema_of, members_of, Reading, reading_by}
 use Rattle.smithy_gateway.specs.Calls.{calling_by}
 use Rattle.smithy_gateway.proofs.Sent.{posted_after, rpc_answered}
 use Rattle.smithy_gateway.proofs.rpc_requests.to_rpc.Goals as goal
+use Rattle.smithy_recovery.proofs.Decided.{IsSoundReading}
 
 pub returns : goal.returns
 returns g c =

@@ -1,4 +1,6 @@
-use Rattle.smithy_gateway.proofs.Common.{ap, result_ok, not_placed}
+use Rattle.std.proofs.Common.{ap}
+use Rattle.std.specs.Result.{result_ok}
+use Rattle.smithy_recovery.proofs.Outcomes.{not_placed}
 use Rattle.smithy_gateway.proofs.sending.found.Goals as goal
 
 pub returns-in-Ok : goal.returns-in-Ok

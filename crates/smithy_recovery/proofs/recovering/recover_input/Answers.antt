@@ -3,10 +3,11 @@ use Rattle.smithy_schema.specs.References.{schema_of}
 use Rattle.smithy_serde.specs.StoredValues.{writes_in}
 use Rattle.smithy_serde.specs.StructValues.{members_of}
 use Rattle.smithy_serde.specs.Values.{list_of}
-use Rattle.smithy_recovery.specs.Recovered.{Reading, reading_by, is_placed_so}
+use Rattle.smithy_recovery.specs.Recovered.{Reading, reading_by, is_placed_so, recovered}
 use Rattle.smithy_recovery.specs.views.Stages.{are_typed}
 use Rattle.smithy_recovery.proofs.Decided.{IsSoundReading, input_recovered, none_typed, none_placed}
-use Rattle.smithy_recovery.proofs.Outcomes.{not_read, not_tested, read_over}
+use Rattle.smithy_recovery.proofs.Outcomes.{not_read, read_over}
+use Rattle.smithy_recovery.proofs.Refused.{test_refused}
 use Rattle.smithy_recovery.proofs.recovering.recover_input.Goals as goal
 
 pub returns-in_err-writes-clause-value : goal.returns-in_err-writes-clause-value
@@ -27,7 +28,7 @@ returns-in_err-is_placed_so-clause-value g c =
     let r : Reading = reading_by g.C.Codec.text g.C.Codec.holds c.args.protocol.now (schema_of c.args.setting.schema) c.args.setting.endpoint.now in
     let us = members_of c.with_writes-input.result in
     let read = read_over r c.args.request.now c.args.setting.table.now c.args.setting.place.0 c.in_ok-writes.writes us c.requires.node c.with_writes-input.ensures.members c.in_ok-writes.ensures.told in
-    not_tested r c.args.setting.omit c.args.request.now (is_placed_so r c.args.setting.omit c.args.request.now (list_of us)) c.in_err-is_placed_so.field-0.0 c.from_residual-in_err-is_placed_so.result (search rules)
+    test_refused (λ v. list_of (members_of v)) (is_placed_so r c.args.setting.omit c.args.request.now (list_of us)) (recovered r c.args.setting.omit c.args.request.now) c.in_err-is_placed_so.field-0.0 c.from_residual-in_err-is_placed_so.result (search rules)
     (none_placed r c.args.setting.omit c.args.request.now (list_of us) read) c.in_err-is_placed_so.ensures
 
 pub returns-then-not-branch-2-clause-value : goal.returns-then-not-branch-2-clause-value
