@@ -12,7 +12,9 @@ use serde_json::Value;
 use smithy_json::JsonError;
 use smithy_schema::SchemaRef;
 use smithy_types::Text;
-use smithy_wire::{JsonNames, Side, WireJson, WireStyle, json_in, json_name, names_stand};
+use smithy_wire::{
+    JsonNames, Side, WireJson, WireStyle, json_in, json_name, names_stand, whole_names_stand,
+};
 use std::alloc::Global;
 use test_rows::{Failed, flag_of, text_of};
 
@@ -20,6 +22,7 @@ use test_rows::{Failed, flag_of, text_of};
 pub fn answer(alloc: Global, call: &str, given: &Value) -> Result<Option<Text>, Failed> {
     match call {
         "names_stand" => by_schema(alloc, call, given),
+        "whole_names_stand" => by_schema(alloc, call, given),
         "json_name" => by_schema(alloc, call, given),
         "WireJson::text" => by_schema(alloc, call, given),
         "WireJson::document" => by_schema(alloc, call, given),
@@ -32,7 +35,8 @@ fn by_schema(alloc: Global, call: &str, given: &Value) -> Result<Option<Text>, F
     let placed = input_schema(alloc, given)?;
     let schema = placed.table.get(placed.index).ok_or(Failed)?;
     let told = match call {
-        "names_stand" => stand_told(alloc, schema)?,
+        "names_stand" => stand_told(alloc, names_stand(alloc, schema, side_of(given))?)?,
+        "whole_names_stand" => stand_told(alloc, whole_names_stand(alloc, schema)?)?,
         "json_name" => name_told(alloc, schema, given)?,
         "WireJson::text" => text_told(alloc, schema, given)?,
         _ => document_told(alloc, schema, given)?,
@@ -40,8 +44,16 @@ fn by_schema(alloc: Global, call: &str, given: &Value) -> Result<Option<Text>, F
     Ok(Some(told))
 }
 
-fn stand_told(alloc: Global, schema: SchemaRef<'_>) -> Result<Text, Failed> {
-    let stand = names_stand(alloc, schema)?;
+// The message that the row's schema is of: a request where it says nothing.
+fn side_of(given: &Value) -> Side {
+    if flag_of(given, "output") {
+        Side::Response
+    } else {
+        Side::Request
+    }
+}
+
+fn stand_told(alloc: Global, stand: bool) -> Result<Text, Failed> {
     Ok(Text::from_string(format!(in alloc; "{stand}")?))
 }
 
@@ -62,6 +74,77 @@ pub fn json_names<'t>(alloc: Global, schema: SchemaRef<'t>) -> Result<JsonNames<
     }
 }
 
+// How the row's JSON differs: without JSON names where it says so, and with fractions of seconds dropped where it says so.
+fn style_of(given: &Value) -> WireStyle {
+    WireStyle {
+        json_names: !flag_of(given, "without_names"),
+        floors_times: flag_of(given, "floors"),
+    }
+}
+
+// The JSON of a request's body.
+fn input_wire<'t>(
+    alloc: Global,
+    schema: SchemaRef<'t>,
+    names: &'t JsonNames<'t>,
+    given: &Value,
+) -> Result<WireJson<'t>, Failed>
+    requires { table_in names.now ≡ (schema_of schema).table }
+{
+    let style = style_of(given);
+    if !names_stand(alloc, schema, Side::Request)? {
+        return Err(Failed);
+    }
+    if flag_of(given, "by_names") {
+        return Ok(WireJson::of_body(Side::Request, schema, style, Some(names)));
+    }
+    if style.floors_times {
+        return Ok(WireJson::of_body(Side::Request, schema, style, None));
+    }
+    Ok(WireJson::of_input(schema, style.json_names))
+}
+
+// That of a response's.
+fn output_wire<'t>(
+    alloc: Global,
+    schema: SchemaRef<'t>,
+    names: &'t JsonNames<'t>,
+    given: &Value,
+) -> Result<WireJson<'t>, Failed>
+    requires { table_in names.now ≡ (schema_of schema).table }
+{
+    let style = style_of(given);
+    if !names_stand(alloc, schema, Side::Response)? {
+        return Err(Failed);
+    }
+    if flag_of(given, "by_names") {
+        return Ok(WireJson::of_body(Side::Response, schema, style, Some(names)));
+    }
+    Ok(WireJson::of_output(schema, style.json_names))
+}
+
+// That of the whole value.
+fn whole_wire<'t>(
+    alloc: Global,
+    schema: SchemaRef<'t>,
+    names: &'t JsonNames<'t>,
+    given: &Value,
+) -> Result<WireJson<'t>, Failed>
+    requires { table_in names.now ≡ (schema_of schema).table }
+{
+    let style = style_of(given);
+    if !whole_names_stand(alloc, schema)? {
+        return Err(Failed);
+    }
+    if flag_of(given, "by_names") {
+        return Ok(WireJson::of_node(schema, style, Some(names)));
+    }
+    if style.floors_times {
+        return Ok(WireJson::of_node(schema, style, None));
+    }
+    Ok(WireJson::of_whole(schema, style.json_names))
+}
+
 /// The JSON of the input's side, of the output's or of the whole value, without JSON names where the row says so, by these names
 /// where it says that fields are found by them, and with fractions of seconds dropped where it says so.
 pub fn wire_of<'t>(
@@ -72,28 +155,11 @@ pub fn wire_of<'t>(
 ) -> Result<WireJson<'t>, Failed>
     requires { table_in names.now ≡ (schema_of schema).table }
 {
-    let style = WireStyle {
-        json_names: !flag_of(given, "without_names"),
-        floors_times: flag_of(given, "floors"),
-    };
-    if !names_stand(alloc, schema)? {
-        return Err(Failed);
+    match text_of(given, "body")? {
+        "input" => input_wire(alloc, schema, names, given),
+        "output" => output_wire(alloc, schema, names, given),
+        _ => whole_wire(alloc, schema, names, given),
     }
-    if flag_of(given, "by_names") {
-        return Ok(match text_of(given, "body")? {
-            "input" => WireJson::of_body(Side::Request, schema, style, Some(names)),
-            "output" => WireJson::of_body(Side::Response, schema, style, Some(names)),
-            _ => WireJson::of_node(schema, style, Some(names)),
-        });
-    }
-    if style.floors_times {
-        return Ok(WireJson::of_node(schema, style, None));
-    }
-    Ok(match text_of(given, "body")? {
-        "input" => WireJson::of_input(schema, style.json_names),
-        "output" => WireJson::of_output(schema, style.json_names),
-        _ => WireJson::of_whole(schema, style.json_names),
-    })
 }
 
 fn text_told(alloc: Global, schema: SchemaRef<'_>, given: &Value) -> Result<Text, Failed> {

@@ -20,9 +20,9 @@ pub record Shape : Type 0 where
   pub schema : Schema
   pub is_error : Bool
 
--- responses can be read by it: its bindings are sound, and no name of its table is that of two members
+-- responses can be read by it: its bindings are sound, and names stand
 abbrev pub takes_responses : Schema → Bool
-takes_responses n = checked_output n && stands n
+takes_responses n = checked_output n && stands side.Response n
 
 abbrev pub taken : Bool → Schema → Option Shape
 taken is_error n = if takes_responses n then Some (record { schema = n; is_error = is_error }) else None

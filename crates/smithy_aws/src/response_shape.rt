@@ -10,7 +10,7 @@ use smithy_response::response_value;
 use smithy_schema::{SchemaIndex, SchemaRef, Schemas};
 use smithy_serde::{Codec, SerdeError, StructValue};
 use smithy_types::OutOfMemory;
-use smithy_wire::{WireJson, names_stand};
+use smithy_wire::{Side, WireJson, names_stand};
 use std::alloc::Global;
 
 /// A shape that responses of AWS restJson1 are read by: an output, or a modelled error.
@@ -34,7 +34,7 @@ impl<'t> RestJson1Shape<'t> {
     ghost use Rattle.smithy_aws.specs.ResponseValues.{rest_json1_value};
 
     /// The shape at a place of a table, as an output or as a modelled error; None exactly where no response can be read by it
-    /// (`checked_output`), or where a name of its table is that of two members (`names_stand`). Condition: the node is defined.
+    /// (`checked_output`), or where names don't stand in it (`names_stand`). Condition: the node is defined.
     /// Takes memory for these tests alone.
     pub fn new(
         alloc: Global,
@@ -98,9 +98,9 @@ impl<'t> RestJson1Shape<'t> {
     }
 }
 
-// Whether the bindings of the schema are sound, and no name of its table is that of two members.
+// Whether the bindings of the schema are sound, and names stand in responses by it.
 fn takes_responses(alloc: Global, schema: SchemaRef<'_>) -> Result<bool, OutOfMemory>
     ensures { IfOk result (λ b. b ≡ takes_responses (schema_of schema.entry)) }
 {
-    Ok(checked_output(alloc, schema)? && names_stand(alloc, schema)?)
+    Ok(checked_output(alloc, schema)? && names_stand(alloc, schema, Side::Response)?)
 }

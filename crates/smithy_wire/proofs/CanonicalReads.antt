@@ -1,5 +1,5 @@
 -- What is read of a body is canonical: a number that is given as negative is negative.
-use Rattle.smithy_wire.proofs.Common.{◌≡◌, refl, subst, ℕ, suc, ◌==◌, pos, negsuc, ℤ, Bool, true, false, if◌then◌else◌, List, [], ◌∷◌, length, Option, Some, None, option_map, option_and_then, ok_or, Result, Ok, Err}
+use Rattle.smithy_wire.proofs.Common.{◌≡◌, refl, subst, ℕ, suc, ◌==◌, ◌&&◌, pos, negsuc, ℤ, Bool, true, false, if◌then◌else◌, List, [], ◌∷◌, length, Option, Some, None, option_map, option_and_then, ok_or, Result, Ok, Err}
 use Rattle.std.specs.List.{AllByRecursion}
 use Rattle.std.specs.Option.{option_map_or, option_or}
 use Rattle.std.specs.Prelude.{IfSome, IfOk}
@@ -10,10 +10,11 @@ use Rattle.json.specs.Json.{Json}
 use Rattle.serde_json.specs.Data as parsed
 use Rattle.serde_json.specs.Data.{Num}
 use Rattle.serde_json.specs.Read as core
+use Rattle.smithy_ids.specs.Kinds.{same_kind}
+use Rattle.smithy_ids.specs.declared.shape_type.ShapeType.TheVariants as kind
 use Rattle.smithy_json.specs.FromData.{number_of_data}
 use Rattle.smithy_json.proofs.OptionLemmas.{mapped}
 use Rattle.smithy_document.proofs.ShapedCanonical.{number_canonical, put_canonical}
-use Rattle.smithy_serde.specs.DocumentReads.{number_text}
 use Rattle.smithy_serde.specs.Held as held
 use Rattle.smithy_serde.specs.Held.{Held}
 use Rattle.smithy_serde.specs.Ranges.{is_number_in_range}
@@ -22,9 +23,9 @@ use Rattle.smithy_types.specs.Documents.{Document, Number, Members, is_canonical
 use Rattle.smithy_types.specs.Results.{then_give, then_try}
 use Rattle.smithy_types.specs.declared.date_time.Format.{Format}
 use Rattle.smithy_types.specs.declared.date_time.Format.TheVariants.{DateTime, HttpDate}
-use Rattle.smithy_wire.specs.ExactNumbers.{plain_number, exact_number, if_in_range, is_below_zero, is_integer, is_whole, parts_of, whole_number, decimal_number}
+use Rattle.smithy_wire.specs.ExactNumbers.{plain_number, exact_number, if_in_range, is_below_zero, is_integer, is_whole, parts_of, whole_number, floor_in, integer_number, size_below, whole_decimal, decimal_number}
 use Rattle.smithy_wire.specs.Forms.{Form, free, fields, items, entries, date_time, http_date, big_integer, big_decimal, whole, document, other, element_form, part_form, name_in}
-use Rattle.smithy_wire.specs.Unwire.{item_step, part_step, within, number_read, time_read, string_read, unread, unwire, unwire_items, unwire_pairs}
+use Rattle.smithy_wire.specs.Unwire.{item_step, part_step, within, integer_read, number_read, time_read, string_read, unread, unwire, unwire_items, unwire_pairs}
 use Rattle.smithy_wire.specs.WireText.{held_in, held_of, json_in, wire_held}
 use Rattle.smithy_wire.specs.WireTimes.{before_blank, spelled}
 use Rattle.smithy_wire.specs.declared.unread.Unread.{Unread}
@@ -78,6 +79,12 @@ either P (Some x) p h j = h
 whole_canonical : (text : List ℕ) → IfSome (whole_number text) IsCanonicalNumber
 whole_canonical text = either IsCanonicalNumber (plain_number text) (exact_number text) (plain_canonical text) (exact_canonical text)
 
+integer_canonical : (floors : Bool) (text : List ℕ) → IfSome (integer_number floors text) IsCanonicalNumber
+integer_canonical false text = whole_canonical text
+integer_canonical true text =
+    either IsCanonicalNumber (whole_number text) (floor_in (is_below_zero text) (parts_of text)) (whole_canonical text)
+    (ranged_canonical (with_sign (is_below_zero text) (if is_below_zero text then size_below (parts_of text) else whole_of (parts_of text))))
+
 decimal_canonical : (text : List ℕ) → IfSome (decimal_number text) IsCanonicalNumber
 decimal_canonical text = if_some IsCanonicalNumber (is_integer text) (plain_number text) (plain_canonical text)
 
@@ -90,26 +97,29 @@ number_or : (o : Option Number) (d : Document) → IfSome o IsCanonicalNumber �
 number_or None d h j = j
 number_or (Some n) d h j = h
 
-some_text : {A : Type 0} (f : A → List ℕ) (o : Option A) → IfSome (option_map (λ x. doc.string (f x)) o) IsCanonical
-some_text f None = tt
-some_text f (Some x) = refl
+some_string : (o : Option (List ℕ)) → IfSome (option_map doc.string o) IsCanonical
+some_string None = tt
+some_string (Some t) = refl
 
 either_text : (b : Bool) (s : List ℕ) (o : Option Document) → IfSome o IsCanonical → IfSome (if b then Some (doc.string s) else o) IsCanonical
 either_text true s o h = refl
 either_text false s o h = h
 
-number_canonically : (f : Form) (s : List ℕ) → IfSome (number_read f s) IsCanonical
-number_canonically free s = number_or (plain_number s) doc.null (plain_canonical s) refl
-number_canonically date_time s = number_document (whole_number s) (whole_canonical s)
-number_canonically http_date s = number_document (whole_number s) (whole_canonical s)
-number_canonically (whole k) s = number_document (whole_number s) (whole_canonical s)
-number_canonically big_integer s = either_text (is_integer s) s (option_map (λ n. doc.string (number_text n)) (whole_number s)) (some_text number_text (whole_number s))
-number_canonically big_decimal s = refl
-number_canonically (fields side n) s = number_document (plain_number s) (plain_canonical s)
-number_canonically (items element) s = number_document (plain_number s) (plain_canonical s)
-number_canonically (entries value) s = number_document (plain_number s) (plain_canonical s)
-number_canonically document s = number_document (plain_number s) (plain_canonical s)
-number_canonically (other k) s = number_document (plain_number s) (plain_canonical s)
+integer_document : (floors : Bool) (s : List ℕ) → IfSome (integer_read floors s) IsCanonical
+integer_document floors s = number_document (integer_number floors s) (integer_canonical floors s)
+
+number_canonically : (floors : Bool) (f : Form) (s : List ℕ) → IfSome (number_read floors f s) IsCanonical
+number_canonically floors free s = number_or (plain_number s) doc.null (plain_canonical s) refl
+number_canonically floors date_time s = integer_document floors s
+number_canonically floors http_date s = integer_document floors s
+number_canonically floors (whole k) s = integer_document (floors && same_kind k kind.Timestamp) s
+number_canonically floors big_integer s = either_text (is_integer s) s (option_map doc.string (whole_decimal s)) (some_string (whole_decimal s))
+number_canonically floors big_decimal s = refl
+number_canonically floors (fields side n) s = number_document (plain_number s) (plain_canonical s)
+number_canonically floors (items element) s = number_document (plain_number s) (plain_canonical s)
+number_canonically floors (entries value) s = number_document (plain_number s) (plain_canonical s)
+number_canonically floors document s = number_document (plain_number s) (plain_canonical s)
+number_canonically floors (other k) s = number_document (plain_number s) (plain_canonical s)
 
 time_canonical : (floors : Bool) (format : Format) (s : List ℕ) → IfSome (time_read floors format s) IsCanonical
 time_canonical floors format s = go (before_blank s)
@@ -161,7 +171,7 @@ mutual
   value_canonical : (style : WireStyle) (f : Form) (j : Json) → IfOk (unwire style f j) IsCanonical
   value_canonical style f json.null = refl
   value_canonical style f (json.boolean b) = refl
-  value_canonical style f (json.number s) = told_or IsCanonical (number_read f s) (unread s f) (number_canonically f s)
+  value_canonical style f (json.number s) = told_or IsCanonical (number_read style.floors_times f s) (unread s f) (number_canonically style.floors_times f s)
   value_canonical style f (json.string s) = told_or IsCanonical (string_read style.floors_times f s) (unread s f) (string_canonical style.floors_times f s)
   value_canonical style f (json.array js) = gives AreItemsCanonical IsCanonical doc.array (λ ds h. h) (unwire_items style (element_form f) 0 js) (items_canonical style (element_form f) 0 js)
   value_canonical style f (json.object ms) =

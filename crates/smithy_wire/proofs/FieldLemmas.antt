@@ -1,39 +1,35 @@
 -- Fields that are found by what is told of the names of their structure.
-use Rattle.smithy_wire.proofs.Common.{◌≡◌, refl, sym, ap, ◌∙◌, ℕ, zero, suc, ◌+◌, ◌≤◌, Bool, true, false, ◌&&◌, ◌||◌, if◌then◌else◌, inl, inr, List, [], ◌∷◌, length, map, flat_map, Option, Some, None, option_and_then, cond, and_parts}
+use Rattle.smithy_wire.proofs.Common.{◌≡◌, refl, sym, ap, ◌∙◌, ℕ, zero, suc, ◌+◌, ◌≤◌, Bool, true, false, ◌&&◌, ◌||◌, if◌then◌else◌, inl, inr, List, [], ◌∷◌, length, map, Option, Some, None, option_and_then, cond, and_parts}
 use Rattle.std.proofs.lemmas.Map.Text.{btree_map_updates_text}
 use Rattle.std.specs.BTreeMap.{BTreeMap, Updates, get_by_text}
 use Rattle.std.specs.Global.{Global}
 use Rattle.std.specs.List.{cons_option, filter_map, list_all, slice_get}
 use Rattle.std.specs.Option.{is_some, option_map_or}
 use Rattle.std.specs.Prelude.{String, string_bytes}
-use Rattle.std.specs.Str.{bytes_eq, is_utf8}
+use Rattle.std.specs.Str.{bytes_eq}
 use Rattle.std.specs.String.{string_cmp}
-use Rattle.smithy_types.specs.Texts.{are_distinct, is_one_of, same_text}
+use Rattle.smithy_types.specs.Texts.{is_one_of, same_text}
 use Rattle.smithy_json.proofs.OrderedPairs.{same_self}
 use Rattle.smithy_schema.specs.Nodes.{Schema, at_place, member_at, members_of, name_of}
 use Rattle.smithy_strings.proofs.DistinctTexts.{same_text-sym}
 use Rattle.smithy_wire.specs.declared.side.Side.{Side}
 use Rattle.smithy_wire.specs.Forms.{fields, form_of, form_or_free, part_form}
-use Rattle.smithy_wire.specs.WireNames.{json_name, named_in_json, names_of, names_stand, is_field, if_field, field_named, field_in_json, swapped}
+use Rattle.smithy_wire.specs.WireNames.{json_name, named_in_json, names_of, names_stand, is_field, field_named, field_in_json, swapped}
 use Rattle.smithy_wire.specs.views.FieldNames.{are_own, has, is_own, is_own_at, HasJsonNames, HasName, HasNameOf}
-use Rattle.smithy_wire.specs.views.MemberSteps.{if_named, members_from}
-use Rattle.smithy_wire.proofs.MemberLemmas.{before, members_from-more, members_from-end}
-use Rattle.smithy_wire.proofs.NameLaws.{Among, IsFieldOf, field_at, json_at, json_field, named_field, only_one, own_json_name, own_name, same_from}
+use Rattle.smithy_wire.specs.views.MemberSteps.{if_in_json, json_field_at, members_from}
+use Rattle.smithy_wire.proofs.MemberLemmas.{all_from-more, all_from-end, before, members_from-more, members_from-end}
+use Rattle.smithy_wire.proofs.NameLaws.{Among, IsFieldOf, among_all, field_at, json_at, json_field, named_field, only_field, own_json_name, own_name, same_from, stand_by}
 
 abbrev Names : Type 0
 Names = BTreeMap (String Global) ℕ
 
 -- ---- one member after another
 
-own_step : (o : Option Schema) (ms : List Schema) → list_all is_own (before o ms) ≡ (option_map_or is_own o true && list_all is_own ms)
-own_step None ms = refl
-own_step (Some m) ms = refl
-
 pub own_from-more : (s : Schema) (i : ℕ) → list_all is_own (members_from s i) ≡ (is_own_at s i && list_all is_own (members_from s (i + 1)))
-own_from-more s i = ap (list_all is_own) (members_from-more s i) ∙ own_step (member_at s i) (members_from s (i + 1))
+own_from-more s i = all_from-more is_own s i
 
 pub own_from-end : (s : Schema) (i : ℕ) → length s.node.members ≤ i → list_all is_own (members_from s i) ≡ true
-own_from-end s i past = ap (list_all is_own) (members_from-end s i past)
+own_from-end s i past = all_from-end is_own s i past
 
 -- a name is a member's, if it is in the map or that of a member behind
 abbrev pub IsAdding : Schema → ℕ → Names → Type 0
@@ -74,11 +70,6 @@ adding-end s i names past h name =
 
 -- ---- members among those of a structure
 
-among_own : (ms : List Schema) (m : Schema) → Among m ms → list_all is_own ms ≡ true → is_own m ≡ true
-among_own [] m here e = absurd here
-among_own (n ∷ ns) m (inl same) e = ap is_own same ∙ (and_parts (is_own n) (list_all is_own ns) e).0
-among_own (n ∷ ns) m (inr later) e = among_own ns m later (and_parts (is_own n) (list_all is_own ns) e).1
-
 among_named : (ms : List Schema) (m : Schema) (name : List ℕ) → Among m ms → json_name m ≡ name → is_one_of name (map json_name ms) ≡ true
 among_named [] m name here is = absurd here
 among_named (n ∷ ns) m name (inl same) is =
@@ -106,9 +97,6 @@ among_at s i m at = go s.node.members i at
     go (p ∷ ps) zero at = front (at_place s.table p) (filter_map (at_place s.table) ps) at
     go (p ∷ ps) (suc i) at = back (at_place s.table p) (filter_map (at_place s.table) ps) (go ps i at)
 
-distinct : (s : Schema) → names_stand (members_of s) ≡ true → are_distinct (flat_map names_of (members_of s)) ≡ true
-distinct s stand = (and_parts (are_distinct (flat_map names_of (members_of s))) (list_all is_utf8 (flat_map names_of (members_of s))) stand).0
-
 -- ---- fields
 
 -- a name that no member has in JSON is no field's
@@ -125,42 +113,23 @@ not_found side s name none = go (field_in_json side s name) refl
 pub missing : (names : Names) (side : Option Side) (s : Schema) (name : List ℕ) → HasJsonNames s names → None ≡ get_by_text names name → None ≡ field_in_json side s name
 missing names side s name told none = not_found side s name (sym (told name) ∙ ap is_some (sym none))
 
--- a member that has the name is the only one
-only_named : (side : Option Side) (s : Schema) (name : List ℕ) (m n : Schema) → names_stand (members_of s) ≡ true
-    → Among m (members_of s) → json_name m ≡ name → field_in_json side s name ≡ Some n → n ≡ m
-only_named side s name m n stand here named found =
-    let own = json_field side s name n found in
-    only_one name (members_of s) n m (distinct s stand) own.1.1 here (ap (λ t. is_one_of t (names_of n)) (sym own.0) ∙ own_json_name n) (ap (λ t. is_one_of t (names_of m)) (sym named) ∙ own_json_name m)
-
-no_field : (side : Option Side) (s : Schema) (name : List ℕ) (m : Schema) → names_stand (members_of s) ≡ true
-    → is_field side m ≡ false → Among m (members_of s) → json_name m ≡ name → None ≡ field_in_json side s name
-no_field side s name m stand is here named = go (field_in_json side s name) refl
-  where
-    go : (o : Option Schema) → field_in_json side s name ≡ o → None ≡ o
-    go None none = refl
-    go (Some n) found =
-        let own = json_field side s name n found in
-        let same : n ≡ m = only_named side s name m n stand here named found in
-        let both : true ≡ false = sym own.1.0 ∙ ap (is_field side) same ∙ is in
-        absurd (cc both)
-
-pub found_at : (side : Option Side) (s : Schema) (i : ℕ) (name : List ℕ) (m : Schema) → names_stand (members_of s) ≡ true
-    → Some m ≡ if_named name (member_at s i) → if_field side m ≡ field_in_json side s name
+-- the field at a position that has the name is the first one
+pub found_at : (side : Option Side) (s : Schema) (i : ℕ) (name : List ℕ) (m : Schema) → names_stand side s ≡ true
+    → Some m ≡ json_field_at side name s i → Some m ≡ field_in_json side s name
 found_at side s i name m stand at = go (member_at s i) refl at
   where
-    field : (b : Bool) → is_field side m ≡ b → Among m (members_of s) → json_name m ≡ name → (if b then Some m else None) ≡ field_in_json side s name
-    field true is here named = sym (ap (field_in_json side s) (sym named) ∙ json_at side s m (distinct s stand) (is, here))
-    field false is here named = no_field side s name m stand is here named
-
-    by : (n : Schema) (b : Bool) → same_text (json_name n) name ≡ b → member_at s i ≡ Some n → Some m ≡ (if b then Some n else None) → if_field side m ≡ field_in_json side s name
+    by : (n : Schema) (b : Bool) → (is_field side n && same_text (json_name n) name) ≡ b → member_at s i ≡ Some n → Some m ≡ (if b then Some n else None)
+        → Some m ≡ field_in_json side s name
     by n true is at same =
-        let one : n ≡ m = cc same in
-        field (is_field side m) refl (among_at s i m (at ∙ ap (λ c. Some c) one)) (ap json_name (sym one) ∙ same_from (json_name n) name is)
+        let one : m ≡ n = cc same in
+        let parts = and_parts (is_field side n) (same_text (json_name n) name) is in
+        let named : json_name n ≡ name = same_from (json_name n) name parts.1 in
+        ap (λ c. Some c) one ∙ sym (json_at side s n (stand_by side s stand) (parts.0, among_at s i n at)) ∙ ap (field_in_json side s) named
     by n false is at same = absurd (cc same)
 
-    go : (o : Option Schema) → member_at s i ≡ o → Some m ≡ if_named name o → if_field side m ≡ field_in_json side s name
+    go : (o : Option Schema) → member_at s i ≡ o → Some m ≡ if_in_json side name o → Some m ≡ field_in_json side s name
     go None at same = absurd (cc same)
-    go (Some n) at same = by n (same_text (json_name n) name) refl at same
+    go (Some n) at same = by n (is_field side n && same_text (json_name n) name) refl at same
 
 -- where each member is named in JSON as it is, names stay
 pub own_stays : (side : Option Side) (s : Schema) (name : List ℕ) → are_own s ≡ true → swapped side s name ≡ name
@@ -169,14 +138,14 @@ own_stays side s name own = go (field_named side s name) refl (field_in_json sid
     go : (o : Option Schema) → field_named side s name ≡ o → (p : Option Schema) → field_in_json side s name ≡ p → option_map_or json_name o (option_map_or name_of p name) ≡ name
     go (Some m) is p at =
         let field = named_field side s name m is in
-        same_from (json_name m) (name_of m) (among_own (members_of s) m field.1.1 own) ∙ field.0
+        same_from (json_name m) (name_of m) (among_all is_own (members_of s) m field.1.1 own) ∙ field.0
     go None is (Some m) at =
         let field = json_field side s name m at in
-        sym (same_from (json_name m) (name_of m) (among_own (members_of s) m field.1.1 own)) ∙ field.0
+        sym (same_from (json_name m) (name_of m) (among_all is_own (members_of s) m field.1.1 own)) ∙ field.0
     go None is None at = refl
 
 -- the name of a field in JSON is exchanged for its own
-pub read_back : (side : Option Side) (s : Schema) (name : List ℕ) (m : Schema) → names_stand (members_of s) ≡ true → field_in_json side s name ≡ Some m → swapped side s name ≡ name_of m
+pub read_back : (side : Option Side) (s : Schema) (name : List ℕ) (m : Schema) → names_stand side s ≡ true → field_in_json side s name ≡ Some m → swapped side s name ≡ name_of m
 read_back side s name m stand at = go (field_named side s name) refl (json_field side s name m at)
   where
     go : (o : Option Schema) → field_named side s name ≡ o → (json_name m ≡ name) × IsFieldOf side s m
@@ -184,14 +153,16 @@ read_back side s name m stand at = go (field_named side s name) refl (json_field
     go None none is = ap (λ o. option_map_or name_of o name) at
     go (Some n) found is =
         let own = named_field side s name n found in
-        let same : n ≡ m = only_one name (members_of s) n m (distinct s stand) own.1.1 is.1.1 (ap (λ t. is_one_of t (names_of n)) (sym own.0) ∙ own_name n) (ap (λ t. is_one_of t (names_of m)) (sym is.0) ∙ own_json_name m) in
+        let same : n ≡ m =
+        only_field side s name n m (stand_by side s stand) own.1 is.1 (ap (λ t. is_one_of t (names_of n)) (sym own.0) ∙ own_name n)
+        (ap (λ t. is_one_of t (names_of m)) (sym is.0) ∙ own_json_name m) in
         ap json_name same ∙ is.0 ∙ sym own.0 ∙ ap name_of same
 
 -- a field is found by its own name
-pub form_back : (side : Option Side) (s : Schema) (name : List ℕ) (m : Schema) → names_stand (members_of s) ≡ true → field_in_json side s name ≡ Some m → form_of m ≡ part_form (fields side s) (name_of m)
+pub form_back : (side : Option Side) (s : Schema) (name : List ℕ) (m : Schema) → names_stand side s ≡ true → field_in_json side s name ≡ Some m → form_of m ≡ part_form (fields side s) (name_of m)
 form_back side s name m stand at =
     let is = json_field side s name m at in
-    ap form_or_free (sym (field_at side s m (distinct s stand) is.1))
+    ap form_or_free (sym (field_at side s m (stand_by side s stand) is.1))
 
 -- what no field has as its name in JSON
 pub read_other : (side : Option Side) (s : Schema) (name : List ℕ) → field_in_json side s name ≡ None → named_in_json side s name ≡ swapped side s name

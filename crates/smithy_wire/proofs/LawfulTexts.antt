@@ -1,21 +1,15 @@
 -- The laws that the functions of `laws` are proved by.
-use Rattle.smithy_wire.proofs.Common.{flat_map, and_parts, ap, ◌∙◌, sym}
-use Rattle.std.specs.List.{list_all}
-use Rattle.std.specs.Str.{is_utf8}
-use Rattle.smithy_types.specs.Texts.{are_distinct}
-use Rattle.smithy_schema.specs.Nodes.{members_of}
+use Rattle.smithy_wire.proofs.Common.{ap, ◌∙◌, sym}
 use Rattle.smithy_document.proofs.SoundDocuments.{sound_means}
 use Rattle.smithy_wire.specs.Styles.{refusing}
-use Rattle.smithy_wire.specs.WireNames.{names_of}
 use Rattle.smithy_wire.specs.WireText.{wire_held}
 use Rattle.smithy_wire.specs.Laws.{UndoesItself, IsReadBack, IsTextLawful, TextsDiffer}
-use Rattle.smithy_wire.proofs.NameLaws.{swapped_back}
+use Rattle.smithy_wire.proofs.NameLaws.{stand_by, swapped_back}
 use Rattle.smithy_wire.proofs.WireLaws.{unwire-wire}
 use Rattle.smithy_wire.proofs.TextLaws.{wire_is_lawful}
 
 pub undoes_itself : UndoesItself
-undoes_itself side s name stand =
-    swapped_back side s name (and_parts (are_distinct (flat_map names_of (members_of s))) (list_all is_utf8 (flat_map names_of (members_of s))) stand).0
+undoes_itself side s name stand = swapped_back side s name (stand_by side s stand)
 
 pub is_read_back : IsReadBack
 is_read_back style f d stand sound = unwire-wire style f d stand (sound_means d sound)

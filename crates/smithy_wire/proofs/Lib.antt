@@ -20,6 +20,7 @@ pub mod Rows
 pub mod StandLemmas
 pub mod TextLaws
 pub mod TimeLaws
+pub mod WholeLemmas
 pub mod WireLaws
 pub mod WriteLemmas
 pub mod WrittenJson

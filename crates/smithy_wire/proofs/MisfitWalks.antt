@@ -7,21 +7,20 @@ use Rattle.smithy_document.proofs.PathLemmas.{drop_first}
 use Rattle.smithy_serde.proofs.StoredLemmas.{writes_listed, length-listed}
 use Rattle.smithy_schema.specs.Nodes.{Table}
 use Rattle.smithy_serde.specs.StoredValues.{label_at, value_in, writes_in, kept_writes, listed}
-use Rattle.smithy_serde.specs.Values as value
-use Rattle.smithy_serde.specs.Values.{Value, scalar, list, structure, Writes, list_of, text_of_key}
+use Rattle.smithy_serde.specs.Values.{Value, scalar, Writes, list_of, text_of_key}
 use Rattle.smithy_serde.specs.declared.value.OneWrite.{OneWrite}
 use Rattle.smithy_serde.specs.declared.value.ShapeValue.{ShapeValue}
 use Rattle.smithy_serde.specs.declared.value.ShapeValue.TheVariants as stored
 use Rattle.smithy_serde.specs.declared.value.WriteList.{WriteList}
-use Rattle.smithy_wire.specs.Words.{option_or}
+use Rattle.smithy_wire.specs.Words.{Schema, SerdeError, option_or}
 use Rattle.smithy_wire.specs.Forms.{Form, element_form, part_form}
-use Rattle.smithy_wire.specs.Misfits.{behind, entry_misfit, field_misfit, in_field, item_misfit, misfit, told_name, value_misfit, wrong_count, wrong_kind, wrong_name, wrong_scalar}
+use Rattle.smithy_wire.specs.Misfits.{behind, body_misfit, body_misfit_told, entry_misfit, field_misfit, in_field, item_misfit, misfit, misfit_told, told_name, value_misfit, whole_misfit, whole_misfit_told, wrong_count, wrong_kind, wrong_scalar}
 use Rattle.smithy_serde.specs.Nesting.{value_nesting, writes_nesting}
 use Rattle.smithy_wire.specs.Unwire.{item_step, part_step}
 use Rattle.smithy_wire.specs.declared.misfit.Misfit.{Misfit}
 use Rattle.smithy_wire.specs.declared.misfit.Refused.{Refused}
 use Rattle.smithy_wire.specs.declared.misfit.Refused.TheVariants as refused
-use Rattle.smithy_wire.specs.views.MisfitView.{Finds, FindsText}
+use Rattle.smithy_wire.specs.views.MisfitView.{Finds, FindsText, TellsFound, TellsMisfit}
 
 -- ---- one after the other
 
@@ -225,3 +224,17 @@ item_at t f ws i v all h left =
 
 pub items_end : (t : Table) (f : Form) (ws : WriteList) (i : ℕ) (all : Option Misfit) → length (kept_writes ws) ≤ i → item_misfit f i (listed t (drop i (kept_writes ws))) ≡ all → all ≡ None
 items_end t f ws i all past h = no_item t _ f i all (drop_of_length-le (kept_writes ws) past) h
+
+-- ---- what is told
+
+told_of : (found : Option Misfit) (r : Result (Unit {0}) SerdeError) → TellsFound found r → TellsMisfit (option_map misfit_told found) r
+told_of found (Ok u) h = ap (λ o. option_map misfit_told o) h
+told_of found (Err e) h = h
+
+pub body_told : (schema : Schema) (ws : Writes) (r : Result (Unit {0}) SerdeError) → TellsFound (body_misfit schema ws) r → TellsMisfit (body_misfit_told schema ws) r
+unfolding body_misfit_told
+body_told schema ws r h = told_of (body_misfit schema ws) r h
+
+pub whole_told : (schema : Schema) (ws : Writes) (r : Result (Unit {0}) SerdeError) → TellsFound (whole_misfit schema ws) r → TellsMisfit (whole_misfit_told schema ws) r
+unfolding whole_misfit_told
+whole_told schema ws r h = told_of (whole_misfit schema ws) r h

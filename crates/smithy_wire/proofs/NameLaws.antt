@@ -1,6 +1,8 @@
 -- Fields and their names in JSON change places, and back.
 use Rattle.std.proofs.Common.{is_some}
-use Rattle.smithy_wire.proofs.Common.{◌≡◌, refl, sym, ap, ◌∙◌, subst, ℕ, Bool, true, false, cond, not, ◌||◌, if◌then◌else◌, ◌⊎◌, inl, inr, List, [], ◌∷◌, ◌++◌, find, filter, flat_map, Option, Some, None, and_parts}
+use Rattle.smithy_wire.proofs.Common.{◌≡◌, refl, sym, ap, ◌∙◌, subst, ℕ, Bool, true, false, cond, not, ◌||◌, if◌then◌else◌, ◌⊎◌, inl, inr, List, [], ◌∷◌, ◌++◌, ◌&&◌, find, filter, flat_map, Option, Some, None, and_parts}
+use Rattle.std.specs.List.{list_all}
+use Rattle.std.specs.Str.{is_utf8}
 use Rattle.std.specs.Option.{option_map_or, unwrap_or}
 use Rattle.std.specs.Cmp.Lexicographic.{same_text as same_from_test}
 use Rattle.smithy_types.specs.Texts.{same_text, is_one_of, are_distinct}
@@ -9,7 +11,7 @@ use Rattle.smithy_schema.specs.Nodes.{Schema, has_name, member_named, members_of
 use Rattle.smithy_serde.specs.Shaped.{is_named}
 use Rattle.smithy_document.proofs.StandingNodes.{named_found}
 use Rattle.smithy_wire.specs.declared.side.Side.{Side}
-use Rattle.smithy_wire.specs.WireNames.{json_name, names_of, is_field, if_field, field_named, field_in_json, swapped}
+use Rattle.smithy_wire.specs.WireNames.{json_name, names_of, is_field, if_field, fields_of, field_named, field_in_json, field_names, is_found, names_stand, swapped}
 
 pub same_from : (a b : List ℕ) → same_text a b ≡ true → a ≡ b
 same_from a b e = same_from_test a b (sym e)
@@ -58,6 +60,11 @@ kept p (n ∷ ns) m here is = go (p n) refl here (λ later. kept p ns m later is
     go true at (inr later) rest = inr (rest later)
     go false at (inl same) rest = let both : false ≡ true = sym at ∙ ap p (sym same) ∙ is in absurd (cc both)
     go false at (inr later) rest = rest later
+
+pub among_all : (p : Schema → Bool) (ms : List Schema) (m : Schema) → Among m ms → list_all p ms ≡ true → p m ≡ true
+among_all p [] m here e = absurd here
+among_all p (n ∷ ns) m (inl same) e = ap p same ∙ (and_parts (p n) (list_all p ns) e).0
+among_all p (n ∷ ns) m (inr later) e = among_all p ns m later (and_parts (p n) (list_all p ns) e).1
 
 -- ---- a name is one member's
 
@@ -160,14 +167,37 @@ named_field side s x m e = go (member_named s x) (named_found s x) e
     go None at e = absurd (cc e)
     go (Some n) at e = by n (is_field side n) refl (sym at) e
 
-pub field_at : (side : Option Side) (s : Schema) (m : Schema) → are_distinct (flat_map names_of (members_of s)) ≡ true → IsFieldOf side s m → field_named side s (name_of m) ≡ Some m
-field_at side s m apart field =
-    let found = found_where (is_named (Some (name_of m))) (members_of s) m field.1 (has_own_name side m field.0) in
-    let is = found_among (is_named (Some (name_of m))) (members_of s) found.0 found.1 in
-    let named : name_of found.0 ≡ name_of m = name_is (name_of m) found.0 is.0 in
-    let same : found.0 ≡ m = only_one (name_of m) (members_of s) found.0 m apart is.1 field.1 (ap (λ t. is_one_of t (names_of found.0)) (sym named) ∙ own_name found.0) (own_name m) in
-    ap (λ o. option_map_or (if_field side) o None) (named_found s (name_of m) ∙ found.1 ∙ ap Some same)
-    ∙ ap (λ b. if b then Some m else None) field.0
+pub a_field : (side : Option Side) (s : Schema) (m : Schema) → IsFieldOf side s m → Among m (fields_of side s)
+a_field side s m field = kept (is_field side) (members_of s) m field.1 field.0
+
+-- ---- names that stand
+
+-- what the test of names says
+pub record NamesStand (side : Option Side) (s : Schema) : Type 0 where
+  pub apart : are_distinct (field_names side s) ≡ true
+  pub utf8 : list_all is_utf8 (field_names side s) ≡ true
+  pub found : list_all (is_found side s) (fields_of side s) ≡ true
+
+pub stand_by : (side : Option Side) (s : Schema) → names_stand side s ≡ true → NamesStand side s
+stand_by side s e =
+    let all = and_parts (are_distinct (field_names side s) && list_all is_utf8 (field_names side s)) (list_all (is_found side s) (fields_of side s)) e in
+    let names = and_parts (are_distinct (field_names side s)) (list_all is_utf8 (field_names side s)) all.0 in
+    record { apart = names.0; utf8 = names.1; found = all.1 }
+
+-- a name is one field's
+pub only_field : (side : Option Side) (s : Schema) (x : List ℕ) (m n : Schema) → NamesStand side s → IsFieldOf side s m → IsFieldOf side s n
+    → is_one_of x (names_of m) ≡ true → is_one_of x (names_of n) ≡ true → m ≡ n
+only_field side s x m n stand here there one other = only_one x (fields_of side s) m n stand.apart (a_field side s m here) (a_field side s n there) one other
+
+pub field_at : (side : Option Side) (s : Schema) (m : Schema) → NamesStand side s → IsFieldOf side s m → field_named side s (name_of m) ≡ Some m
+field_at side s m stand field = go (field_named side s (name_of m)) refl (among_all (is_found side s) (fields_of side s) m (a_field side s m field) stand.found)
+  where
+    go : (o : Option Schema) → field_named side s (name_of m) ≡ o → is_some o ≡ true → field_named side s (name_of m) ≡ Some m
+    go None is some = absurd (cc some)
+    go (Some n) is some =
+        let own = named_field side s (name_of m) n is in
+        let same : n ≡ m = only_field side s (name_of m) n m stand own.1 field (ap (λ t. is_one_of t (names_of n)) (sym own.0) ∙ own_name n) (own_name m) in
+        is ∙ ap (λ c. Some c) same
 
 pub json_field : (side : Option Side) (s : Schema) (x : List ℕ) (m : Schema) → field_in_json side s x ≡ Some m → (json_name m ≡ x) × IsFieldOf side s m
 json_field side s x m e =
@@ -175,25 +205,25 @@ json_field side s x m e =
     let field = filtered (is_field side) (members_of s) m found.1 in
     (same_from (json_name m) x found.0, (field.0, field.1))
 
-pub json_at : (side : Option Side) (s : Schema) (m : Schema) → are_distinct (flat_map names_of (members_of s)) ≡ true → IsFieldOf side s m → field_in_json side s (json_name m) ≡ Some m
-json_at side s m apart field =
+pub json_at : (side : Option Side) (s : Schema) (m : Schema) → NamesStand side s → IsFieldOf side s m → field_in_json side s (json_name m) ≡ Some m
+json_at side s m stand field =
     let test = λ (n : Schema). same_text (json_name n) (json_name m) in
-    let found = found_where test (filter (is_field side) (members_of s)) m (kept (is_field side) (members_of s) m field.1 field.0) (same_self (json_name m)) in
+    let found = found_where test (fields_of side s) m (a_field side s m field) (same_self (json_name m)) in
     let is = json_field side s (json_name m) found.0 found.1 in
-    let same : found.0 ≡ m = only_one (json_name m) (members_of s) found.0 m apart is.1.1 field.1 (ap (λ t. is_one_of t (names_of found.0)) (sym is.0) ∙ own_json_name found.0) (own_json_name m) in
+    let same : found.0 ≡ m = only_field side s (json_name m) found.0 m stand is.1 field (ap (λ t. is_one_of t (names_of found.0)) (sym is.0) ∙ own_json_name found.0) (own_json_name m) in
     found.1 ∙ ap Some same
 
 -- ---- the swap
 
-pub swapped_back : (side : Option Side) (s : Schema) (x : List ℕ) → are_distinct (flat_map names_of (members_of s)) ≡ true → swapped side s (swapped side s x) ≡ x
-swapped_back side s x apart = go (field_named side s x) refl (field_in_json side s x) refl
+pub swapped_back : (side : Option Side) (s : Schema) (x : List ℕ) → NamesStand side s → swapped side s (swapped side s x) ≡ x
+swapped_back side s x stand = go (field_named side s x) refl (field_in_json side s x) refl
   where
     there : (m : Schema) (o : Option Schema) → name_of m ≡ x → IsFieldOf side s m → field_named side s (json_name m) ≡ o
         → option_map_or json_name o (option_map_or name_of (field_in_json side s (json_name m)) (json_name m)) ≡ x
-    there m None named field none = ap (λ o. option_map_or name_of o (json_name m)) (json_at side s m apart field) ∙ named
+    there m None named field none = ap (λ o. option_map_or name_of o (json_name m)) (json_at side s m stand field) ∙ named
     there m (Some n) named field some =
         let is = named_field side s (json_name m) n some in
-        let same : n ≡ m = only_one (json_name m) (members_of s) n m apart is.1.1 field.1 (ap (λ t. is_one_of t (names_of n)) (sym is.0) ∙ own_name n) (own_json_name m) in
+        let same : n ≡ m = only_field side s (json_name m) n m stand is.1 field (ap (λ t. is_one_of t (names_of n)) (sym is.0) ∙ own_name n) (own_json_name m) in
         ap json_name same ∙ sym is.0 ∙ ap name_of same ∙ named
 
     go : (o : Option Schema) → field_named side s x ≡ o → (p : Option Schema) → field_in_json side s x ≡ p
@@ -201,5 +231,5 @@ swapped_back side s x apart = go (field_named side s x) refl (field_in_json side
     go (Some m) is p other = let field = named_field side s x m is in there m (field_named side s (json_name m)) field.0 field.1 refl
     go None is (Some m) other =
         let field = json_field side s x m other in
-        ap (λ o. option_map_or json_name o (option_map_or name_of (field_in_json side s (name_of m)) (name_of m))) (field_at side s m apart field.1) ∙ field.0
+        ap (λ o. option_map_or json_name o (option_map_or name_of (field_in_json side s (name_of m)) (name_of m))) (field_at side s m stand field.1) ∙ field.0
     go None is None other = ap (λ o. option_map_or json_name o (option_map_or name_of (field_in_json side s x) x)) is ∙ ap (λ o. option_map_or name_of o x) other

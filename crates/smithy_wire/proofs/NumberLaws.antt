@@ -7,7 +7,7 @@ use Rattle.std.proofs.lemmas.Str.{IsUtf8-append, IsUtf8-from_ascii}
 use Rattle.std.specs.Str.{IsUtf8}
 use Rattle.json.proofs.Printed.Utf8.{IsUtf8-are_ascii}
 use Rattle.std.specs.List.{list_all}
-use Rattle.smithy_wire.proofs.Common.{◌≡◌, refl, ap, ℕ, suc, ◌^◌, ◌<◌, ◌==◌, arith, true, false, ◌||◌, List, [], ◌∷◌, length, Option, Some, None, option_and_then, decimal, pos, negsuc}
+use Rattle.smithy_wire.proofs.Common.{◌≡◌, refl, ap, ℕ, suc, ◌^◌, ◌<◌, ◌==◌, arith, Bool, true, false, ◌||◌, List, [], ◌∷◌, length, Option, Some, None, option_and_then, decimal, pos, negsuc}
 use Rattle.json.specs.Print.{IsNumber}
 use Rattle.json.specs.Word.{after_number}
 use Rattle.json.proofs.Printed.Decimals.{IsNumber-decimal}
@@ -18,7 +18,7 @@ use Rattle.smithy_types.specs.BigNumbers.{is_digit}
 use Rattle.smithy_types.specs.Documents as doc
 use Rattle.smithy_types.specs.Documents.{Number}
 use Rattle.smithy_document.proofs.SoundDocuments.{IsSoundNumber}
-use Rattle.smithy_wire.specs.ExactNumbers.{is_number, is_integer, plain_number, whole_number, exact_number, decimal_number}
+use Rattle.smithy_wire.specs.ExactNumbers.{is_below_zero, is_number, is_integer, parts_of, plain_number, whole_number, exact_number, floor_in, integer_number, decimal_number}
 use Rattle.std.specs.Option.{option_or, option_map_or}
 
 no_minus : (ds : List ℕ) → AllDigits 10 ds → 0 < length ds → get_or ds 0 0 ≡ 45 → ⊥
@@ -47,6 +47,10 @@ decimal_is_plain (doc.negative (negsuc n)) h = ap (option_and_then number_of_dat
 
 pub decimal_is_whole : (n : Number) → IsSoundNumber n → whole_number (number_text n) ≡ Some n
 decimal_is_whole n h = ap (λ o. option_or o (exact_number (number_text n))) (decimal_is_plain n h)
+
+pub decimal_is_read : (floors : Bool) (n : Number) → IsSoundNumber n → integer_number floors (number_text n) ≡ Some n
+decimal_is_read false n h = decimal_is_whole n h
+decimal_is_read true n h = ap (λ o. option_or o (floor_in (is_below_zero (number_text n)) (parts_of (number_text n)))) (decimal_is_whole n h)
 
 digit_is : (d : ℕ) → digit_value d < 10 → (is_digit d || (d == 45)) ≡ true
 digit_is d h = grind arith

@@ -39,21 +39,45 @@ pub whole_with_a_point : whole_number (codes "-2.50e1") ≡ Some (doc.number_of 
 unfolding wire_on_literals
 whole_with_a_point = refl
 
-pub fraction_is_not_whole : number_read (whole kind.Integer) (codes "1.5") ≡ None
+pub fraction_is_not_whole : number_read true (whole kind.Integer) (codes "1.5") ≡ None
 unfolding wire_on_literals
 fraction_is_not_whole = refl
 
-pub free_fraction_is_null : number_read free (codes "1.5") ≡ Some doc.null
+pub free_fraction_is_null : number_read false free (codes "1.5") ≡ Some doc.null
 unfolding wire_on_literals
 free_fraction_is_null = refl
 
-pub document_has_no_fraction : number_read document (codes "1.5") ≡ None
+pub document_has_no_fraction : number_read false document (codes "1.5") ≡ None
 unfolding wire_on_literals
 document_has_no_fraction = refl
 
-pub big_integer_with_an_exponent : number_read big_integer (codes "1e3") ≡ Some (doc.string (codes "1000"))
+pub big_integer_with_an_exponent : number_read false big_integer (codes "1e3") ≡ Some (doc.string (codes "1000"))
 unfolding wire_on_literals
 big_integer_with_an_exponent = refl
+
+pub wide_integer : number_read false big_integer (codes "-1.5E38") ≡ Some (doc.string (codes "-150000000000000000000000000000000000000"))
+unfolding wire_on_literals
+wide_integer = refl
+
+pub widest_integer : number_read false big_integer (codes "-170141183460469231731687303715884105728.0") ≡ Some (doc.string (codes "-170141183460469231731687303715884105728"))
+unfolding wire_on_literals
+widest_integer = refl
+
+pub integer_past_128_bits : number_read false big_integer (codes "1.70141183460469231731687303715884105728e38") ≡ None
+unfolding wire_on_literals
+integer_past_128_bits = refl
+
+pub seconds_with_a_fraction : number_read true (whole kind.Timestamp) (codes "1363729002.358") ≡ Some (doc.number (doc.positive 1363729002))
+unfolding wire_on_literals
+seconds_with_a_fraction = refl
+
+pub seconds_before_1970 : number_read true date_time (codes "-0.5") ≡ Some (doc.number (doc.number_of (neg_ℤ (pos 1))))
+unfolding wire_on_literals
+seconds_before_1970 = refl
+
+pub fraction_of_seconds_is_refused : number_read false (whole kind.Timestamp) (codes "1363729002.358") ≡ None
+unfolding wire_on_literals
+fraction_of_seconds_is_refused = refl
 
 pub time_that_is_read : string_read false http_date (codes "Tue, 09 Jan 2018 18:47:00 GMT") ≡ Some (doc.number (doc.positive 1515523620))
 unfolding wire_on_literals

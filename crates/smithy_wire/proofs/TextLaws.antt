@@ -5,13 +5,12 @@ use Rattle.std.specs.Prelude.{codes}
 use Rattle.std.specs.List.{list_all}
 use Rattle.std.specs.Option.{option_map_or}
 use Rattle.std.specs.Str.{IsUtf8, is_utf8}
-use Rattle.smithy_wire.proofs.Common.{◌≡◌, ◌≢◌, refl, sym, ap, ap₂, ◌∙◌, subst, ℕ, suc, ◌≤◌, ◌==◌, max, arith, Bool, true, false, if◌then◌else◌, List, [], ◌∷◌, ◌++◌, length, flat_map, Option, Some, None, IsTrue, ℤ, ◌||◌, and_parts}
+use Rattle.smithy_wire.proofs.Common.{◌≡◌, ◌≢◌, refl, sym, ap, ap₂, ◌∙◌, subst, ℕ, suc, ◌≤◌, ◌==◌, max, arith, Bool, true, false, if◌then◌else◌, List, [], ◌∷◌, ◌++◌, length, Option, Some, None, IsTrue, ℤ, ◌||◌, and_parts}
 use Rattle.json.specs.Json as json
 use Rattle.json.specs.Json.{Json}
 use Rattle.json.specs.Tree.{depth, items_depth, members_depth, json_tokens}
 use Rattle.json.specs.Print.{print}
 use Rattle.smithy_ids.specs.declared.traits.TimestampFormat.TheVariants as time
-use Rattle.smithy_schema.specs.Nodes as nodes
 use Rattle.smithy_schema.specs.Nodes.{Schema, name_of}
 use Rattle.smithy_serde.specs.DocumentReads.{integer_of_number, number_text}
 use Rattle.smithy_serde.specs.Held as held
@@ -21,21 +20,22 @@ use Rattle.smithy_strings.proofs.WireTexts.{wire_utf8}
 use Rattle.smithy_strings.specs.declared.wire.Place.TheVariants.{Header}
 use Rattle.smithy_types.specs.Documents as doc
 use Rattle.smithy_types.specs.Documents.{Document, Number, nesting, items_nesting, members_nesting}
-use Rattle.smithy_types.specs.Texts.{are_distinct, is_one_of, same_text}
+use Rattle.smithy_types.specs.Texts.{is_one_of, same_text}
 use Rattle.smithy_types.specs.Timestamps.{timestamp_text}
 use Rattle.smithy_types.specs.declared.date_time.Format.TheVariants.{DateTime, HttpDate}
 use Rattle.smithy_document.proofs.SoundDocuments.{IsSoundNumber, IsSound, AreItemsSound, AreMembersSound, sound_means}
 use Rattle.json.proofs.Printed.Utf8.{IsUtf8-are_ascii}
 use Rattle.smithy_wire.specs.declared.side.Side.{Side}
 use Rattle.smithy_wire.specs.declared.wire_style.WireStyle.{WireStyle}
-use Rattle.smithy_wire.specs.WireNames.{json_name, names_of, field_named, field_in_json, swapped}
+use Rattle.smithy_wire.specs.WireNames.{json_name, fields_of, field_named, field_in_json, field_names, swapped}
 use Rattle.smithy_wire.specs.ExactNumbers.{is_number, is_integer}
 use Rattle.smithy_wire.specs.Forms.{Form, free, fields, items, entries, date_time, http_date, big_integer, big_decimal, whole, document, other, element_form, part_form, name_in}
-use Rattle.smithy_wire.specs.Standing.{NodeStands, Stand}
-use Rattle.smithy_wire.proofs.EachLemmas.{closed_stands, each_element, each_part}
+use Rattle.smithy_wire.specs.Standing.{StructureStands, Stand}
+use Rattle.smithy_wire.proofs.EachLemmas.{each_element, each_part}
+use Rattle.smithy_wire.proofs.StandLemmas.{closed_stands, structure_stand}
 use Rattle.smithy_wire.specs.Wire.{wire, wire_items, wire_members, wire_number, wire_string}
 use Rattle.smithy_wire.specs.WireText.{wire_text, json_in, held_of, held_in, wire_held}
-use Rattle.smithy_wire.proofs.NameLaws.{same_from, named_field, json_field, own_name, own_json_name, one_of_members}
+use Rattle.smithy_wire.proofs.NameLaws.{NamesStand, a_field, same_from, named_field, json_field, own_name, own_json_name, one_of_members}
 use Rattle.smithy_wire.proofs.NumberLaws.{decimal_is_number, decimal_utf8, is_number-means}
 use Rattle.smithy_wire.proofs.TimeLaws.{in_range, within_calendar}
 use Rattle.smithy_wire.proofs.WireLaws.{unwire-wire}
@@ -118,18 +118,18 @@ utf8_among x (y ∷ ys) h is =
     go true at is rest = let parts = and_parts (is_utf8 y) (list_all is_utf8 ys) h in subst IsUtf8 (sym (same_from x y at)) (IsUtf8-from_is_utf8 y parts.0)
     go false at is rest = rest is
 
-swapped_utf8 : (side : Option Side) (s : Schema) (x : List ℕ) → list_all is_utf8 (flat_map names_of (nodes.members_of s)) ≡ true → IsUtf8 x → IsUtf8 (swapped side s x)
-swapped_utf8 side s x all h = go (field_named side s x) refl (field_in_json side s x) refl
+swapped_utf8 : (side : Option Side) (s : Schema) (x : List ℕ) → NamesStand side s → IsUtf8 x → IsUtf8 (swapped side s x)
+swapped_utf8 side s x stand h = go (field_named side s x) refl (field_in_json side s x) refl
   where
     go : (o : Option Schema) → field_named side s x ≡ o → (p : Option Schema) → field_in_json side s x ≡ p → IsUtf8 (option_map_or json_name o (option_map_or name_of p x))
-    go (Some m) is p at = let field = named_field side s x m is in utf8_among (json_name m) (flat_map names_of (nodes.members_of s)) all (one_of_members (json_name m) (nodes.members_of s) m field.1.1 (own_json_name m))
-    go None is (Some m) at = let field = json_field side s x m at in utf8_among (name_of m) (flat_map names_of (nodes.members_of s)) all (one_of_members (name_of m) (nodes.members_of s) m field.1.1 (own_name m))
+    go (Some m) is p at = let field = named_field side s x m is in utf8_among (json_name m) (field_names side s) stand.utf8 (one_of_members (json_name m) (fields_of side s) m (a_field side s m field.1) (own_json_name m))
+    go None is (Some m) at = let field = json_field side s x m at in utf8_among (name_of m) (field_names side s) stand.utf8 (one_of_members (name_of m) (fields_of side s) m (a_field side s m field.1) (own_name m))
     go None is None at = h
 
 name_utf8 : (names : Bool) (f : Form) (k : List ℕ) → Stand names f → IsUtf8 k → IsUtf8 (name_in names f k)
 name_utf8 false f k stand h = h
 name_utf8 true free k stand h = h
-name_utf8 true (fields side s) k stand h = swapped_utf8 side s k (and_parts (are_distinct (flat_map names_of (nodes.members_of s))) (list_all is_utf8 (flat_map names_of (nodes.members_of s))) (stand refl).names).1 h
+name_utf8 true (fields side s) k stand h = swapped_utf8 side s k (structure_stand side s (stand refl)) h
 name_utf8 true (items element) k stand h = h
 name_utf8 true (entries value) k stand h = h
 name_utf8 true date_time k stand h = h
@@ -148,7 +148,7 @@ mutual
   written names f (doc.boolean b) stand h = tt
   written names f (doc.number n) stand h = (number_written f n h).writable
   written names f (doc.string s) stand h = (string_written f s h).writable
-  written names f (doc.array ds) stand h = items_written names (element_form f) ds (λ is. each_element NodeStands closed_stands f (stand is)) h
+  written names f (doc.array ds) stand h = items_written names (element_form f) ds (λ is. each_element StructureStands closed_stands f (stand is)) h
   written names f (doc.object ms) stand h = members_written names f ms stand h
 
   items_written : (names : Bool) (f : Form) (ds : doc.Items) → Stand names f → AreItemsSound ds → AreItemsWritable (wire_items names f ds)
@@ -158,7 +158,7 @@ mutual
   members_written : (names : Bool) (f : Form) (ms : doc.Members) → Stand names f → AreMembersSound ms → AreMembersWritable (wire_members names f ms)
   members_written names f doc.no_members stand h = tt
   members_written names f (doc.member k d ms) stand h =
-      (name_utf8 names f k stand h.0, written names (part_form f k) d (λ is. each_part NodeStands closed_stands f k (stand is)) h.1, members_written names f ms stand h.3)
+      (name_utf8 names f k stand h.0, written names (part_form f k) d (λ is. each_part StructureStands closed_stands f k (stand is)) h.1, members_written names f ms stand h.3)
 
 mutual
   depth_is : (names : Bool) (f : Form) (d : Document) → IsSound d → depth (wire names f d) ≡ nesting d

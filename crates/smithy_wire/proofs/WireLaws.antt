@@ -1,33 +1,32 @@
 -- What is written for a document is read as it.
-use Rattle.smithy_wire.proofs.Common.{◌≡◌, refl, ap, ap₂, ◌∙◌, ℕ, suc, ◌++◌, Bool, true, false, ◌&&◌, ◌||◌, ◌==◌, if◌then◌else◌, List, ◌∷◌, Option, Some, None, option_map, ok_or, Ok, pos, negsuc, and_parts, flat_map}
+use Rattle.smithy_wire.proofs.Common.{◌≡◌, refl, ap, ap₂, ◌∙◌, ℕ, suc, ◌++◌, Bool, true, false, ◌&&◌, ◌||◌, ◌==◌, if◌then◌else◌, List, ◌∷◌, Option, Some, None, option_map, ok_or, Ok, pos, negsuc}
 use Rattle.std.specs.Prelude.{codes}
 use Rattle.std.specs.List.{list_all}
 use Rattle.std.specs.Option.{option_map_or}
-use Rattle.std.specs.Str.{is_utf8}
 use Rattle.json.specs.Json as json
+use Rattle.smithy_ids.specs.Kinds.{same_kind}
+use Rattle.smithy_ids.specs.declared.shape_type.ShapeType.TheVariants as kind
 use Rattle.smithy_types.specs.BigNumbers.{is_digit}
 use Rattle.smithy_types.specs.Documents as doc
 use Rattle.smithy_types.specs.Documents.{Document, Number, number_of, list_of_members, members_of}
 use Rattle.smithy_types.specs.Results.{then_try, then_give}
-use Rattle.smithy_types.specs.Texts.{are_distinct}
 use Rattle.smithy_types.specs.Timestamps.{timestamp_text}
 use Rattle.smithy_types.specs.declared.date_time.Format.{Format}
 use Rattle.smithy_types.specs.declared.date_time.Format.TheVariants.{DateTime, HttpDate}
-use Rattle.smithy_schema.specs.Nodes as nodes
 use Rattle.smithy_serde.specs.DocumentReads.{integer_of_number, number_text}
 use Rattle.smithy_document.proofs.SoundDocuments.{IsSoundNumber, IsSound, AreItemsSound, AreMembersSound}
 use Rattle.smithy_document.proofs.FromData.{Ascend, all_put}
 use Rattle.smithy_wire.specs.declared.wire_style.WireStyle.{WireStyle}
-use Rattle.smithy_wire.specs.WireNames.{names_of}
 use Rattle.smithy_wire.specs.WireTimes.{spelled}
-use Rattle.smithy_wire.specs.ExactNumbers.{is_number, is_integer, plain_number, whole_number}
+use Rattle.smithy_wire.specs.ExactNumbers.{is_number, is_integer, plain_number, whole_decimal}
 use Rattle.smithy_wire.specs.Forms.{Form, free, fields, items, entries, date_time, http_date, big_integer, big_decimal, whole, document, other, element_form, part_form, name_in}
-use Rattle.smithy_wire.specs.Standing.{NodeStands, Stand}
-use Rattle.smithy_wire.proofs.EachLemmas.{closed_stands, each_element, each_part}
+use Rattle.smithy_wire.specs.Standing.{StructureStands, Stand}
+use Rattle.smithy_wire.proofs.EachLemmas.{each_element, each_part}
+use Rattle.smithy_wire.proofs.StandLemmas.{closed_stands, structure_stand}
 use Rattle.smithy_wire.specs.Wire.{wire_number, wire_string, wire, wire_items, wire_members}
-use Rattle.smithy_wire.specs.Unwire.{unread, within, item_step, part_step, whole_read, time_read, decimal_read, unwire, unwire_items, unwire_pairs}
+use Rattle.smithy_wire.specs.Unwire.{unread, within, item_step, part_step, integer_read, time_read, decimal_read, unwire, unwire_items, unwire_pairs}
 use Rattle.smithy_wire.proofs.NameLaws.{swapped_back}
-use Rattle.smithy_wire.proofs.NumberLaws.{decimal_is_plain, decimal_is_whole, decimal_is_decimal}
+use Rattle.smithy_wire.proofs.NumberLaws.{decimal_is_plain, decimal_is_read, decimal_is_decimal}
 use Rattle.smithy_wire.proofs.TimeLaws.{spelled_date_time, spelled_http_date, no_front, front_back}
 
 -- ---- names that stand
@@ -35,7 +34,7 @@ use Rattle.smithy_wire.proofs.TimeLaws.{spelled_date_time, spelled_http_date, no
 pub name_back : (names : Bool) (f : Form) (k : List ℕ) → Stand names f → name_in names f (name_in names f k) ≡ k
 name_back false f k h = refl
 name_back true free k h = refl
-name_back true (fields side s) k h = swapped_back side s k (and_parts (are_distinct (flat_map names_of (nodes.members_of s))) (list_all is_utf8 (flat_map names_of (nodes.members_of s))) (h refl).names).0
+name_back true (fields side s) k h = swapped_back side s k (structure_stand side s (h refl))
 name_back true (items element) k h = refl
 name_back true (entries value) k h = refl
 name_back true date_time k h = refl
@@ -53,8 +52,8 @@ number_again (doc.positive n) h = refl
 number_again (doc.negative (pos n)) h = absurd h
 number_again (doc.negative (negsuc n)) h = refl
 
-whole_back : (f : Form) (n : Number) → IsSoundNumber n → ok_or (whole_read (number_text n)) (unread (number_text n) f) ≡ Ok (doc.number n)
-whole_back f n h = ap (λ o. ok_or (option_map doc.number o) (unread (number_text n) f)) (decimal_is_whole n h)
+whole_back : (floors : Bool) (f : Form) (n : Number) → IsSoundNumber n → ok_or (integer_read floors (number_text n)) (unread (number_text n) f) ≡ Ok (doc.number n)
+whole_back floors f n h = ap (λ o. ok_or (option_map doc.number o) (unread (number_text n) f)) (decimal_is_read floors n h)
 
 plain_back : (f : Form) (n : Number) → IsSoundNumber n → ok_or (option_map doc.number (plain_number (number_text n))) (unread (number_text n) f) ≡ Ok (doc.number n)
 plain_back f n h = ap (λ o. ok_or (option_map doc.number o) (unread (number_text n) f)) (decimal_is_plain n h)
@@ -70,7 +69,7 @@ number_back style (entries value) n h = plain_back (entries value) n h
 number_back style date_time n h = go (timestamp_text DateTime (integer_of_number n)) refl
   where
     go : (o : Option (List ℕ)) → timestamp_text DateTime (integer_of_number n) ≡ o → unwire style date_time (option_map_or json.string o (json.number (number_text n))) ≡ Ok (doc.number n)
-    go None is = whole_back date_time n h
+    go None is = whole_back style.floors_times date_time n h
     go (Some t) is =
         ap (λ o. ok_or (option_map_or (λ front. Some (doc.string front)) o (option_map (λ z. doc.number (number_of z)) (spelled style.floors_times DateTime t))) (unread t date_time)) (no_front DateTime (integer_of_number n) t is)
         ∙ ap (λ o. ok_or (option_map (λ z. doc.number (number_of z)) o) (unread t date_time)) (spelled_date_time style.floors_times (integer_of_number n) t is)
@@ -78,14 +77,14 @@ number_back style date_time n h = go (timestamp_text DateTime (integer_of_number
 number_back style http_date n h = go (timestamp_text HttpDate (integer_of_number n)) refl
   where
     go : (o : Option (List ℕ)) → timestamp_text HttpDate (integer_of_number n) ≡ o → unwire style http_date (option_map_or json.string o (json.number (number_text n))) ≡ Ok (doc.number n)
-    go None is = whole_back http_date n h
+    go None is = whole_back style.floors_times http_date n h
     go (Some t) is =
         ap (λ o. ok_or (option_map_or (λ front. Some (doc.string front)) o (option_map (λ z. doc.number (number_of z)) (spelled style.floors_times HttpDate t))) (unread t http_date)) (no_front HttpDate (integer_of_number n) t is)
         ∙ ap (λ o. ok_or (option_map (λ z. doc.number (number_of z)) o) (unread t http_date)) (spelled_http_date style.floors_times (integer_of_number n) t is)
         ∙ ap (λ m. Ok (doc.number m)) (number_again n h)
 number_back style big_integer n h = ap Ok (decimal_back n h)
 number_back style big_decimal n h = ap Ok (decimal_back n h)
-number_back style (whole k) n h = whole_back (whole k) n h
+number_back style (whole k) n h = whole_back (style.floors_times && same_kind k kind.Timestamp) (whole k) n h
 number_back style document n h = plain_back document n h
 number_back style (other k) n h = plain_back (other k) n h
 
@@ -104,7 +103,7 @@ string_back style http_date s = blank_back style.floors_times HttpDate http_date
 string_back style big_integer s = go (is_integer s) refl
   where
     go : (b : Bool) → is_integer s ≡ b → unwire style big_integer (if b then json.number s else json.string s) ≡ Ok (doc.string s)
-    go true is = ap (λ b. ok_or (if b then Some (doc.string s) else option_map (λ n. doc.string (number_text n)) (whole_number s)) (unread s big_integer)) is
+    go true is = ap (λ b. ok_or (if b then Some (doc.string s) else option_map doc.string (whole_decimal s)) (unread s big_integer)) is
     go false is = ap (λ b. Ok (option_map_or doc.number (if b then plain_number s else None) (doc.string s))) is
 string_back style big_decimal s = go (is_number s) refl
   where
@@ -128,7 +127,7 @@ mutual
   unwire-wire style f (doc.number n) stand h = number_back style f n h
   unwire-wire style f (doc.string s) stand h = string_back style f s
   unwire-wire style f (doc.array ds) stand h =
-      ap (λ r. then_give r doc.array) (items_back style (element_form f) 0 ds (λ is. each_element NodeStands closed_stands f (stand is)) h)
+      ap (λ r. then_give r doc.array) (items_back style (element_form f) 0 ds (λ is. each_element StructureStands closed_stands f (stand is)) h)
   unwire-wire style f (doc.object ms) stand h =
       ap (λ r. then_give r (λ ps. doc.object (members_of ps))) (pairs_back style f ms stand h) ∙ ap (λ os. Ok (doc.object os)) (all_put ms (sound_ascend ms h))
 
@@ -141,4 +140,4 @@ mutual
   pairs_back style f doc.no_members stand h = refl
   pairs_back style f (doc.member k d ms) stand h =
       ap (λ n. then_try (within (part_step f n) (unwire style (part_form f n) (wire style.json_names (part_form f k) d))) λ x. then_give (unwire_pairs style f (wire_members style.json_names f ms)) (λ ps. (n, x) ∷ ps)) (name_back style.json_names f k stand)
-      ∙ ap₂ (λ r q. then_try (within (part_step f k) r) λ x. then_give q (λ ps. (k, x) ∷ ps)) (unwire-wire style (part_form f k) d (λ is. each_part NodeStands closed_stands f k (stand is)) h.1) (pairs_back style f ms stand h.3)
+      ∙ ap₂ (λ r q. then_try (within (part_step f k) r) λ x. then_give q (λ ps. (k, x) ∷ ps)) (unwire-wire style (part_form f k) d (λ is. each_part StructureStands closed_stands f k (stand is)) h.1) (pairs_back style f ms stand h.3)

@@ -1,7 +1,7 @@
 -- What the text of a document by a node keeps.
 use Rattle.std.specs.Prelude.{◌≡◌, ℕ, Bool, IsTrue, List, Ok}
 use Rattle.smithy_serde.specs.Lawful.{IsLawfulText, TellsApart, is_sound}
-use Rattle.smithy_wire.specs.Words.{Schema, Document, members_of}
+use Rattle.smithy_wire.specs.Words.{Schema, Document}
 use Rattle.smithy_wire.specs.declared.side.Side.{Side}
 use Rattle.smithy_wire.specs.declared.wire_style.WireStyle.{WireStyle}
 use Rattle.std.specs.Prelude.{Option}
@@ -14,7 +14,7 @@ use Rattle.smithy_wire.specs.WireText.{wire_text, wire_held}
 
 -- two swaps of a name give it back
 abbrev pub UndoesItself : Type 0
-UndoesItself = (side : Option Side) (s : Schema) (name : List ℕ) → IsTrue (names_stand (members_of s)) → swapped side s (swapped side s name) ≡ name
+UndoesItself = (side : Option Side) (s : Schema) (name : List ℕ) → IsTrue (names_stand side s) → swapped side s (swapped side s name) ≡ name
 
 abbrev pub IsReadBack : Type 0
 IsReadBack = (style : WireStyle) (f : Form) (d : Document) → Stand style.json_names f → IsTrue (is_sound d) → unwire style f (wire style.json_names f d) ≡ Ok d

@@ -1,5 +1,5 @@
 -- Where a value of a body doesn't follow its node (Smithy, data model: the values of simple and aggregate types).
-use Rattle.std.specs.Prelude.{ℕ, ℤ, suc, ◌==◌, ◌||◌, Bool, true, false, not, List, [], codes, ◌++◌, decimal, length, Option, Some, None, option_map, is_some, unwrap_or, if◌then◌else◌}
+use Rattle.std.specs.Prelude.{ℕ, ℤ, suc, ◌==◌, ◌||◌, Bool, true, false, not, List, [], codes, ◌++◌, decimal, length, Option, None, option_map, is_some, unwrap_or, if◌then◌else◌}
 use Rattle.smithy_ids.specs.Kinds.{same_kind}
 use Rattle.smithy_ids.specs.declared.shape_type.ShapeType.TheVariants as kind
 use Rattle.smithy_types.specs.Results.{unless}
@@ -11,7 +11,7 @@ use Rattle.smithy_serde.specs.Values as value
 use Rattle.smithy_serde.specs.Values.{Label, Scalar, Value, scalar, list, structure, Writes, no_writes, write, list_of, text_of_key}
 use Rattle.smithy_serde.specs.declared.error.SerdeError.TheVariants.{UnknownMember, UnsupportedOperation, Custom}
 use Rattle.smithy_schema.specs.Nodes.{Binding, binding_of, to_body, to_payload}
-use Rattle.smithy_wire.specs.Words.{Schema, ShapeType, SerdeError, InvalidInput, option_map_or, option_or, member_named, shape}
+use Rattle.smithy_wire.specs.Words.{Schema, SerdeError, InvalidInput, option_map_or, option_or, member_named, shape}
 use Rattle.smithy_wire.specs.ExactNumbers.{is_number, is_integer}
 use Rattle.smithy_wire.specs.Forms.{Form, fields, date_time, http_date, big_integer, big_decimal, element_form, part_form, form_kind, form_word, whole_form}
 use Rattle.smithy_wire.specs.Unwire.{item_step, part_step}
@@ -159,3 +159,11 @@ cause_told (NoNumber text) path = InvalidInput (text ++ (codes " at " ++ (path +
 -- the refusal of an input
 abbrev pub misfit_told : Misfit → SerdeError
 misfit_told m = cause_told m.cause (without_point m.path)
+
+-- that of the first place in the body of an input that doesn't follow its node, none where all follows
+unfoldable pub body_misfit_told : Schema → Writes → Option SerdeError
+body_misfit_told schema ws = option_map misfit_told (body_misfit schema ws)
+
+-- the same in all of it
+unfoldable pub whole_misfit_told : Schema → Writes → Option SerdeError
+whole_misfit_told schema ws = option_map misfit_told (whole_misfit schema ws)

@@ -1,10 +1,12 @@
 // The numbers of JSON texts, without rounding.
 ghost use Rattle.std.specs.Prelude.{◌≡◌, ◌==◌, ◌||◌, if◌then◌else◌, drop, option_map, IfOk};
+ghost use Rattle.std.specs.Fmt.{signed_decimal};
 ghost use Rattle.smithy_types.specs.DocumentView.{number_view};
 ghost use Rattle.smithy_types.specs.BigNumbers.{is_digit};
 ghost use Rattle.smithy_wire.specs.Words.{list_all, number_text};
-ghost use Rattle.smithy_wire.specs.ExactNumbers.{plain_in, is_number, is_integer, is_below_zero, parts_of, plain_number, exact_in, whole_number, decimal_number};
+ghost use Rattle.smithy_wire.specs.ExactNumbers.{plain_in, is_number, is_integer, is_below_zero, parts_of, plain_number, exact_in, whole_number, floor_number, integer_number, whole_decimal, decimal_number};
 
+use crate::whole_parts::{floor_in, whole_in};
 use fast_float::Numeral;
 use smithy_types::{Number, OutOfMemory, Text};
 use std::alloc::Global;
@@ -106,6 +108,49 @@ pub(crate) fn whole_number(text: &str) -> Option<Number>
             let bytes = text.as_bytes();
             exact_in(&parts_of(bytes), is_below_zero(bytes))
         }
+    }
+}
+
+// The number, or its floor, within 64 bits.
+fn floor_number(text: &str) -> Option<Number>
+    ensures { option_map number_view result ≡ floor_number text.now }
+{
+    match whole_number(text) {
+        Some(number) => Some(number),
+        None => {
+            let bytes = text.as_bytes();
+            floor_in(&parts_of(bytes), is_below_zero(bytes))
+        }
+    }
+}
+
+/// The number within 64 bits, however it is spelled, whose fraction is dropped toward minus infinity, or has to be worth
+/// nothing. Takes no memory.
+pub(crate) fn integer_number(floors: bool, text: &str) -> Option<Number>
+    ensures { option_map number_view result ≡ integer_number floors text.now }
+{
+    if floors {
+        floor_number(text)
+    } else {
+        whole_number(text)
+    }
+}
+
+// The number that is whole and within 128 bits.
+fn whole_value(text: &str) -> Option<i128>
+    ensures { option_map signed_decimal result ≡ whole_decimal text.now }
+{
+    let bytes = text.as_bytes();
+    whole_in(&parts_of(bytes), is_below_zero(bytes))
+}
+
+/// Its decimal. Takes memory.
+pub(crate) fn whole_decimal(alloc: Global, text: &str) -> Result<Option<Text>, OutOfMemory>
+    ensures { IfOk result (λ o. o ≡ whole_decimal text.now) }
+{
+    match whole_value(text) {
+        Some(value) => Ok(Some(Text::from_string(format!(in alloc; "{value}")?))),
+        None => Ok(None),
     }
 }
 

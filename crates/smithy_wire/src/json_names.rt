@@ -1,9 +1,9 @@
 // The names in JSON of the nodes of a table.
-ghost use Rattle.std.specs.Prelude.{◌≡◌};
 ghost use Rattle.smithy_wire.specs.views.FieldNames.{Knows, Knows-prop};
 
+use crate::columns::fill_all;
 use crate::node_names::{NodeNames, node_names};
-use smithy_schema::{Provider, SchemaExtension, SchemaIndex, SchemaRef, Schemas};
+use smithy_schema::{Provider, SchemaExtension, SchemaRef, Schemas};
 use smithy_types::OutOfMemory;
 use std::alloc::Global;
 
@@ -34,16 +34,6 @@ type Column<'t> = SchemaExtension<'t, NodeNames, NamesOfNodes>;
 pub struct JsonNames<'t> {
     pub(crate) column: Column<'t>,
     ghost known: { Knows column column.table } by { Knows-prop column column.table },
-}
-
-// Fills each cell.
-fn fill_all(column: &mut Column<'_>, places: usize) -> Result<(), OutOfMemory>
-    ensures { column.new.table ≡ column.old.table }
-{
-    for place in 0..places {
-        column.fill(SchemaIndex(place))?;
-    }
-    Ok(())
 }
 
 impl<'t> JsonNames<'t> {

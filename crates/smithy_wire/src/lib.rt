@@ -1,6 +1,7 @@
 // JSON as AWS's protocols write it by a node of a table.
 #![tactic(auto)]
 
+mod columns;
 mod exact_numbers;
 mod forms;
 mod json_names;
@@ -15,6 +16,7 @@ mod side;
 mod standing;
 mod time_texts;
 mod unread;
+mod whole_parts;
 mod wire_codec;
 mod wire_json;
 mod wire_serializer;
@@ -26,7 +28,7 @@ pub use json_values::json_in;
 pub use misfit::{check_body, check_whole};
 pub use names::json_name;
 pub use side::Side;
-pub use standing::names_stand;
+pub use standing::{names_stand, whole_names_stand};
 pub use wire_codec::wire_json_is_lawful;
 pub use wire_json::WireJson;
 pub use wire_serializer::WireSerializer;

@@ -5,9 +5,9 @@ ghost use Rattle.smithy_serde.specs.StoredValues.{label_at, value_in, write_in, 
 ghost use Rattle.smithy_serde.specs.Values.{text_of_key};
 ghost use Rattle.smithy_types.specs.declared.date_time.Format.TheVariants.{EpochSeconds};
 ghost use Rattle.smithy_wire.specs.Words.{schema_of};
-ghost use Rattle.smithy_wire.specs.Misfits.{body_misfit, entry_misfit, field_misfit, here, is_outside, is_union, item_misfit, misfit, misfit_told, outside, takes, told_name, whole_misfit, wrong_count, wrong_decimal, wrong_integer, wrong_kind, wrong_name, wrong_number, wrong_time, wrong_year};
+ghost use Rattle.smithy_wire.specs.Misfits.{body_misfit, body_misfit_told, entry_misfit, field_misfit, here, is_outside, is_union, item_misfit, misfit, misfit_told, outside, takes, told_name, whole_misfit_told, wrong_count, wrong_decimal, wrong_integer, wrong_kind, wrong_name, wrong_number, wrong_time, wrong_year};
 ghost use Rattle.smithy_wire.specs.views.FormView.{form_view};
-ghost use Rattle.smithy_wire.specs.views.MisfitView.{Finds, FindsBehind, FindsField, FindsNamed, FindsOuter, FindsText, TellsMisfit, TellsOf};
+ghost use Rattle.smithy_wire.specs.views.MisfitView.{Finds, FindsBehind, FindsField, FindsNamed, FindsOuter, FindsText, TellsFound, TellsMisfit, TellsOf};
 ghost use Rattle.smithy_wire.specs.views.WireReads.{step_view};
 ghost use Rattle.smithy_wire.specs.declared.misfit.Misfit.{Misfit as Place};
 
@@ -437,7 +437,7 @@ fn told(alloc: Global, misfit: &Misfit) -> Result<SerdeError, OutOfMemory>
 }
 
 fn answer(alloc: Global, tried: Result<(), Refused>) -> Result<(), SerdeError>
-    ensures { (found : Option Place) → Finds found tried → TellsMisfit found result }
+    ensures { (found : Option Place) → Finds found tried → TellsFound found result }
 {
     match tried {
         Ok(()) => Ok(()),
@@ -460,7 +460,7 @@ pub fn check_body(
     schema: SchemaRef<'_>,
     input: &WriteList,
 ) -> Result<(), SerdeError>
-    ensures { TellsMisfit (body_misfit (schema_of schema.entry) (writes_in table.now input.now)) result }
+    ensures { TellsMisfit (body_misfit_told (schema_of schema.entry) (writes_in table.now input.now)) result }
 {
     answer(alloc, test_body(alloc, table, schema, input))
 }
@@ -472,7 +472,7 @@ pub fn check_whole(
     schema: SchemaRef<'_>,
     input: &WriteList,
 ) -> Result<(), SerdeError>
-    ensures { TellsMisfit (whole_misfit (schema_of schema.entry) (writes_in table.now input.now)) result }
+    ensures { TellsMisfit (whole_misfit_told (schema_of schema.entry) (writes_in table.now input.now)) result }
 {
     answer(alloc, test_fields(alloc, table, Form::of(schema), input))
 }

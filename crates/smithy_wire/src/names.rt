@@ -1,10 +1,10 @@
 // The names of fields in JSON (Smithy, jsonName trait).
 ghost use Rattle.std.specs.Prelude.{◌≡◌, true, option_map};
 ghost use Rattle.std.specs.Borrow.{Bor};
-ghost use Rattle.smithy_wire.specs.Words.{member_at, members_of, name_of, schema_of};
+ghost use Rattle.smithy_wire.specs.Words.{name_of, schema_of};
 ghost use Rattle.smithy_wire.specs.WireNames.{json_name, is_elsewhere, is_field, if_field, field_named, field_in_json, names_stand};
 ghost use Rattle.smithy_wire.specs.views.FieldNames.{MayTell, Tells};
-ghost use Rattle.smithy_wire.specs.views.MemberSteps.{json_field_at, if_named};
+ghost use Rattle.smithy_wire.specs.views.MemberSteps.{field_by_index, json_field_at};
 ghost use Rattle.smithy_wire.specs.declared.node_names.NodeNames.{NodeNames as Told};
 
 use crate::node_names::NodeNames;
@@ -71,6 +71,17 @@ pub(crate) fn field_named<'t>(
     if_field(side, schema.member_schema(name)?)
 }
 
+/// The field that the member at a position is, where it is one. Takes no memory.
+pub(crate) fn field_by_index<'t>(
+    side: Option<Side>,
+    schema: SchemaRef<'t>,
+    position: usize,
+) -> Option<SchemaRef<'t>>
+    ensures { option_map schema_of result ≡ field_by_index side (schema_of schema.entry) position }
+{
+    if_field(side, schema.member_schema_by_index(position)?)
+}
+
 // The member at a position, where it is a field that has this name in JSON.
 fn field_at<'t>(
     side: Option<Side>,
@@ -100,18 +111,6 @@ fn field_in_json<'t>(side: Option<Side>, schema: SchemaRef<'t>, name: &str) -> O
     None
 }
 
-// The member at a position, where it has this name in JSON.
-fn named_at<'t>(schema: SchemaRef<'t>, position: usize, name: &str) -> Option<SchemaRef<'t>>
-    ensures { option_map schema_of result ≡ if_named name.now (member_at (schema_of schema.entry) position) }
-{
-    let member = schema.member_schema_by_index(position)?;
-    if json_name(member) == name {
-        Some(member)
-    } else {
-        None
-    }
-}
-
 // The field that has this name in JSON, where names stand: it is looked for at this position first.
 fn field_found<'t>(
     side: Option<Side>,
@@ -119,11 +118,11 @@ fn field_found<'t>(
     position: usize,
     name: &str,
 ) -> Option<SchemaRef<'t>>
-    requires { names_stand (members_of (schema_of schema)) ≡ true }
+    requires { names_stand side (schema_of schema) ≡ true }
     ensures { option_map schema_of result ≡ field_in_json side (schema_of schema.entry) name.now }
 {
-    match named_at(schema, position, name) {
-        Some(member) => if_field(side, member),
+    match field_at(side, schema, position, name) {
+        Some(member) => Some(member),
         None => field_in_json(side, schema, name),
     }
 }
@@ -135,7 +134,7 @@ fn told_field<'t>(
     schema: SchemaRef<'t>,
     name: &str,
 ) -> Option<SchemaRef<'t>>
-    requires stand { names_stand (members_of (schema_of schema)) ≡ true }
+    requires stand { names_stand side (schema_of schema) ≡ true }
     requires told { Tells (schema_of schema) names.now }
     ensures { option_map schema_of result ≡ field_in_json side (schema_of schema.entry) name.now }
 {
@@ -157,7 +156,7 @@ pub(crate) fn json_field<'t>(
     schema: SchemaRef<'t>,
     name: &str,
 ) -> Option<SchemaRef<'t>>
-    requires stand { names_stand (members_of (schema_of schema)) ≡ true }
+    requires stand { names_stand side (schema_of schema) ≡ true }
     requires told { MayTell (schema_of schema) (option_map (λ (t : Bor Told). t.now) told) }
     ensures { option_map schema_of result ≡ field_in_json side (schema_of schema.entry) name.now }
 {

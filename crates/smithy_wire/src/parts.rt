@@ -3,7 +3,7 @@ ghost use Rattle.std.specs.Borrow.{Bor};
 ghost use Rattle.std.specs.Prelude.{◌≡◌, true, option_map};
 ghost use Rattle.smithy_wire.specs.Forms.{element_form, fields, form_of, name_in, part_form};
 ghost use Rattle.smithy_wire.specs.WireNames.{field_in_json, named_in_json, names_stand, swapped};
-ghost use Rattle.smithy_wire.specs.Words.{members_of, name_of, option_map_or, schema_of};
+ghost use Rattle.smithy_wire.specs.Words.{name_of, option_map_or, schema_of};
 ghost use Rattle.smithy_wire.specs.views.FieldNames.{MayTell, Tells};
 ghost use Rattle.smithy_wire.specs.views.PartView.{IsPart, IsWritten};
 ghost use Rattle.smithy_wire.specs.views.WireOf.{form_in, names_in, style_in};
@@ -96,7 +96,7 @@ impl<'t> WireJson<'t> {
         name: &'t str,
     ) -> Part<'t>
         requires form { form_in self ≡ fields side (schema_of schema) }
-        requires stand { names_stand (members_of (schema_of schema)) ≡ true }
+        requires stand { names_stand side (schema_of schema) ≡ true }
         requires told { MayTell (schema_of schema) (option_map (λ (t : Bor Told). t.now) told) }
         ensures { IsPart self.entry (swapped side (schema_of schema.entry) name.now) result }
     {
@@ -118,7 +118,7 @@ impl<'t> WireJson<'t> {
         name: &'t str,
     ) -> Part<'t>
         requires form { form_in self ≡ fields side (schema_of schema) }
-        requires stand { names_stand (members_of (schema_of schema)) ≡ true }
+        requires stand { names_stand side (schema_of schema) ≡ true }
         requires told { Tells (schema_of schema) names.now }
         ensures { IsPart self.entry (swapped side (schema_of schema.entry) name.now) result }
     {

@@ -1,8 +1,8 @@
 // Values of JSON as documents, by a node.
-ghost use Rattle.std.specs.Prelude.{◌≡◌, Ok, option_map};
+ghost use Rattle.std.specs.Prelude.{◌≡◌, false, Ok, option_map};
 ghost use Rattle.smithy_types.specs.DocumentView.{view, number_view};
 ghost use Rattle.smithy_types.specs.Documents as doc;
-ghost use Rattle.smithy_wire.specs.ExactNumbers.{plain_number};
+ghost use Rattle.smithy_wire.specs.ExactNumbers.{integer_number, plain_number};
 ghost use Rattle.smithy_wire.specs.Forms as form_of;
 ghost use Rattle.smithy_wire.specs.Unwire.{decimal_read};
 ghost use Rattle.smithy_wire.specs.WireTimes.{before_blank};
@@ -11,12 +11,15 @@ ghost use Rattle.smithy_wire.specs.views.FormView.{form_view};
 ghost use Rattle.smithy_wire.specs.views.WireOf.{form_in, style_in};
 ghost use Rattle.smithy_wire.specs.views.WireReads.{Reads, ReadsGiven, ReadsItems, ReadsMembers, ReadsNumber, ReadsString, ReadsTime, ReadsValue};
 
-use crate::exact_numbers::{decimal_number, is_integer, number_text, plain_number, whole_number};
+use crate::exact_numbers::{
+    decimal_number, integer_number, is_integer, plain_number, whole_decimal,
+};
 use crate::forms::Form;
 use crate::time_texts::spelled_seconds;
 use crate::unread::{ReadError, Step, cannot_read, part_step, within};
 use crate::wire_json::WireJson;
 use json::Value;
+use smithy_ids::ShapeType;
 use smithy_types::{Document, Documents, Format, Members, Number, Text};
 use std::alloc::Global;
 
@@ -52,25 +55,44 @@ fn free_number(text: &str) -> Document
 }
 
 fn big_integer(alloc: Global, text: &str) -> Result<Document, ReadError>
-    ensures { ReadsNumber form_of.big_integer text.now result }
+    ensures { ReadsNumber false form_of.big_integer text.now result }
 {
     if is_integer(text) {
         return string_document(alloc, text);
     }
-    match whole_number(text) {
-        Some(number) => Ok(Document::String(number_text(alloc, number)?)),
+    match whole_decimal(alloc, text)? {
+        Some(decimal) => Ok(Document::String(decimal)),
         None => Err(cannot_read(alloc, text, Form::BigInteger)),
     }
 }
 
-fn read_number(alloc: Global, form: Form<'_>, text: &str) -> Result<Document, ReadError>
-    ensures { ReadsNumber (form_view form.entry) text.now result }
+// A number of a kind; the fraction of a time may be dropped.
+fn integer_document(
+    alloc: Global,
+    floors: bool,
+    form: Form<'_>,
+    text: &str,
+) -> Result<Document, ReadError>
+    ensures { ReadsGiven (form_view form.entry) text.now (integer_number floors text.now) result }
+{
+    number_document(alloc, form, text, integer_number(floors, text))
+}
+
+fn read_number(
+    alloc: Global,
+    floors: bool,
+    form: Form<'_>,
+    text: &str,
+) -> Result<Document, ReadError>
+    ensures { ReadsNumber floors (form_view form.entry) text.now result }
 {
     match form {
         Form::Free => Ok(free_number(text)),
-        Form::DateTime => number_document(alloc, form, text, whole_number(text)),
-        Form::HttpDate => number_document(alloc, form, text, whole_number(text)),
-        Form::Whole(_) => number_document(alloc, form, text, whole_number(text)),
+        Form::DateTime => integer_document(alloc, floors, form, text),
+        Form::HttpDate => integer_document(alloc, floors, form, text),
+        Form::Whole(kind) => {
+            integer_document(alloc, floors && kind == ShapeType::Timestamp, form, text)
+        }
         Form::BigInteger => big_integer(alloc, text),
         Form::BigDecimal => string_document(alloc, text),
         Form::Fields(_, _) => number_document(alloc, form, text, plain_number(text)),
@@ -150,7 +172,7 @@ pub(crate) fn document_of(
     match value {
         Value::Null => Ok(Document::Null),
         Value::Bool(truth) => Ok(Document::Bool(*truth)),
-        Value::Number(text) => read_number(alloc, wire.form, *text),
+        Value::Number(text) => read_number(alloc, wire.style.floors_times, wire.form, *text),
         Value::String(text) => read_string(alloc, wire.style.floors_times, wire.form, *text),
         Value::Array(items) => {
             let found = items_of(alloc, wire.element(), items)?;

@@ -33,15 +33,15 @@ impl<'t> WireJson<'t> {
     ghost use Rattle.smithy_types.specs.DocumentView.{view};
     ghost use Rattle.smithy_wire.specs.Forms.{body_form, whole_form};
     ghost use Rattle.smithy_wire.specs.Styles.{refusing};
-    ghost use Rattle.smithy_wire.specs.WireNames.{stands};
+    ghost use Rattle.smithy_wire.specs.WireNames.{stands, whole_stands};
     ghost use Rattle.smithy_wire.specs.WireText.{wire_text, wire_held};
     ghost use Rattle.smithy_wire.specs.Words.{schema_of};
     ghost use Rattle.smithy_wire.specs.views.WireOf.{form_in, names_in, style_in, GivesHeld, IsHeld, IsHeldIn};
     ghost use Rattle.smithy_wire.specs.views.KnownForms.{AreOf};
 
     /// The JSON of a message's body by the schema of an input or an output, in a style. Fields are found by the names that are
-    /// given, which are of the schema's table, or else one member after another. Condition: with JSON names, names stand,
-    /// which `names_stand` tests. Takes no memory.
+    /// given, which are of the schema's table, or else one member after another. Condition: with JSON names, names stand in the
+    /// message, which `names_stand` tests. Takes no memory.
     #[tactic(auto, using(crate::proofs::StandLemmas::body_stands_as, crate::proofs::KnownLemmas::body_known_as))]
     pub fn of_body(
         side: Side,
@@ -49,7 +49,7 @@ impl<'t> WireJson<'t> {
         style: WireStyle,
         names: Option<&'t JsonNames<'t>>,
     ) -> WireJson<'t>
-        requires stand { IsTrue style.json_names → IsTrue (stands (schema_of schema)) }
+        requires stand { IsTrue style.json_names → IsTrue (stands side (schema_of schema)) }
         requires table { AreOf (schema_of schema).table names }
         ensures form { form_in result ≡ body_form side (schema_of schema.entry) }
         ensures style { style_in result ≡ style }
@@ -64,7 +64,7 @@ impl<'t> WireJson<'t> {
     /// The JSON of a request's body by the schema of an input, with JSON names where they are to be applied, which refuses
     /// fractions of seconds. Condition: then names stand, which `names_stand` tests. Takes no memory.
     pub fn of_input(schema: SchemaRef<'t>, json_names: bool) -> WireJson<'t>
-        requires { IsTrue json_names → IsTrue (stands (schema_of schema)) }
+        requires { IsTrue json_names → IsTrue (stands Side.Request (schema_of schema)) }
         ensures form { form_in result ≡ body_form Side.Request (schema_of schema.entry) }
         ensures names { names_in result ≡ json_names }
         ensures style { style_in result ≡ refusing json_names }
@@ -74,7 +74,7 @@ impl<'t> WireJson<'t> {
 
     /// The same of a response's body, by the schema of an output or an error.
     pub fn of_output(schema: SchemaRef<'t>, json_names: bool) -> WireJson<'t>
-        requires { IsTrue json_names → IsTrue (stands (schema_of schema)) }
+        requires { IsTrue json_names → IsTrue (stands Side.Response (schema_of schema)) }
         ensures form { form_in result ≡ body_form Side.Response (schema_of schema.entry) }
         ensures names { names_in result ≡ json_names }
         ensures style { style_in result ≡ refusing json_names }
@@ -87,15 +87,16 @@ impl<'t> WireJson<'t> {
         )
     }
 
-    /// The JSON of a body that holds the whole value of a node, whatever bindings it has, in a style. How fields are found,
-    /// and the condition, are as of `of_body`.
+    /// The JSON of a body that holds the whole value of a node, whatever bindings it has, in a style. How fields are found is
+    /// as of `of_body`. Condition: with JSON names, names stand in the whole value, which `whole_names_stand` tests. Takes no
+    /// memory.
     #[tactic(auto, using(crate::proofs::StandLemmas::whole_stands_as, crate::proofs::KnownLemmas::whole_known_as))]
     pub fn of_node(
         schema: SchemaRef<'t>,
         style: WireStyle,
         names: Option<&'t JsonNames<'t>>,
     ) -> WireJson<'t>
-        requires stand { IsTrue style.json_names → IsTrue (stands (schema_of schema)) }
+        requires stand { IsTrue style.json_names → IsTrue (whole_stands (schema_of schema)) }
         requires table { AreOf (schema_of schema).table names }
         ensures form { form_in result ≡ whole_form (schema_of schema.entry) }
         ensures style { style_in result ≡ style }
@@ -109,7 +110,7 @@ impl<'t> WireJson<'t> {
 
     /// The same with JSON names where they are to be applied, which refuses fractions of seconds.
     pub fn of_whole(schema: SchemaRef<'t>, json_names: bool) -> WireJson<'t>
-        requires { IsTrue json_names → IsTrue (stands (schema_of schema)) }
+        requires { IsTrue json_names → IsTrue (whole_stands (schema_of schema)) }
         ensures form { form_in result ≡ whole_form (schema_of schema.entry) }
         ensures names { names_in result ≡ json_names }
         ensures style { style_in result ≡ refusing json_names }

@@ -32,7 +32,7 @@ aws_bodies schema = record { content_type = codes "application/json"; text_of = 
 -- by a schema that a request can be placed by, and whose names stand, the outcome is the request of these writes, or their first fault
 abbrev pub AwsAnswers : Schema → Writes → List ℕ → OmitFlags → Result Http SerdeError → Type 0
 AwsAnswers schema ws endpoint omit result =
-    checked_input schema ≡ true → stands schema ≡ true → Answers result (answer (aws_bodies schema) schema (list_of ws) endpoint omit)
+    checked_input schema ≡ true → stands Request schema ≡ true → Answers result (answer (aws_bodies schema) schema (list_of ws) endpoint omit)
 
 -- where the body is a document by the node, the structure comes back from that
 abbrev pub ComesFromBody : WireJson → List ℕ → ValueReader → Result StructValue SerdeError → Type 0

@@ -14,11 +14,11 @@ use smithy_http::Request;
 use smithy_schema::SchemaRef;
 use smithy_serde::{OmitFlags, SerdeError, SerializableStruct, StructValue, ValueReader};
 use smithy_types::{Blob, DiscriminatedDocument, NoSettings};
-use smithy_wire::{WireJson, names_stand, wire_json_is_lawful};
+use smithy_wire::{Side, WireJson, names_stand, wire_json_is_lawful};
 use std::alloc::Global;
 
-/// The JSON body of an input as restJson1 has it, with its names in JSON; None where a name of the schema's table is that of two
-/// members. It refuses with `Custom` where the input has no document. Takes memory.
+/// The JSON body of an input as restJson1 has it, with its names in JSON; None where names don't stand in requests by the
+/// schema. It refuses with `Custom` where the input has no document. Takes memory.
 pub fn aws_body(
     alloc: Global,
     schema: SchemaRef<'_>,
@@ -26,7 +26,7 @@ pub fn aws_body(
 ) -> Result<Option<Blob>, SerdeError>
     ensures { IfOk result (λ o. IfSome o (IsAwsBody (schema_of schema.entry) (writes input.now))) }
 {
-    if !names_stand(alloc, schema)? {
+    if !names_stand(alloc, schema, Side::Request)? {
         return Ok(None);
     }
     let told = DiscriminatedDocument::<NoSettings>::from_struct(alloc, schema, input)?;
@@ -35,7 +35,7 @@ pub fn aws_body(
 }
 
 /// The request of an input as restJson1 has it: by its binding traits, its body with names in JSON, or the first fault. It is
-/// refused where no request can be placed by the schema, and where a name of its table is that of two members. Takes memory.
+/// refused where no request can be placed by the schema, and where names don't stand in requests by it. Takes memory.
 pub fn aws_request(
     alloc: Global,
     schema: SchemaRef<'_>,
@@ -45,9 +45,9 @@ pub fn aws_request(
 ) -> Result<Request, SerdeError>
     ensures answer { AwsAnswers (schema_of schema.entry) (members_of input.now) endpoint.now omit result }
     ensures refused { checked (schema_of schema.entry) ≡ false → IsErr result }
-    ensures unnamed { stands (schema_of schema.entry) ≡ false → IsErr result }
+    ensures unnamed { stands Side.Request (schema_of schema.entry) ≡ false → IsErr result }
 {
-    if !checked_input(alloc, schema)? || !names_stand(alloc, schema)? {
+    if !checked_input(alloc, schema)? || !names_stand(alloc, schema, Side::Request)? {
         return Err(unplaced(alloc));
     }
     let protocol = HttpBindingProtocol::rest_json(WireJson::of_input(schema, true));

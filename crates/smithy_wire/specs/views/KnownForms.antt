@@ -19,8 +19,8 @@ AreOf t (Some names) = table_in names.now ≡ t
 -- what they say of each node of the form's table is so
 abbrev pub IsKnown : Option (Bor JsonNames) → Form → Type 0
 IsKnown None f = ⊤
-IsKnown (Some names) f = Each (λ n. Knows names.now.column n.table) f
+IsKnown (Some names) f = Each (λ side s. Knows names.now.column s.table) f
 
 pub IsKnown-prop : (names : Option (Bor JsonNames)) (f : Form) → IsProp (IsKnown names f)
 IsKnown-prop None f = Unit-prop
-IsKnown-prop (Some names) f = each_prop (λ n. Knows names.now.column n.table) (λ n. Knows-prop names.now.column n.table) f
+IsKnown-prop (Some names) f = each_prop (λ side s. Knows names.now.column s.table) (λ side s. Knows-prop names.now.column s.table) f

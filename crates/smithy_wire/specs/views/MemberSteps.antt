@@ -2,7 +2,7 @@
 use Rattle.std.specs.Prelude.{ℕ, ◌&&◌, List, drop, find, filter, filter_map, Option, Some, None, if◌then◌else◌}
 use Rattle.smithy_wire.specs.Words.{Schema, at_place, member_at, same_text, option_map_or}
 use Rattle.smithy_wire.specs.declared.side.Side.{Side}
-use Rattle.smithy_wire.specs.WireNames.{json_name, is_field}
+use Rattle.smithy_wire.specs.WireNames.{json_name, if_field, is_field}
 use Rattle.smithy_wire.specs.Forms.{is_coded_payload}
 
 -- those from a position on
@@ -13,9 +13,13 @@ members_from schema i = filter_map (at_place schema.table) (drop i schema.node.m
 abbrev pub if_in_json : Option Side → List ℕ → Option Schema → Option Schema
 if_in_json side name member = option_map_or (λ m. if is_field side m && same_text (json_name m) name then Some m else None) member None
 
--- the member, where it has this name in JSON
-abbrev pub if_named : List ℕ → Option Schema → Option Schema
-if_named name member = option_map_or (λ m. if same_text (json_name m) name then Some m else None) member None
+-- the field that the member at a position is, where it is one
+abbrev pub field_by_index : Option Side → Schema → ℕ → Option Schema
+field_by_index side schema i = option_map_or (if_field side) (member_at schema i) None
+
+-- the fields from a position on
+abbrev pub fields_from : Option Side → Schema → ℕ → List Schema
+fields_from side schema i = filter (is_field side) (members_from schema i)
 
 -- the field that the member at a position is, where it has this name in JSON
 abbrev pub json_field_at : Option Side → List ℕ → Schema → ℕ → Option Schema
@@ -23,7 +27,7 @@ json_field_at side name schema i = if_in_json side name (member_at schema i)
 
 -- the first such member from a position on
 abbrev pub json_from : Option Side → List ℕ → Schema → ℕ → Option Schema
-json_from side name schema i = find (λ m. same_text (json_name m) name) (filter (is_field side) (members_from schema i))
+json_from side name schema i = find (λ m. same_text (json_name m) name) (fields_from side schema i)
 
 -- the member at a position, where it is a payload that a codec writes
 abbrev pub coded_payload_in : Schema → ℕ → Option Schema

@@ -41,6 +41,11 @@ abbrev pub FindsBehind : {A : Type 0} → List ℕ → Result A Refused → Resu
 FindsBehind step tried result = (found : Option Misfit) → Finds found tried → Finds (behind step found) result
 
 -- the refusal of what is to be found, and none exactly where nothing is; want of memory is free
-abbrev pub TellsMisfit : {A : Type 0} → Option Misfit → Result A SerdeError → Type 0
-TellsMisfit found (Ok u) = found ≡ None
-TellsMisfit found (Err e) = (option_map misfit_told found ≡ Some e) ⊎ (e ≡ OutOfMemory)
+abbrev pub TellsFound : {A : Type 0} → Option Misfit → Result A SerdeError → Type 0
+TellsFound found (Ok u) = found ≡ None
+TellsFound found (Err e) = (option_map misfit_told found ≡ Some e) ⊎ (e ≡ OutOfMemory)
+
+-- this refusal, and none exactly where there is none; want of memory is free
+abbrev pub TellsMisfit : {A : Type 0} → Option SerdeError → Result A SerdeError → Type 0
+TellsMisfit told (Ok u) = told ≡ None
+TellsMisfit told (Err e) = (told ≡ Some e) ⊎ (e ≡ OutOfMemory)

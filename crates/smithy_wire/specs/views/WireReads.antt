@@ -42,8 +42,8 @@ step_view (step.Key name) = codes "[\"" ++ (name.now ++ codes "\"]")
 abbrev pub ReadsGiven : Form → List ℕ → Option Number → Result code.Document ReadError → Type 0
 ReadsGiven f s n result = Reads view (ok_or (option_map doc.number n) (unread s f)) result
 
-abbrev pub ReadsNumber : Form → List ℕ → Result code.Document ReadError → Type 0
-ReadsNumber f s result = Reads view (ok_or (number_read f s) (unread s f)) result
+abbrev pub ReadsNumber : Bool → Form → List ℕ → Result code.Document ReadError → Type 0
+ReadsNumber floors f s result = Reads view (ok_or (number_read floors f s) (unread s f)) result
 
 abbrev pub ReadsTime : Bool → Format → Form → List ℕ → Result code.Document ReadError → Type 0
 ReadsTime floors format f s result = Reads view (ok_or (time_read floors format s) (unread s f)) result

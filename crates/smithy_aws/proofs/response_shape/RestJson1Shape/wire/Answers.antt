@@ -11,7 +11,7 @@ use Rattle.smithy_aws.proofs.response_shape.RestJson1Shape.wire.Goals as goal
 pub of_output-requires : goal.of_output-requires
 of_output-requires c = λ is.
     let s = c.args.self.now in
-    subst (λ n. IsTrue (stands n)) (sym (same_node s.table.now s.shape.0 (schema_of c.in-Some.schema) s.has_node c.in-Some.ensures.node)) (and_parts _ _ s.taken).1
+    subst (λ n. IsTrue (stands side.Response n)) (sym (same_node s.table.now s.shape.0 (schema_of c.in-Some.schema) s.has_node c.in-Some.ensures.node)) (and_parts _ _ s.taken).1
 
 pub returns-clause-form : goal.returns-clause-form
 returns-clause-form c =

@@ -1,7 +1,7 @@
 use Rattle.smithy_wire.proofs.Common.{sym, ap, ◌∙◌, ◌+◌, ◌&&◌, arith}
 use Rattle.smithy_wire.specs.views.ShownNames.{table_stands_from}
 use Rattle.smithy_wire.proofs.MemberLemmas.{table_from-more, table_end}
-use Rattle.smithy_wire.proofs.standing.table_names_stand.Goals as goal
+use Rattle.smithy_wire.proofs.standing.table_stands.Goals as goal
 
 pub returns-then-not-branch : goal.returns-then-not-branch
 returns-then-not-branch c =

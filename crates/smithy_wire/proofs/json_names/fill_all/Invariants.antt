@@ -1,5 +1,0 @@
-use Rattle.smithy_wire.proofs.Common.{◌≡◌}
-use Rattle.smithy_wire.proofs.json_names.fill_all.Given as goal
-
-abbrev pub invariant-loop-place : goal.invariant-loop-place
-invariant-loop-place l = l.column.table ≡ l.initial.column.table
