@@ -13,21 +13,27 @@ use Rattle.smithy_serde.specs.declared.error.SerdeError.{SerdeError}
 use Rattle.smithy_serde.specs.declared.error.SerdeError.TheVariants.{OutOfMemory}
 use Rattle.smithy_serde.specs.declared.struct_value.StructValue.{StructValue}
 use Rattle.smithy_wire.specs.Forms.{Form, whole_form}
-use Rattle.smithy_wire.specs.Styles.{refusing}
 use Rattle.smithy_wire.specs.WireText.{wire_held}
+use Rattle.smithy_wire.specs.declared.wire_style.WireStyle.{WireStyle}
+
+-- with names in JSON or without; fractions of seconds are dropped or refused
+abbrev pub style_of : Bool → Bool → WireStyle
+style_of names floors = record { json_names = names; floors_times = floors }
 
 -- what a reader of the body has at hand, which is told of each body
-abbrev pub held_in_body : Bool → Form → Response → Held
-held_in_body names f r = unwrap_or (wire_held (refusing names) f (unwrap_or r.body [])) (refused OutOfMemory)
+abbrev pub held_in_body : WireStyle → Form → Response → Held
+held_in_body style f r = unwrap_or (wire_held style f (unwrap_or r.body [])) (refused OutOfMemory)
 
--- AWS JSON 1.0 and 1.1: what the body has for the members, whatever bindings they have; a null member is not there
-unfoldable pub aws_json_value : Schema → Response → Result Value SerdeError
-aws_json_value n r = then_give (value_of_structure value_read (shape n) (held_in_body false (whole_form n) r)) present
+-- AWS JSON 1.0 and 1.1: what the body has for the members, whatever bindings they have; a null member is not there. Fractions of
+-- seconds are dropped or refused.
+unfoldable pub aws_json_value : Bool → Schema → Response → Result Value SerdeError
+aws_json_value floors n r =
+    then_give (value_of_structure value_read (shape n) (held_in_body (style_of false floors) (whole_form n) r)) present
 
 -- the structure is the value that is read, or the refusal is the first one; want of memory is free
 abbrev pub GivesValue : Result Value SerdeError → Result StructValue SerdeError → Type 0
 GivesValue value result = Gives structure_of (Some value) result
 
 -- the same by the node at a place
-abbrev pub GivesAwsJson : Table → ℕ → Response → Result StructValue SerdeError → Type 0
-GivesAwsJson table place r result = (n : Schema) → at_place table place ≡ Some n → GivesValue (aws_json_value n r) result
+abbrev pub GivesAwsJson : Bool → Table → ℕ → Response → Result StructValue SerdeError → Type 0
+GivesAwsJson floors table place r result = (n : Schema) → at_place table place ≡ Some n → GivesValue (aws_json_value floors n r) result

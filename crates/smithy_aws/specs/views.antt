@@ -1,1 +1,4 @@
+pub mod Calls
+pub mod Inputs
 pub mod ReadyInputs
+pub mod Sent

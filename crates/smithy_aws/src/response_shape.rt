@@ -10,7 +10,7 @@ use smithy_response::response_value;
 use smithy_schema::{SchemaIndex, SchemaRef, Schemas};
 use smithy_serde::{Codec, SerdeError, StructValue};
 use smithy_types::OutOfMemory;
-use smithy_wire::{Side, WireJson, names_stand};
+use smithy_wire::{Side, WireJson, WireStyle, names_stand};
 use std::alloc::Global;
 
 /// A shape that responses of AWS restJson1 are read by: an output, or a modelled error.
@@ -19,6 +19,7 @@ pub struct RestJson1Shape<'t> {
     table: &'t Schemas,
     shape: SchemaIndex,
     is_error: bool,
+    floors_times: bool,
     ghost has_node: { HasNode table.now shape.0 },
     ghost taken: { IsTrue (takes_responses (schema_in table.now shape.0)) },
 }
@@ -27,11 +28,10 @@ impl<'t> RestJson1Shape<'t> {
     ghost use Rattle.std.specs.Prelude.{◌≡◌, true, IfOk};
     ghost use Rattle.smithy_wire.specs.Forms as forms;
     ghost use Rattle.smithy_wire.specs.WireOf.{form_in, style_in};
-    ghost use Rattle.smithy_wire.specs.Styles.{refusing};
     ghost use Rattle.smithy_wire.specs.declared.side.Side.TheVariants as side;
-    ghost use Rattle.smithy_aws.specs.BodyValues.{GivesValue};
+    ghost use Rattle.smithy_aws.specs.BodyValues.{style_of, GivesValue};
     ghost use Rattle.smithy_aws.specs.ResponseShapes.{shape_of, IsTaken};
-    ghost use Rattle.smithy_aws.specs.ResponseValues.{rest_json1_value};
+    ghost use Rattle.smithy_aws.specs.ResponseValues.{floored, rest_json1_value};
 
     /// The shape at a place of a table, as an output or as a modelled error; None exactly where no response can be read by it
     /// (`checked_output`), or where names don't stand in it (`names_stand`). Condition: the node is defined.
@@ -55,7 +55,21 @@ impl<'t> RestJson1Shape<'t> {
             table,
             shape,
             is_error,
+            floors_times: false,
         }))
+    }
+
+    /// The same shape, which drops fractions of seconds in bodies, toward minus infinity, where one that is new refuses them. Takes no
+    /// memory.
+    pub fn with_floored_times(self) -> RestJson1Shape<'t>
+        ensures { shape_of result ≡ floored (shape_of self.entry) }
+    {
+        RestJson1Shape {
+            table: self.table,
+            shape: self.shape,
+            is_error: self.is_error,
+            floors_times: true,
+        }
     }
 
     /// The value of a response: what its status, its headers and its body have for the members of the shape, the body by their
@@ -88,13 +102,17 @@ impl<'t> RestJson1Shape<'t> {
     // The JSON of a body.
     fn wire(&self) -> WireJson<'t>
         ensures form { form_in result ≡ forms.body_form side.Response (shape_of self.now).schema }
-        ensures style { style_in result ≡ refusing true }
+        ensures style { style_in result ≡ style_of true (shape_of self.now).floors_times }
     {
         let table = self.table;
         let Some(schema) = table.get(self.shape) else {
             unreachable!()
         };
-        WireJson::of_output(schema, true)
+        let style = WireStyle {
+            json_names: true,
+            floors_times: self.floors_times,
+        };
+        WireJson::of_body(Side::Response, schema, style, None)
     }
 }
 
