@@ -12,6 +12,7 @@ mod misfits;
 mod models;
 mod outputs;
 mod pointing;
+mod protocols;
 mod requests;
 mod runs;
 mod schema_text;
@@ -59,6 +60,9 @@ fn of_jobs(alloc: Global, call: &str, given: &Value) -> Result<Option<Text>, Fai
         return Ok(Some(text));
     }
     if let Some(text) = items::answer(alloc, call, given)? {
+        return Ok(Some(text));
+    }
+    if let Some(text) = protocols::answer(alloc, call, given)? {
         return Ok(Some(text));
     }
     if let Some(text) = many::answer(alloc, call, given)? {

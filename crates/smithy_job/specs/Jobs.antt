@@ -102,6 +102,10 @@ schema_among asked k = schema_at asked (operation_among k)
 abbrev pub errors_among : List (List ℕ) → Keys → Option Errors
 errors_among service k = errors_at service (operation_among k)
 
+-- the errors that a response may name
+unfoldable pub errors_given : Keys → Option Errors
+errors_given k = option_and_then (λ names. errors_among names k) (names_given k.service_errors)
+
 -- as the operation's output
 abbrev pub expected_output : Keys → Option Expected
 expected_output k = option_map output (schema_among models.output k)

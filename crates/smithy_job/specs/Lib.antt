@@ -1,4 +1,5 @@
 pub mod Answering
+pub mod AwsKeys
 pub mod Common
 pub mod Gateway
 pub mod Inputs
@@ -15,6 +16,7 @@ pub mod WrongInputs
 pub mod WrongJobs
 pub mod WrongMessages
 pub mod views
+pub use Rattle.smithy_job.specs.views.AwsCallView
 pub use Rattle.smithy_job.specs.views.CommonView
 pub use Rattle.smithy_job.specs.views.GatewayView
 pub use Rattle.smithy_job.specs.views.JobView

@@ -1,3 +1,4 @@
+pub mod AwsCallView
 pub mod CommonView
 pub mod GatewayView
 pub mod JobView

@@ -2,6 +2,8 @@
 #![tactic(auto)]
 
 mod answering;
+mod aws_call;
+mod aws_keys;
 mod common;
 mod gateway;
 mod input;
@@ -31,6 +33,8 @@ mod wrong_responses;
 mod wrong_routing;
 
 pub use answering::{Answering, read_answering};
+pub use aws_call::{AwsCall, AwsJsonCall, AwsProtocol, AwsReading};
+pub use aws_keys::{aws_call_of, aws_reading_of};
 pub use common::{Common, Inputs, inputs_of, read_common, read_whole};
 pub use gateway::{Gateway, Sending, read_gateway};
 pub use job_kind::JobKind;
@@ -39,7 +43,7 @@ pub use named_operations::NamedOperations;
 pub use operation::Operation;
 pub use reading::{Job, read_job};
 pub use received::{
-    CodedError, Expected, ExpectedIn, Message, Received, read_expected, read_message,
+    CodedError, Expected, ExpectedIn, Message, Received, read_errors, read_expected, read_message,
     read_received, read_received_by,
 };
 pub use recovering::{Recovering, read_recovering};

@@ -6,7 +6,7 @@ ghost use Rattle.smithy_model.specs.views.NameView.{texts};
 ghost use Rattle.smithy_model.specs.Reads.{Reads};
 ghost use Rattle.smithy_model.specs.views.ModelView.{asked_view};
 ghost use Rattle.smithy_model.specs.views.PlacedView.{Places, PlacesErrors};
-ghost use Rattle.smithy_job.specs.Jobs.{full_name_in, names_given, errors_among, schema_among, expected_output, expected_coded, expected_error, expected_by_code, expected_by_name, expected, message, received, received_by};
+ghost use Rattle.smithy_job.specs.Jobs.{full_name_in, names_given, errors_among, errors_given, schema_among, expected_output, expected_coded, expected_error, expected_by_code, expected_by_name, expected, message, received, received_by};
 ghost use Rattle.smithy_job.specs.views.KeysView.{keys_seen, value_seen};
 ghost use Rattle.smithy_job.specs.views.ReceivedView.{message_seen, IsExpectedIn, IsReceived};
 ghost use Rattle.smithy_job.specs.views.Tables.{ReadsAs};
@@ -119,6 +119,15 @@ fn errors_among<'t>(
     ensures { PlacesErrors (errors_among (texts service.now) (keys_seen keys.now)) result }
 {
     errors_at(alloc, operation_given(keys.model, keys.operation), service)
+}
+
+/// The errors that a response may name: those of the operation that stands under the keys, and those that are named as its service's.
+/// Takes memory. No job where they haven't the form, or the model hasn't what they ask for.
+pub fn read_errors(alloc: Global, keys: &Keys<'_, '_>) -> Result<PlacedErrors, JobError>
+    ensures { PlacesErrors (errors_given (keys_seen keys.now)) result }
+{
+    let service = service_errors(alloc, keys.service_errors)?;
+    errors_among(alloc, keys, service.as_slice())
 }
 
 fn expected_output<'t>(alloc: Global, keys: &Keys<'_, 't>) -> Result<ExpectedIn<'t>, JobError>
