@@ -8,6 +8,7 @@ them all again. Where nothing else stands there, as in a clone that only the gat
 
 import pathlib
 import subprocess
+import sys
 
 CRATES = pathlib.Path(__file__).resolve().parent.parent / "crates"
 NAME = "smithy_bind_c"
@@ -65,7 +66,9 @@ def build():
         if made.returncode == 0:
             return crate / "out" / f"lib{NAME}.a"
         print(made.stdout, end="", flush=True)
-    subprocess.run(["rt", "lib"], cwd=crate, check=True)
+    status = subprocess.run(["rt", "lib"], cwd=crate).returncode
+    if status != 0:
+        sys.exit(f"rt lib ended with {status} in {crate}. What it proved is kept: run it again")
     return crate / "out" / f"lib{NAME}.a"
 
 

@@ -116,13 +116,18 @@ def texts(clone, tools):
         yield Case(word, [word], clone.script, "/", tools, 0, constant("VERSION"), [])
     yield Case("no word", [], clone.script, "/", tools, 1, b"", ["smithy_bind: a command is needed", *usage()])
     for words in (
-        [""], ["post"], ["Request"], ["request", "request"], ["--help", "--help"], ["--"], ["a b"], ["*"],
+        [""], ["post"], ["Request"], ["--help", "--help"], ["--"], ["a b"], ["*"],
         ["generate"], ["generate", ""], ["generate", "100001"], ["generate", "0000003"], ["generate", "-1"],
         ["generate", "3.0"], ["generate", "3", "3"], ["request < JOB"],
-        ["explain"], ["explain", ""], ["explain", "explain"], ["explain", "generate"], ["explain", "request", "rpc"],
+        ["explain", ""], ["explain", "explain"], ["explain", "generate"], ["explain", "request", "rpc"],
     ):  # fmt: skip
         said = [re.escape(f"smithy_bind: no command: {' '.join(words)}"), *usage()]
         yield Case(f"the words {words}", words, clone.script, "/", tools, 1, b"", said)
+    for words, said in (
+        (["explain"], "explain needs a command, as in: explain request"),
+        (["request", "request"], "request takes no further word: its job is read from standard input"),
+    ):
+        yield Case(f"the words {words}", words, clone.script, "/", tools, 1, b"", [f"smithy_bind: {said}", *usage()])
 
 
 def places(clone, tools, work):
@@ -163,6 +168,7 @@ def no_json(clone, tools):
     said = [
         "smithy_bind: status 2: NotJson: byte 9",
         re.escape(f"smithy_bind: before that byte stands: {JOB[:9].decode()}"),
+        re.escape(f"smithy_bind: from that byte on stands: {JOB[9:].decode().strip(chr(10))}") + " *",
         "smithy_bind: see '.*' in .*",
     ]
     yield Case("no JSON behind the ninth byte", ["request"], clone.script, "/", tools, 2, b"", said)
