@@ -3,7 +3,7 @@ ghost use Rattle.std.specs.Prelude.{◌≡◌, IfOk};
 ghost use Rattle.smithy_serde.specs.StoredValues.{HasNode};
 ghost use Rattle.smithy_aws.specs.ResponseShapes.{shape_of};
 ghost use Rattle.smithy_bind.specs.AwsResponding.{floored_if};
-ghost use Rattle.smithy_bind.specs.views.AwsView.{IsByFor, IsTargetFor, MakesValueText, NamesReply, ReadsByAws, ReadsRestJson1, RepliesByAws};
+ghost use Rattle.smithy_bind.specs.views.AwsView.{IsByFor, IsTargetFor, MakesValueText, NamesReply, ReadsAwsJson, ReadsByAws, ReadsRestJson1, RepliesByAws};
 ghost use Rattle.smithy_bind.specs.views.ReplyView.{IsExpectable, IsSound};
 
 use crate::coded::error_of_code;
@@ -115,11 +115,25 @@ fn text_at(
         AwsProtocol::RestJson1 => {
             rest_json1_text(alloc, floors_times, table, place, is_error, message)
         }
-        AwsProtocol::AwsJson10 | AwsProtocol::AwsJson11 => {
-            let value = aws_json_value_with(alloc, &message.response, table, place, floors_times);
-            Ok(value_text(alloc, table, place, value))
-        }
+        AwsProtocol::AwsJson10 => Ok(aws_json_text(alloc, floors_times, table, place, message)),
+        AwsProtocol::AwsJson11 => Ok(aws_json_text(alloc, floors_times, table, place, message)),
     }
+}
+
+// The same by AWS JSON, whatever the node.
+fn aws_json_text(
+    alloc: Global,
+    floors_times: bool,
+    table: &Schemas,
+    place: SchemaIndex,
+    message: &Message,
+) -> Result<Blob, SerdeError>
+    requires { HasNode table.now place.0 }
+    ensures { ReadsAwsJson floors_times table.now place.0 message.now result }
+{
+    let response = &message.response;
+    let value = aws_json_value_with(alloc, response, table, place, floors_times);
+    value_text(alloc, table, place, value)
 }
 
 // The same by restJson1. No job where no response can be read by the node.

@@ -9,7 +9,7 @@ use Rattle.smithy_serde.specs.Values.{Value, Writes}
 use Rattle.smithy_serde.specs.declared.error.SerdeError.{SerdeError}
 use Rattle.smithy_serde.specs.declared.header_omit_settings.OmitFlags.{OmitFlags}
 use Rattle.smithy_serde.specs.declared.struct_value.StructValue.{StructValue}
-use Rattle.smithy_aws.specs.BodyValues.{GivesValue}
+use Rattle.smithy_aws.specs.BodyValues.{aws_json_value, GivesValue}
 use Rattle.smithy_aws.specs.ErrorCodes.{error_code}
 use Rattle.smithy_aws.specs.declared.aws_json.AwsJsonVersion.{AwsJsonVersion}
 use Rattle.smithy_model.specs.Nodes.{Errors}
@@ -78,6 +78,10 @@ ReadsText value result = ReadsAs (λ text v. MakesText (document_read v) text) v
 abbrev pub ReadsRestJson1 : (floors_times : Bool) → Table → ℕ → (is_error : Bool) → Message → Result (Result (List ℕ) SerdeError) JobError → Type 0
 ReadsRestJson1 floors table place is_error m result =
     (s : Schema) → at_place table place ≡ Some s → ReadsText (rest_json1_read floors s is_error (message_seen m)) result
+
+abbrev pub ReadsAwsJson : (floors_times : Bool) → Table → ℕ → Message → Result (List ℕ) SerdeError → Type 0
+ReadsAwsJson floors table place m result =
+    (s : Schema) → at_place table place ≡ Some s → MakesText (document_read (aws_json_value floors s m.response)) result
 
 abbrev pub ReadsByAws : AwsReading → Table → ℕ → (is_error : Bool) → Message → Result (Result (List ℕ) SerdeError) JobError → Type 0
 ReadsByAws reading table place is_error m result =
