@@ -84,10 +84,26 @@ fn input_told(
     match call {
         AwsCall::RestJson1 => rest_json1_told(alloc, schema, input, endpoint, omit),
         AwsCall::AwsJson10(call) => {
-            aws_json_told(alloc, AwsJsonVersion::V1_0, call, schema, input, endpoint, omit)
+            aws_json_told(
+                alloc,
+                AwsJsonVersion::V1_0,
+                call,
+                schema,
+                input,
+                endpoint,
+                omit,
+            )
         }
         AwsCall::AwsJson11(call) => {
-            aws_json_told(alloc, AwsJsonVersion::V1_1, call, schema, input, endpoint, omit)
+            aws_json_told(
+                alloc,
+                AwsJsonVersion::V1_1,
+                call,
+                schema,
+                input,
+                endpoint,
+                omit,
+            )
         }
     }
 }
@@ -127,5 +143,8 @@ fn aws_json_told(
         service: call.service,
         is_query_compatible: call.is_query_compatible,
     };
-    told(alloc, by.request(alloc, schema, call.operation, input, endpoint, omit))
+    told(
+        alloc,
+        by.request(alloc, schema, call.operation, input, endpoint, omit),
+    )
 }
