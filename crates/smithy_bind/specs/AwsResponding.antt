@@ -35,10 +35,14 @@ abbrev pub named_error : Errors → Option (List ℕ) → Result Expected SerdeE
 named_error errors (Some code) = Ok (jobs.coded code errors)
 named_error errors None = Err (InvalidInput (codes "the response names no error"))
 
--- As the job says it; else the output where the response is a success, and the error that it names where it is none.
+-- the job says it, or the response is a success, and so the output
+abbrev pub is_asked : Keys → Response → Bool
+is_asked k r = says_error k || is_success r.status
+
+-- what the job asks, and else the error that the response names
 unfoldable pub expected_for : Keys → Response → Option (Result Expected SerdeError)
 expected_for k r =
-    if says_error k || is_success r.status then option_map Ok (expected k)
+    if is_asked k r then option_map Ok (expected k)
     else option_map (λ errors. named_error errors (error_code r)) (errors_given k)
 
 -- what it is read by: a schema, or no error has the code

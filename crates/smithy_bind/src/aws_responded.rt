@@ -1,17 +1,18 @@
 // The command `aws response`: the value of a response by a protocol of AWS.
-ghost use Rattle.std.specs.Prelude.{◌≡◌};
+ghost use Rattle.std.specs.Prelude.{◌≡◌, false, IsTrue};
 ghost use Rattle.smithy_json.specs.JsonView.{view};
 ghost use Rattle.smithy_aws.specs.ErrorShapes.{is_success};
 ghost use Rattle.smithy_job.specs.KeysView.{keys_seen};
-ghost use Rattle.smithy_bind.specs.AwsResponding.{aws_replied, aws_responded, replied_by, says_error};
+ghost use Rattle.smithy_bind.specs.AwsResponding.{aws_replied, aws_responded, is_asked, replied_by, says_error};
 ghost use Rattle.smithy_bind.specs.views.AnswerView.{Gives};
-ghost use Rattle.smithy_bind.specs.views.AwsView.{StandSomehow, TellsError, TellsExpected};
+ghost use Rattle.smithy_bind.specs.views.AwsView.{StandSomehow, TellsError, TellsExpected, TellsMessage};
 ghost use Rattle.smithy_bind.specs.views.ReplyView.{IsExpectable};
 
 use crate::aws_target::{aws_reply, aws_target};
 use crate::response::{responded, told};
 use crate::told::{Answer, refused};
 use smithy_aws::error_code;
+use smithy_http::Response;
 use smithy_job::{
     AwsReading, CodedError, Expected, ExpectedIn, Keys, Message, aws_reading_of, read_errors,
     read_expected, read_message,
@@ -60,6 +61,13 @@ fn is_success(status: u16) -> bool
     matches!(status, 200..=299)
 }
 
+// Whether the job says it, or the response is a success.
+fn is_asked(keys: &Keys<'_, '_>, response: &Response) -> bool
+    ensures { result ≡ is_asked (keys_seen keys.now) response.now }
+{
+    says_error(keys) || is_success(response.status())
+}
+
 // What is to be told of a response that is read so.
 #[tactic(auto, unfolding(crate::specs::AwsResponding::aws_replied))]
 fn response_told(
@@ -71,16 +79,43 @@ fn response_told(
 {
     let keys = Keys::of(value);
     let message = read_message(alloc, &keys)?;
-    if says_error(&keys) || is_success(message.response.status()) {
-        let expected = read_expected(alloc, &keys)?;
-        return expected_told(alloc, reading, expected, &message);
+    if is_asked(&keys, &message.response) {
+        asked_told(alloc, reading, &keys, &message)
+    } else {
+        error_told(alloc, reading, &keys, &message)
     }
-    let errors = read_errors(alloc, &keys)?;
-    error_told(alloc, reading, errors, &message)
 }
 
-// What is to be told of a response that is read as the error that it names.
+// What is to be told of a message that is read as the job asks.
+fn asked_told(
+    alloc: Global,
+    reading: AwsReading,
+    keys: &Keys<'_, '_>,
+    message: &Message,
+) -> Result<Answer, JobError>
+    requires { IsTrue (is_asked (keys_seen keys.now) message.now.response) }
+    ensures { TellsMessage reading keys.now message.now result }
+{
+    let expected = read_expected(alloc, keys)?;
+    expected_told(alloc, reading, expected, message)
+}
+
+// What is to be told of a message that is read as the error that it names.
 fn error_told(
+    alloc: Global,
+    reading: AwsReading,
+    keys: &Keys<'_, '_>,
+    message: &Message,
+) -> Result<Answer, JobError>
+    requires { is_asked (keys_seen keys.now) message.now.response ≡ false }
+    ensures { TellsMessage reading keys.now message.now result }
+{
+    let errors = read_errors(alloc, keys)?;
+    named_error_told(alloc, reading, errors, message)
+}
+
+// What is to be told of a message that is read as the one of these errors that it names.
+fn named_error_told(
     alloc: Global,
     reading: AwsReading,
     errors: PlacedErrors,
@@ -105,7 +140,7 @@ fn error_told(
     expected_told(alloc, reading, expected, message)
 }
 
-// What is to be told of a response that is read as this.
+// What is to be told of a message that is read as this.
 fn expected_told(
     alloc: Global,
     reading: AwsReading,

@@ -168,6 +168,7 @@ fn floored_if<'t>(floors_times: bool, shape: RestJson1Shape<'t>) -> RestJson1Sha
 }
 
 // The JSON text of a value that was read by the node at an index.
+#[tactic(auto, using(crate::proofs::ReplyLemmas::value_refused, crate::proofs::ReplyLemmas::value_text))]
 fn value_text(
     alloc: Global,
     table: &Schemas,

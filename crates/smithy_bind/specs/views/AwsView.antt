@@ -18,16 +18,18 @@ use Rattle.smithy_model.specs.declared.error.JobError.{JobError}
 use Rattle.smithy_model.specs.declared.table.PlacedErrors.{PlacedErrors}
 use Rattle.smithy_job.specs.AwsCallView.{call_seen, json_call_seen}
 use Rattle.smithy_job.specs.Jobs as jobs
+use Rattle.smithy_job.specs.KeysView.{keys_seen}
 use Rattle.smithy_job.specs.ReceivedView.{message_seen, IsExpected, IsExpectedIn}
 use Rattle.smithy_job.specs.Tables.{ReadsAs}
 use Rattle.smithy_job.specs.declared.aws_call.AwsCall.{AwsCall}
 use Rattle.smithy_job.specs.declared.aws_call.AwsJsonCall.{AwsJsonCall}
 use Rattle.smithy_job.specs.declared.aws_call.AwsReading.{AwsReading}
+use Rattle.smithy_job.specs.declared.keys.Keys.{Keys}
 use Rattle.smithy_job.specs.declared.received.Expected.{Expected}
 use Rattle.smithy_job.specs.declared.received.ExpectedIn.{ExpectedIn}
 use Rattle.smithy_job.specs.declared.received.Message.{Message}
 use Rattle.smithy_bind.specs.AwsRequesting.{aws_json_sent, aws_sent, call_by, rest_json1_sent}
-use Rattle.smithy_bind.specs.AwsResponding.{aws_reply_by, aws_target, named_error, reply_as, rest_json1_read, value_read}
+use Rattle.smithy_bind.specs.AwsResponding.{aws_reply_by, aws_target, message_read, named_error, reply_as, rest_json1_read, value_read}
 use Rattle.smithy_bind.specs.Responding as answers
 use Rattle.smithy_bind.specs.Responding.{document_read, reply_with, told_reply}
 use Rattle.smithy_bind.specs.Told.{outcome_of}
@@ -107,3 +109,7 @@ TellsExpected reading expected m result =
 abbrev pub TellsError : AwsReading → PlacedErrors → Message → Result Answer JobError → Type 0
 TellsError reading placed m result =
     (errors : Errors) → ArePlaced placed errors → Gives (outcome_of told_reply (reply_as reading (message_seen m) (named_error errors (error_code m.response)))) result
+
+-- what is told of a message under these keys
+abbrev pub TellsMessage : AwsReading → Keys → Message → Result Answer JobError → Type 0
+TellsMessage reading keys m result = Gives (outcome_of told_reply (message_read reading (keys_seen keys) (message_seen m))) result
