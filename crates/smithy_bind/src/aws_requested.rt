@@ -52,7 +52,7 @@ fn named_told(
 // What is to be told of a job whose input is sent so.
 #[tactic(auto, unfolding(crate::specs::Outcome::sent_job))]
 fn call_told(alloc: Global, call: AwsCall<'_>, value: &JsonValue<'_>) -> Result<Answer, JobError>
-    ensures { Gives (sent_job (aws_sent (call_seen call)) (view value.now)) result }
+    ensures { Gives (sent_job (aws_sent (call_seen call.entry)) (view value.now)) result }
 {
     let Job {
         table,
@@ -79,7 +79,7 @@ fn input_told(
     endpoint: &str,
     omit: OmitFlags,
 ) -> Result<Answer, JobError>
-    ensures { SendsByAws call schema.entry (members_of input.entry) endpoint.now omit result }
+    ensures { SendsByAws call.entry schema.entry (members_of input.entry) endpoint.now omit result }
 {
     match call {
         AwsCall::RestJson1 => rest_json1_told(alloc, schema, input, endpoint, omit),
@@ -136,7 +136,7 @@ fn aws_json_told(
     endpoint: &str,
     omit: OmitFlags,
 ) -> Result<Answer, JobError>
-    ensures { SendsCall version call schema.entry (members_of input.entry) endpoint.now omit result }
+    ensures { SendsCall version call.entry schema.entry (members_of input.entry) endpoint.now omit result }
 {
     let by = AwsJson {
         version,

@@ -122,7 +122,7 @@ fn named_error_told(
     message: &Message,
 ) -> Result<Answer, JobError>
     requires { StandSomehow errors }
-    ensures { TellsError reading errors.entry message.now result }
+    ensures { TellsError reading errors message.now result }
 {
     let Some(code) = error_code(alloc, &message.response)? else {
         let refusal = SerdeError::invalid_input(alloc, "the response names no error");

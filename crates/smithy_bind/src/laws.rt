@@ -48,7 +48,6 @@ pub fn each_reply_is_alone()
 
 /// Where bytes have no protocol under `protocol`, as where they are no JSON, `aws request` answers what `request` does, and `aws
 /// response` what `response` does, whatever codec the bodies are written by.
-#[tactic(auto, using(crate::proofs::AwsLaws::is_plain))]
 pub fn aws_is_plain_without_protocol()
     ensures { AwsIsPlain }
 {}

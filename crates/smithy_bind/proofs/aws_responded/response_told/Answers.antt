@@ -20,8 +20,8 @@ returns-then-is_asked c =
     subst (λ (k : Keys). Gives (outcome_of told_reply (aws_reply c.args.reading k)) c.asked_told.result) c.of-keys.ensures
     (message_so c.args.reading (keys_seen c.of-keys.result) c.asked_told.result c.in_ok-message.message c.in_ok-message.ensures c.asked_told.ensures)
 
-pub returns-else-is_asked : goal.returns-else-is_asked
+pub returns : goal.returns
 unfolding aws_replied
-returns-else-is_asked c =
+returns c =
     subst (λ (k : Keys). Gives (outcome_of told_reply (aws_reply c.args.reading k)) c.error_told.result) c.of-keys.ensures
     (message_so c.args.reading (keys_seen c.of-keys.result) c.error_told.result c.in_ok-message.message c.in_ok-message.ensures c.error_told.ensures)

@@ -16,7 +16,7 @@ returns-in_err-text-in-Schema c = λ is by.
     schema_refused c.args.reading c.args.target.now.table c.in-Schema.place c.in-Schema.is_error c.in-Schema.is_coded c.args.message.now c.in_err-text-in-Schema.field-0.0 c.from_residual.result (search rules)
     c.in_err-text-in-Schema.ensures is (rw c.in-Schema.is at by)
 
-pub returns-in-Schema : goal.returns-in-Schema
-returns-in-Schema c = λ is by.
-    schema_replied c.args.reading c.args.target.now.table c.in-Schema.place c.in-Schema.is_error c.in-Schema.is_coded c.args.message.now c.in_ok-text.text c.name_at.result c.named.result
-    c.in_ok-text.ensures c.name_at.ensures c.named.ensures is (rw c.in-Schema.is at by)
+pub returns-in_ok-text-in-Schema : goal.returns-in_ok-text-in-Schema
+returns-in_ok-text-in-Schema c = λ is by.
+    schema_replied c.args.reading c.args.target.now.table c.in-Schema.place c.in-Schema.is_error c.in-Schema.is_coded c.args.message.now c.in_ok-text-in-Schema.text c.name_at.result c.named.result
+    c.in_ok-text-in-Schema.ensures c.name_at.ensures c.named.ensures is (rw c.in-Schema.is at by)

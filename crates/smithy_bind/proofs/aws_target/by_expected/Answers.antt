@@ -16,8 +16,8 @@ pub error_of_code-requires-clause-service : goal.error_of_code-requires-clause-s
 error_of_code-requires-clause-service c =
     let stand = coded_stand c.args.table.now c.in-Coded.error (rw c.in-Coded.is at c.requires) in (stand.0.service, stand.1.service)
 
-pub returns-in-Coded-Some : goal.returns-in-Coded-Some
-returns-in-Coded-Some c = rw c.in-Coded.is (coded_for c.args.table.now c.in-Coded.error c.in-Coded-Some.place (rw c.in-Coded-Some.is at c.in_ok-error_of_code.ensures))
+pub returns-in-Some : goal.returns-in-Some
+returns-in-Some c = rw c.in-Coded.is (coded_for c.args.table.now c.in-Coded.error c.in-Some.place (rw c.in-Some.is at c.in_ok-place-in-Coded.ensures))
 
-pub returns-in-Coded-None : goal.returns-in-Coded-None
-returns-in-Coded-None c = rw c.in-Coded.is (unknown_for c.args.table.now c.in-Coded.error (rw c.in-Coded-None.is at c.in_ok-error_of_code.ensures))
+pub returns-in-None : goal.returns-in-None
+returns-in-None c = rw c.in-Coded.is (unknown_for c.args.table.now c.in-Coded.error (rw c.in-None.is at c.in_ok-place-in-Coded.ensures))

@@ -10,4 +10,4 @@ returns-in_default c = λ s at. no_shape_read c.args.floors_times c.args.is_erro
 pub returns : goal.returns
 returns c = λ s at.
     shape_read c.args.floors_times c.args.is_error s c.args.message.now (shape_of c.in-Some.shape) c.value-value.result c.value_text.result
-    ((rw c.in-Some.is at c.in_ok-shape.ensures) ∙ ap (option_and_then (taken c.args.is_error)) at) (shape_of c.floored_if.result) c.floored_if.ensures c.value-value.ensures c.value_text.ensures
+    ((rw c.in-Some.is at c.in_ok-shape.ensures) ∙ ap (option_and_then (taken c.args.is_error)) at) (shape_of c.floored_if-shape.result) c.floored_if-shape.ensures c.value-value.ensures c.value_text.ensures
