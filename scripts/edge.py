@@ -222,6 +222,8 @@ WITHOUT_BUCKET = GET.replace(b'"Bucket": "b"', b'"Bucket": ""')
 NO_BUCKET = b"InvalidInput: invalid input: Bucket was missing: cannot be empty or unset\n"
 WITHOUT_BODY = GET.replace(b'{\\"Name\\":\\"a\\"}', b"")
 NO_JSON = b"InvalidInput: invalid input: body is not JSON\n"
+BY_AWS = ("aws request", "aws response")
+BY_REST_JSON1 = GET[:-1] + b', "protocol": "aws.protocols#restJson1"}'
 NO_TARGET = b"Custom: invalid endpoint URI: not a legal request target\n"
 WITHOUT_LABEL = GET.replace(b'"target": "/b"', b'"target": "/"')
 NO_INPUT = b"NotPlaced: no typed input has this request\n"
@@ -263,6 +265,7 @@ def words():
         ["generate"], ["generate", ""], ["generate", "100001"], ["generate", "0000003"], ["generate", "-1"],
         ["generate", "+3"], ["generate", "3.0"], ["generate", "3", "3"], ["generate", "٣"],
         ["explain"], ["explain", ""], ["explain", "explain"], ["explain", "generate"], ["explain", "request", "rpc"],
+        ["explain", "aws"], ["aws request"], ["aws"], ["aws", ""], ["aws", "rpc"], ["aws", "request", "request"], ["aws", "\udcff"],
         ["\udcff"], ["request\udcff"], ["request", "\udcff"], ["\udcff", "request"], ["generate", "3\udcc3"],
     ):  # fmt: skip
         yield Case(f"the words {them}", them, given, Pipe(), 1, b"", 0)
@@ -292,6 +295,11 @@ def inputs():
         ("a request that is sent on", "gateway", GET, 0, CALL),
         ("a call that is sent on", "gateway", CALLED, 0, GOTTEN),
         ("a request of no input, sent on", "gateway", WITHOUT_LABEL, 3, NO_INPUT),
+        ("a request by no protocol of AWS", "aws request", GET, 0, GOTTEN),
+        ("a request by restJson1", "aws request", BY_REST_JSON1, 0, GOTTEN),
+        ("a request by another protocol", "aws request", GET[:-1] + b', "protocol": "aws.protocols#restXml"}', 2, b""),
+        ("a response by no protocol of AWS", "aws response", GET, 0, b'{"Name":"a"}\n'),
+        ("a response by restJson1", "aws response", BY_REST_JSON1, 0, b'{"Name":"a"}\n'),
         ("a text of 40,000 bytes", "rpc", job, 0, request),
         ("a job that is explained", "explain request", GET, 0, b"Job\n"),
         ("no bytes, explained", "explain route", b"", 0, b"NotJson: byte 0\n"),
@@ -383,7 +391,7 @@ def lengths():
 
 def failed_reads():
     """Standard input that can't be read, or not to its end."""
-    for command in ("request", "requests", "response", "responses", "rpc", "recover", "route", "gateway", "answer", "explain request"):
+    for command in ("request", "requests", "response", "responses", "rpc", "recover", "route", "gateway", "answer", "explain request", *BY_AWS):
         yield Case(f"{command} of a folder", command.split(), Path("/"), Pipe(), 4, b"")
         yield Case(f"{command} without standard input", command.split(), File(GET), Pipe(), 4, b"", None, close(0))
         for data in (b"", GET[:9], GET):
@@ -401,6 +409,8 @@ def failed_writes():
         ("an input", ["recover"], GET),
         ("an operation and an input", ["route"], GET),
         ("a request that is sent on", ["gateway"], GET),
+        ("a request by restJson1", ["aws", "request"], BY_REST_JSON1),
+        ("a response by restJson1", ["aws", "response"], BY_REST_JSON1),
         ("the line of a job", ["explain", "request"], GET),
         ("a text of 40,000 bytes", ["rpc"], job),
         ("generate 3", ["generate", "3"], b""),
@@ -426,7 +436,7 @@ def failed_writes():
 
 def without_memory():
     """An input for which there is not enough memory."""
-    for command in ("request", "requests", "response", "responses", "rpc", "recover", "route", "gateway", "answer", "explain request"):
+    for command in ("request", "requests", "response", "responses", "rpc", "recover", "route", "gateway", "answer", "explain request", *BY_AWS):
         first = limit(resource.RLIMIT_AS, MOST_READ)
         yield Case(f"{command} without memory", command.split(), File(GET.ljust(MOST_READ)), Pipe(), 6, b"", None, first)
 

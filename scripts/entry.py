@@ -41,6 +41,7 @@ NO_TOOLCHAIN = "#!/bin/sh\nexit 9\n"
 
 JOB = b'{"a job": [1, 2]}\n'
 COMMANDS = ("request", "requests", "rpc", "response", "responses", "recover", "route", "gateway", "answer")
+BY_AWS = ("aws request", "aws response")
 
 
 def constant(name):
@@ -93,11 +94,18 @@ def usage():
     return [*map(re.escape, lines), "smithy_bind: --help tells what each does"]
 
 
+def no_job(command):
+    """What is said of bytes that are no job of a command: what `explain` does, where it knows of the command."""
+    if command in BY_AWS:
+        return f"no job of {command}, or .*"
+    return f"{command} of {re.escape(JOB.decode().strip())}"
+
+
 def why(status, command, folder):
     """The lines of standard error where a command ends with this status."""
     lines = {
         2: [
-            rf"smithy_bind: status 2: {command} of {re.escape(JOB.decode().strip())}",
+            f"smithy_bind: status 2: {no_job(command)}",
             rf"smithy_bind: see '.*' in {re.escape(str(folder))}/docs/JOBS.md",
         ],
         4: ["smithy_bind: status 4: reading .*"],
@@ -119,12 +127,14 @@ def texts(clone, tools):
         [""], ["post"], ["Request"], ["--help", "--help"], ["--"], ["a b"], ["*"],
         ["generate"], ["generate", ""], ["generate", "100001"], ["generate", "0000003"], ["generate", "-1"],
         ["generate", "3.0"], ["generate", "3", "3"], ["request < JOB"],
-        ["explain", ""], ["explain", "explain"], ["explain", "generate"], ["explain", "request", "rpc"],
+        ["explain", ""], ["explain", "explain"], ["explain", "generate"], ["explain", "request", "rpc"], ["explain", "aws"],
+        ["explain", "aws request"], ["aws request"], ["aws", ""], ["aws", "rpc"], ["aws", "request", "request"],
     ):  # fmt: skip
         said = [re.escape(f"smithy_bind: no command: {' '.join(words)}"), *usage()]
         yield Case(f"the words {words}", words, clone.script, "/", tools, 1, b"", said)
     for words, said in (
         (["explain"], "explain needs a command, as in: explain request"),
+        (["aws"], "aws needs a command, as in: aws request"),
         (["request", "request"], "request takes no further word: its job is read from standard input"),
     ):
         yield Case(f"the words {words}", words, clone.script, "/", tools, 1, b"", [f"smithy_bind: {said}", *usage()])
@@ -150,9 +160,11 @@ def places(clone, tools, work):
 
 def statuses(clone, tools):
     """What is said where the program ends with a status."""
-    for command in COMMANDS:
+    for command in (*COMMANDS, *BY_AWS):
         for status in range(8):
-            yield Case(f"{command} that ends with {status}", [command], clone.script, "/", tools, status, JOB, why(status, command, clone.folder))
+            said = why(status, command, clone.folder)
+            yield Case(f"{command} that ends with {status}", command.split(), clone.script, "/", tools, status, JOB, said)
+    for command in COMMANDS:
         yield Case(f"explain {command}", ["explain", command], clone.script, "/", tools, 0, f"{command} of ".encode() + JOB, [])
     for count in ("0", "000003", "100000"):
         yield Case(f"generate {count}", ["generate", count], clone.script, "/", tools, 0, None, [])

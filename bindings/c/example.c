@@ -1,5 +1,5 @@
-/* Answers the job on standard input by a command, and ends as the program does: example request < JOB, and
- * example explain request < JOB */
+/* Answers the job on standard input by a command, and ends as the program does: example request < JOB,
+ * example explain request < JOB and example aws request < JOB */
 #include "smithy_bind.h"
 
 #include <stdio.h>
@@ -34,13 +34,25 @@ static int answer(smithy_bind_command *command, const uint8_t *job, size_t job_l
     return status;
 }
 
+/* The command by a protocol of AWS that this word names behind `aws`, or null where it names none. */
+static smithy_bind_command *named_by_aws(const char *word)
+{
+    if (strcmp(word, "request") == 0)
+        return smithy_aws_request;
+    if (strcmp(word, "response") == 0)
+        return smithy_aws_response;
+    return NULL;
+}
+
 /* The command that these words name, or null where they name none. */
 static smithy_bind_command *named(int count, char **words)
 {
-    if (count == 1)
+    if (count == 1 && strchr(words[0], ' ') == NULL)
         return smithy_bind_command_named(words[0]);
     if (count == 2 && strcmp(words[0], "explain") == 0)
         return smithy_bind_explain_of(smithy_bind_command_named(words[1]));
+    if (count == 2 && strcmp(words[0], "aws") == 0)
+        return named_by_aws(words[1]);
     return NULL;
 }
 

@@ -30,8 +30,13 @@
     ROW(gateway)  /* the POST of the input that a job's request is of, or the request of the input that it posts */ \
     ROW(answer)   /* the HTTP response of a job's output: a line of the status, the headers, an empty line, the body */
 
-/* Those whose jobs are explained, which all are. */
+/* Those whose jobs are explained, which all of these are. */
 #define SMITHY_BIND_EXPLAINED(ROW) SMITHY_BIND_COMMANDS(ROW)
+
+/* The commands by the protocol of AWS that a job names: each is called `aws` and one of these words. Nothing explains their jobs. */
+#define SMITHY_AWS_COMMANDS(ROW) \
+    ROW(request)  /* the HTTP request of a job's input */ \
+    ROW(response) /* the value that a job's response hands out, as JSON, of an error behind its full name and a line feed */
 
 /* What a call ends with: an exit status of the program. */
 enum smithy_bind_status {
@@ -63,6 +68,11 @@ typedef uint8_t smithy_bind_command(const uint8_t *job, size_t job_len, uint8_t 
 SMITHY_BIND_COMMANDS(SMITHY_BIND_DECLARED)
 #undef SMITHY_BIND_DECLARED
 
+/* Those by a protocol of AWS: smithy_aws_request and smithy_aws_response. */
+#define SMITHY_BIND_DECLARED(name) smithy_bind_command smithy_aws_##name;
+SMITHY_AWS_COMMANDS(SMITHY_BIND_DECLARED)
+#undef SMITHY_BIND_DECLARED
+
 /* What explains them: smithy_bind_explain_request and so on. Its text is one line, that the job is one of the command, or why it is
  * none; its status is SMITHY_BIND_DONE, SMITHY_BIND_MEMORY or SMITHY_BIND_TOO_LONG. */
 #define SMITHY_BIND_DECLARED(name) smithy_bind_command smithy_bind_explain_##name;
@@ -85,13 +95,18 @@ static inline enum smithy_bind_status smithy_bind_call(smithy_bind_command *comm
     return (enum smithy_bind_status)command((const uint8_t *)job, job_len, (uint8_t *)text, text_room, text_len);
 }
 
-/* The command with this name, or null where there is none. */
+/* The command with this name, as `request` or `aws request`, or null where there is none. */
 static inline smithy_bind_command *smithy_bind_command_named(const char *name)
 {
 #define SMITHY_BIND_NAMED(it) \
     if (strcmp(name, #it) == 0) \
         return smithy_bind_##it;
     SMITHY_BIND_COMMANDS(SMITHY_BIND_NAMED)
+#undef SMITHY_BIND_NAMED
+#define SMITHY_BIND_NAMED(it) \
+    if (strcmp(name, "aws " #it) == 0) \
+        return smithy_aws_##it;
+    SMITHY_AWS_COMMANDS(SMITHY_BIND_NAMED)
 #undef SMITHY_BIND_NAMED
     return NULL;
 }

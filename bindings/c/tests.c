@@ -91,6 +91,18 @@ static void texts_without_parts(void)
         expect(texts[it], !smithy_bind_parts_of(texts[it], strlen(texts[it]), &parts));
 }
 
+static void by_aws(const char *job, size_t job_len)
+{
+    char text[ROOM], other[ROOM];
+    size_t len = 0, other_len = 99;
+    expect("a job without a protocol has a request",
+           smithy_bind_call(smithy_aws_request, job, job_len, text, ROOM, &len) == SMITHY_BIND_DONE);
+    expect("as by the other command",
+           smithy_bind_call(smithy_bind_request, job, job_len, other, ROOM, &other_len) == SMITHY_BIND_DONE && len == other_len &&
+               memcmp(text, other, len) == 0);
+    expect("nothing explains it", smithy_bind_explain_of(smithy_aws_request) == NULL);
+}
+
 static void explained(const char *job, size_t job_len)
 {
     char text[ROOM];
@@ -112,7 +124,8 @@ static void request_of(const char *job, size_t job_len)
     struct smithy_bind_request_parts parts;
     struct smithy_bind_part name, value;
     expect("the request is found by its name", smithy_bind_command_named("request") == smithy_bind_request);
-    expect("no other is", smithy_bind_command_named("--help") == NULL);
+    expect("one of two words is", smithy_bind_command_named("aws response") == smithy_aws_response);
+    expect("no other is", smithy_bind_command_named("--help") == NULL && smithy_bind_command_named("aws rpc") == NULL);
     expect("the length is told", smithy_bind_call(smithy_bind_request, job, job_len, NULL, 0, &asked) == SMITHY_BIND_DONE);
     expect("the text is written", smithy_bind_call(smithy_bind_request, job, job_len, text, ROOM, &len) == SMITHY_BIND_DONE);
     expect("the length is the text's", asked == len && len == strlen("GET /b/x/y%20z?max=3\nx-id: 7\n\n"));
@@ -132,6 +145,7 @@ int main(void)
     lines_of_requests();
     texts_without_parts();
     request_of(job, job_len);
+    by_aws(job, job_len);
     explained(job, job_len);
     printf("%d passed, %d failed\n", passed, failed);
     return failed == 0 ? EXIT_SUCCESS : EXIT_FAILURE;

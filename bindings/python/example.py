@@ -1,5 +1,5 @@
 """Answers the job on standard input by a command, and ends as the program does, but for failed reading and writing:
-example.py LIBRARY request < JOB, example.py LIBRARY explain request < JOB"""
+example.py LIBRARY request < JOB, example.py LIBRARY explain request < JOB, example.py LIBRARY aws request < JOB"""
 
 import sys
 
@@ -8,15 +8,15 @@ import smithy_bind
 
 def answered(library, words, job):
     """The text of a command, or of what explains it."""
-    if len(words) == 1:
-        return library.answer(words[0], job)
-    return f"{library.explain(words[1], job)}\n".encode()
+    if words[0] == "explain":
+        return f"{library.explain(words[1], job)}\n".encode()
+    return library.answer(" ".join(words), job)
 
 
 def is_command(words):
-    if len(words) == 1:
-        return words[0] in smithy_bind.COMMANDS
-    return len(words) == 2 and words[0] == "explain" and words[1] in smithy_bind.EXPLAINED
+    if len(words) == 2 and words[0] == "explain":
+        return words[1] in smithy_bind.EXPLAINED
+    return words in [tuple(it.split()) for it in smithy_bind.COMMANDS]
 
 
 def main(path, *words):

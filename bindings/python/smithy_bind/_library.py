@@ -11,10 +11,15 @@ from typing import Any, Callable, Dict, List, Mapping, Tuple, TypeVar, Union
 from smithy_bind._parts import Output, Request, Response, Routed, parsed_requests, parsed_responses
 from smithy_bind._refusals import Fault, NoJob, TooLong, UnknownAnswer, refused
 
-# The commands that read a job, and those whose jobs are explained, which all are: each is the export smithy_bind_NAME of the shared
-# object, and what explains it is smithy_bind_explain_NAME.
-COMMANDS = ("request", "requests", "response", "responses", "rpc", "recover", "route", "gateway", "answer")
-EXPLAINED = COMMANDS
+# The commands whose jobs are explained: each is the export smithy_bind_NAME of the shared object, and what explains it is
+# smithy_bind_explain_NAME.
+EXPLAINED = ("request", "requests", "response", "responses", "rpc", "recover", "route", "gateway", "answer")
+
+# Those by the protocol of AWS that a job names: `aws NAME` is the export smithy_aws_NAME.
+BY_AWS = ("aws request", "aws response")
+
+# The commands that read a job.
+COMMANDS = (*EXPLAINED, *BY_AWS)
 
 # What a job is given as: JSON as a str or as bytes, or what json.dumps writes.
 Job = Union[str, bytes, bytearray, memoryview, Mapping[str, Any]]
@@ -38,7 +43,7 @@ class Library:
 
     def __init__(self, path: str | os.PathLike[str] | None = None) -> None:
         library = ctypes.CDLL(str(_found(path)))
-        self._calls = {name: _declared(library[f"smithy_bind_{name}"]) for name in COMMANDS}
+        self._calls = {name: _declared(library[_export(name)]) for name in COMMANDS}
         self._explain = {name: _declared(library[f"smithy_bind_explain_{name}"]) for name in EXPLAINED}
 
     def answer(self, command: str, job: Job) -> bytes:
@@ -97,6 +102,15 @@ class Library:
         """The HTTP response of a job's output: what the command `answer` writes."""
         return self._parted("answer", job, Response.parse)
 
+    def aws_request(self, job: Job) -> Request:
+        """The HTTP request of a job's input by the protocol of AWS that the job names, or what `request` gives where it names none."""
+        return self._parted("aws request", job, Request.parse)
+
+    def aws_response(self, job: Job) -> Output:
+        """The value that a job's response hands out by the protocol of AWS that the job names, or what `response` gives where it names
+        none. An error that was found by its code, which the response may tell itself, has its name."""
+        return self._parted("aws response", job, Output.parse)
+
     def _parted(self, command: str, job: Job, parse: Callable[[bytes], Part]) -> Part:
         text = self.answer(command, job)
         try:
@@ -113,6 +127,10 @@ def _found(path: str | os.PathLike[str] | None) -> pathlib.Path:
             f"{file} is not there: pass the path of {FILE}, or set {VARIABLE} to it. bindings/README.md says how it is made."
         )
     return file
+
+
+def _export(command: str) -> str:
+    return f"smithy_{command.replace(' ', '_')}" if command in BY_AWS else f"smithy_bind_{command}"
 
 
 def _declared(call: Any) -> Any:

@@ -110,6 +110,16 @@ class Refusals(unittest.TestCase):
         self.assertEqual(pickle.loads(pickle.dumps(refusal)).line, refusal.line)
         self.assertIn("docs/JOBS.md", str(smithy_bind.NoJob()))
 
+    def test_a_job_by_a_protocol_of_aws(self):
+        job = json.loads(example("get_object"))
+        self.assertEqual(self.library.aws_request(job), self.library.request(job))
+        job["protocol"] = "aws.protocols#restXml"
+        with self.assertRaises(smithy_bind.NoJob) as raised:
+            self.library.aws_request(job)
+        self.assertEqual(raised.exception.line, b"")
+        with self.assertRaises(KeyError):
+            self.library.explain("aws request", job)
+
     def test_a_job_is_explained(self):
         job = json.loads(example("get_object"))
         self.assertEqual(self.library.explain("request", job), "Job")

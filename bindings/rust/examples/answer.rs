@@ -1,4 +1,5 @@
-//! Answers the job on standard input by a command, and ends as the program does: answer request < JOB, answer explain request < JOB
+//! Answers the job on standard input by a command, and ends as the program does: answer request < JOB, answer explain request < JOB,
+//! answer aws request < JOB
 use smithy_bind::{answer, explain, Command, Refusal};
 use std::io::{self, Read, Write};
 use std::process::ExitCode;
@@ -7,14 +8,21 @@ fn main() -> ExitCode {
     ExitCode::from(run())
 }
 
+// The command that these words ask for, and whether its jobs are to be explained.
+fn asked(words: &[&str]) -> Option<(bool, Command)> {
+    let named = |word: &str| Command::named(word).filter(|_| !word.contains(' '));
+    match words {
+        [word] => Some((false, named(word)?)),
+        ["explain", word] => Some((true, named(word)?)),
+        ["aws", word] => Some((false, Command::named(&format!("aws {word}"))?)),
+        _ => None,
+    }
+}
+
 fn run() -> u8 {
     let words: Vec<String> = std::env::args().skip(1).collect();
-    let (explained, word) = match words.as_slice() {
-        [word] => (false, word),
-        [first, word] if first == "explain" => (true, word),
-        _ => return 1,
-    };
-    let Some(command) = Command::named(word) else {
+    let words: Vec<&str> = words.iter().map(String::as_str).collect();
+    let Some((explained, command)) = asked(&words) else {
         return 1;
     };
     let mut job = Vec::new();

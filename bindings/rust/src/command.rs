@@ -33,7 +33,7 @@ macro_rules! commands {
             /// Each command.
             pub const ALL: &'static [Command] = &[$(Command::$command),*];
 
-            /// The word that the program has for it.
+            /// The word that the program has for it, or two words with a blank between them.
             pub const fn word(self) -> &'static str {
                 match self {
                     $(Command::$command => $word,)*
@@ -75,10 +75,14 @@ commands! {
     Gateway "gateway" smithy_bind_gateway smithy_bind_explain_gateway,
     /// The HTTP response of a job's output: a line of the status, the headers, an empty line, the body.
     Answer "answer" smithy_bind_answer smithy_bind_explain_answer,
+    /// The HTTP request of a job's input by the protocol of AWS that the job names.
+    AwsRequest "aws request" smithy_aws_request,
+    /// The value that a job's response hands out by the protocol of AWS that the job names.
+    AwsResponse "aws response" smithy_aws_response,
 }
 
 impl Command {
-    /// The command of a word of the program. `None` where it is none.
+    /// The command of a word of the program, as `request`, or of two, as `aws request`. `None` where it is none.
     pub fn named(word: &str) -> Option<Command> {
         Command::ALL
             .iter()

@@ -111,6 +111,25 @@ pub fn serve(job: impl AsRef<[u8]>) -> Result<Response, Refusal> {
     parted(Command::Answer, job, Response::parse)
 }
 
+/// The HTTP request of a job's input by the protocol of AWS that the job names, or what [`request`] gives where it names none.
+///
+/// # Errors
+///
+/// The [`Refusal`] of the command `aws request`.
+pub fn aws_request(job: impl AsRef<[u8]>) -> Result<Request, Refusal> {
+    parted(Command::AwsRequest, job, Request::parse)
+}
+
+/// The value that a job's response hands out by the protocol of AWS that the job names, or what [`response`] gives where it names none.
+/// An error that was found by its code, which the response may tell itself, has its name.
+///
+/// # Errors
+///
+/// The [`Refusal`] of the command `aws response`.
+pub fn aws_response(job: impl AsRef<[u8]>) -> Result<Output, Refusal> {
+    parted(Command::AwsResponse, job, Output::parse)
+}
+
 // The parts of a command's text. A text that has none is of a library that isn't this crate's.
 fn parted<T>(
     command: Command,

@@ -7,7 +7,7 @@ use Rattle.smithy_model.specs.Names.{is}
 use Rattle.smithy_job.specs.declared.job_kind.JobKind.{JobKind}
 use Rattle.smithy_job.specs.declared.job_kind.JobKind.TheVariants as kind
 use Rattle.smithy_bind.specs.declared.command.Command.{Command}
-use Rattle.smithy_bind.specs.declared.command.Command.TheVariants.{Request, Requests, Response, Responses, Rpc, Recover, Route, Gateway, Answer, Explain, Generate, Help, Version}
+use Rattle.smithy_bind.specs.declared.command.Command.TheVariants.{Request, Requests, Response, Responses, Rpc, Recover, Route, Gateway, Answer, AwsRequest, AwsResponse, Explain, Generate, Help, Version}
 
 -- the commands that are one word
 abbrev pub named : List (List ℕ × Command)
@@ -39,6 +39,10 @@ jobs =
     ∷ (codes "answer", kind.Answer)
     ∷ []
 
+-- the commands of a job by a protocol of AWS
+abbrev pub aws_jobs : List (List ℕ × Command)
+aws_jobs = (codes "request", AwsRequest) ∷ (codes "response", AwsResponse) ∷ []
+
 -- the first of these that the word names
 abbrev pub named_in : {A : Type 0} → List (List ℕ × A) → List ℕ → Option A
 named_in [] word = None
@@ -50,16 +54,20 @@ command_named word = named_in named word
 abbrev pub job_named : List ℕ → Option JobKind
 job_named word = named_in jobs word
 
+abbrev pub aws_named : List ℕ → Option Command
+aws_named word = named_in aws_jobs word
+
 -- one to six digits that write at most 100,000
 unfoldable pub count_of : List ℕ → Option ℕ
 count_of word =
     if are_digits word && nat_le (length word) 6 && nat_le (digits_value 10 word) 100000 then Some (digits_value 10 word) else None
 
--- the command of a word with a count, or with the command of a job, behind it
+-- the command of a word with a count, or with the command of a job, or of one by a protocol of AWS, behind it
 abbrev pub command_with : List ℕ → List ℕ → Option Command
 command_with word further =
     if is word (codes "generate") then option_map Generate (count_of further)
     else if is word (codes "explain") then option_map Explain (job_named further)
+    else if is word (codes "aws") then aws_named further
     else None
 
 -- the command that the words are, of one word or of two

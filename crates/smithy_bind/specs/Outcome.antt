@@ -1,5 +1,6 @@
 -- What a command answers.
 use Rattle.std.specs.Prelude.{ℕ, codes, List, [], Result, Option, Some, None, if◌then◌else◌}
+use Rattle.std.specs.Option.{option_map_or}
 use Rattle.smithy_http.specs.Requests.{Request}
 use Rattle.smithy_schema.specs.Nodes.{Schema}
 use Rattle.smithy_serde.specs.Values.{Write, Writes, writes_of}
@@ -13,7 +14,9 @@ use Rattle.smithy_types.specs.Documents.{Document}
 use Rattle.smithy_document.specs.JsonHeld.{json_held}
 use Rattle.smithy_document.specs.JsonText.{json_text}
 use Rattle.serde_json.specs.Data.{Data, null}
+use Rattle.serde_json.specs.Find.{get}
 use Rattle.smithy_job.specs.Answering.{answering}
+use Rattle.smithy_job.specs.AwsKeys.{call_in}
 use Rattle.smithy_job.specs.Common.{many}
 use Rattle.smithy_job.specs.Gateway.{Gateway, gateway}
 use Rattle.smithy_job.specs.Jobs.{Job, job}
@@ -21,6 +24,8 @@ use Rattle.smithy_job.specs.Recovering.{Recovering, recovering}
 use Rattle.smithy_job.specs.Routing.{routing}
 use Rattle.smithy_recovery.specs.Recovered.{Reading}
 use Rattle.smithy_gateway.specs.Calls.{Calling}
+use Rattle.smithy_bind.specs.AwsRequesting.{aws_sent}
+use Rattle.smithy_bind.specs.AwsResponding.{aws_responded}
 use Rattle.smithy_bind.specs.Shown.{shown}
 use Rattle.smithy_bind.specs.Commands.{command_of, reads_input}
 use Rattle.smithy_bind.specs.Told.{Outcome, usage, no_job, output, told_by, outcome_of, by_json}
@@ -71,6 +76,14 @@ sent_by Rpc protocol j = called protocol j
 -- the answer to the job that a JSON value is
 unfoldable pub sent_job : (Job → Outcome) → Data → Outcome
 sent_job answer d = outcome_of answer (job d)
+
+-- the answer to the input that a JSON value has, by the protocol of AWS that a value names
+abbrev pub sent_by_aws : Data → Data → Outcome
+sent_by_aws protocol d = outcome_of (λ call. sent_job (aws_sent call) d) (call_in protocol d)
+
+-- the same by the protocol that the JSON value names, and what `request` answers where it names none
+unfoldable pub aws_requested : Protocol → Data → Outcome
+aws_requested bodies d = option_map_or (λ p. sent_by_aws p d) (get (codes "protocol") d) (sent_job (sent_by Rest bodies) d)
 
 -- the answer to the inputs that a JSON value has, by a protocol
 unfoldable pub requested_to : Protocol → Data → Outcome
@@ -134,6 +147,8 @@ answer_to bodies command.Recover d = recovered_to d
 answer_to bodies command.Route d = routed_to d
 answer_to bodies command.Gateway d = gatewayed_to d
 answer_to bodies command.Answer d = served_to bodies d
+answer_to bodies command.AwsRequest d = aws_requested bodies d
+answer_to bodies command.AwsResponse d = aws_responded d
 answer_to bodies (command.Explain kind) d = output (line_of_value kind d)
 answer_to bodies (command.Generate n) d = generated_by bodies n
 answer_to bodies command.Help d = output help_text

@@ -1,4 +1,5 @@
 pub mod AnswerView
+pub mod AwsView
 pub mod CodedView
 pub mod ExplainingView
 pub mod GatewayView

@@ -3,6 +3,8 @@ ghost use Rattle.smithy_json.specs.JsonView.{view};
 ghost use Rattle.smithy_bind.specs.Outcome.{answer_read, answer_to, json_bodies};
 ghost use Rattle.smithy_bind.specs.views.AnswerView.{Gives};
 
+use crate::aws_requested::aws_requested;
+use crate::aws_responded::aws_responded;
 use crate::command::Command;
 use crate::explaining::{explained, unread};
 use crate::gatewayed::gatewayed;
@@ -43,6 +45,8 @@ pub fn answer<C: Codec + Drop>(
         Command::Route => routed(alloc, value),
         Command::Gateway => gatewayed(alloc, value),
         Command::Answer => served(alloc, codec, value),
+        Command::AwsRequest => aws_requested(alloc, codec, value),
+        Command::AwsResponse => aws_responded(alloc, value),
         Command::Explain(kind) => explained(alloc, kind, value),
         Command::Generate(count) => generated(alloc, codec, count),
         Command::Help => said(alloc, help()),

@@ -2,6 +2,7 @@
 
 ghost use Rattle.std.specs.Prelude.{◌≡◌, [], Some};
 ghost use Rattle.smithy_bind.specs.Alone.{LinesAreAlone, RepliesAreAlone};
+ghost use Rattle.smithy_bind.specs.Plain.{AwsIsPlain};
 ghost use Rattle.smithy_bind.specs.Verdicts.{ExplainIsExact};
 ghost use Rattle.smithy_bind.specs.Runs.{RanInMemory};
 
@@ -43,4 +44,10 @@ pub fn each_line_is_alone()
 #[tactic(auto, using(crate::proofs::ReplyLemmas::each_alone))]
 pub fn each_reply_is_alone()
     ensures { RepliesAreAlone }
+{}
+
+/// Where bytes have no protocol under `protocol`, as where they are no JSON, `aws request` answers what `request` does, and `aws
+/// response` what `response` does, whatever codec the bodies are written by.
+pub fn aws_is_plain_without_protocol()
+    ensures { AwsIsPlain }
 {}

@@ -2,6 +2,9 @@
 #![tactic(auto)]
 
 mod answering;
+mod aws_requested;
+mod aws_responded;
+mod aws_target;
 mod coded;
 mod command;
 mod ended;

@@ -28,9 +28,9 @@ pub fn responded(alloc: Global, value: &JsonValue<'_>) -> Result<Answer, JobErro
     told(alloc, target.reply(alloc, &message))
 }
 
-// What is told of what is read of a response: its lines, or the line of the refusal.
+/// What is told of what is read of a response: its lines, or the line of the refusal. Takes memory.
 #[tactic(auto, using(crate::proofs::ReplyLemmas::reply_told, crate::proofs::ReplyLemmas::refused_told))]
-fn told(alloc: Global, made: Result<Reply<'_>, SerdeError>) -> Result<Answer, JobError>
+pub fn told(alloc: Global, made: Result<Reply<'_>, SerdeError>) -> Result<Answer, JobError>
     ensures { (is : Result answers.Reply Refusal) → Replies is made.entry → Gives (told_reply is) result }
 {
     match made {

@@ -140,8 +140,8 @@ impl<'t> Target<'t> {
         schema
     }
 
-    // Its full name, where it was found for a code.
-    fn name_at(&self, place: SchemaIndex, is_coded: bool) -> Option<&str>
+    /// Its full name, where it was found for a code. Takes no memory. Condition: the node is defined.
+    pub fn name_at(&self, place: SchemaIndex, is_coded: bool) -> Option<&str>
         requires { HasNode self.now.table place.0 }
         ensures { NamesSchema self.now.table place.0 is_coded result }
     {

@@ -16,6 +16,8 @@ Usage: smithy_bind request < JOB
        smithy_bind gateway < JOB
        smithy_bind answer < JOB
        smithy_bind explain COMMAND < JOB
+       smithy_bind aws request < JOB
+       smithy_bind aws response < JOB
        smithy_bind generate N
        smithy_bind --help
        smithy_bind --version
@@ -52,6 +54,10 @@ line: `Job` where it is one. Where the command would end with 2 that is
 `NotJson`, with the place of the first byte that can't stand there, counted from
 0; `NotChecked`, with the rule that the schema breaks; or `NoJob`, with a JSON
 Pointer to the first place that has not the form asked, and what is asked there.
+`aws request` and `aws response` do the same as `request` and `response`, but by
+the protocol of AWS that the job names: bodies then have times and big numbers
+as its services do, and in restJson1 the names in JSON. Where it names none,
+they do exactly what those do.
 `generate` reads nothing: it makes the request of an input of N numbers, N from
 0 to 100000, and writes its target, the number of its headers, the length of
 its body and the sum of the body's bytes, each in a line.
@@ -102,6 +108,16 @@ A job of `response` has also:
 A job of `responses` has also:
   responses  an array of objects with such keys, and with `operation`; where one
              lacks a key, it has the job's
+A job of `aws request` or `aws response` has what one of `request` or `response`
+has, and also:
+  protocol   optional, `aws.protocols#restJson1`, `aws.protocols#awsJson1_0` or
+             `aws.protocols#awsJson1_1`
+  service    where `aws request` goes by awsJson1_0 or awsJson1_1, the full name
+             of the service, whose shape need not be in the model
+  fractions  of `aws response`, optional, `refuse` or `floor`: whether a time
+             with a fraction of a second is refused, as without it, or loses it
+With a protocol and neither `error` nor `code`, a response is the output where
+its status is from 200 to 299, and else the error of the code that it names.
 Other keys are passed over.
 
 A value of `input` has the JSON form of its member's shape: a truth value; a

@@ -139,6 +139,34 @@ pub extern "C" fn smithy_bind_answer(
     answer_into(alloc, Command::Answer, job, text, text_len)
 }
 
+/// The HTTP request of a job's input by the protocol of AWS that the job names, or the line of its first fault: the text that the
+/// program's command `aws request` writes. What it answers and leaves is as `smithy_bind_request` says. Takes memory.
+#[unsafe(no_mangle)]
+pub extern "C" fn smithy_aws_request(
+    alloc: Global,
+    job: &[u8],
+    text: &mut [u8],
+    text_len: &mut usize,
+) -> u8
+    ensures { Answers Command.AwsRequest job.now result text_len.new text.old text.new }
+{
+    answer_into(alloc, Command::AwsRequest, job, text, text_len)
+}
+
+/// The value that a job's response hands out by the protocol of AWS that the job names, as JSON, or the line of its first refusal: the
+/// text that the program's command `aws response` writes. What it answers and leaves is as `smithy_bind_request` says. Takes memory.
+#[unsafe(no_mangle)]
+pub extern "C" fn smithy_aws_response(
+    alloc: Global,
+    job: &[u8],
+    text: &mut [u8],
+    text_len: &mut usize,
+) -> u8
+    ensures { Answers Command.AwsResponse job.now result text_len.new text.old text.new }
+{
+    answer_into(alloc, Command::AwsResponse, job, text, text_len)
+}
+
 /// Whether the bytes are a job of the command `request`, or why they are none: the line that the program's command
 /// `explain request` writes. What it answers and leaves is as `smithy_bind_request` says. Takes memory.
 #[unsafe(no_mangle)]
