@@ -11,6 +11,7 @@ import re
 import jobs
 from placing import YEARS, document, is_of_kind, is_whole, json_text, natural, refuse, time_text
 from received import Refused, seconds_of
+from rules import Node
 
 WHOLE = ("byte", "short", "integer", "long", "timestamp")
 INTEGER = re.compile("-?(0|[1-9][0-9]*)")
@@ -39,17 +40,14 @@ def have_own_names(fields):
 
 def names_stand(shapes, top, bindings, reached):
     """Whether no name is that of two fields of the message, nor of two members of a structure that a value below its top can be of."""
-    parts = [it["target"] for name in reached for it in parts_of(shapes[name])]
-    return have_own_names(fields_of(top, bindings)) and all(have_own_names(type(top)(shapes, it).members()) for it in parts)
+    parts = [Node(shapes, it["target"]) for name in reached for it in parts_of(shapes[name])]
+    return have_own_names(fields_of(top, bindings)) and all(have_own_names(it.members()) for it in parts)
 
 
 def parts_of(shape):
-    """The members, the element and the value of a shape, as the model has them."""
-    return [*shape.get("members", {}).values(), *(shape[it] for it in ("member", "value") if it in shape)] if is_made_of_parts(shape) else []
-
-
-def is_made_of_parts(shape):
-    return shape["type"] in ("structure", "union", "list", "set", "map")
+    """The members, the element or the value of a shape, as the model has them."""
+    found = jobs.members(shape, shape["type"])
+    return found[1:] if shape["type"] == "map" else found
 
 
 # Writing.
