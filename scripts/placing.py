@@ -258,9 +258,9 @@ class Message:
         for write in self.first.values():
             for name, value in headers_of(write, self.place(write.node)):
                 found[name.lower()] = value
-        if content and not omit.get("contentType"):
+        if content is not None and not omit.get("contentType"):
             found.setdefault("content-type", content)
-        if (body or content) and not omit.get("contentLength"):
+        if (body or content is not None) and not omit.get("contentLength"):
             found.setdefault("content-length", str(len(body)))
         return found
 
