@@ -140,10 +140,14 @@ def call(job):
     members = top.members()
     writes = present_writes(members, pairs(job["input"]))
     placing.tested_target(job.get("endpoint") or "/")
-    if top.kind in ("structure", "union"):
-        for it, value in writes:
+    # An input that is no structure has no members, so what stands in it was read by no node.
+    entry = top.value() if top.kind == "map" else top if top.kind == "document" else None
+    for it, value in writes:
+        if top.kind in ("structure", "union"):
             wire.test_field(members.get(it), value, f".{it}")
-    body = wire.fields_text([(name, members.get(name), value) for name, value in sorted(dict(writes).items())], False)
+        elif entry is not None:
+            wire.test_natural(entry, value, f'["{it}"]')
+    body = wire.fields_text([(name, members.get(name, entry), value) for name, value in sorted(dict(writes).items())], False)
     first, headers = placing.call_of(job, body, CONTENT[job["protocol"]])
     headers["x-amz-target"] = f"{job['service'].partition('#')[2]}.{job['operation'].partition('#')[2]}"
     if not placing.is_header_value(headers["x-amz-target"]):

@@ -107,6 +107,16 @@ def test(node, value, path):
     test_parts(node, value, path)
 
 
+def test_natural(node, value, path):
+    """The same of a value that is taken by its own form."""
+    if value is not None and natural(value) != node.kind:
+        refuse("UnsupportedOperation", f"cannot write {natural(value)} to {path} of type {node.kind}")
+    for place, part in enumerate(value if isinstance(value, list) else ()):
+        test_natural(node.element(), part, f"{path}[{place}]")
+    for key in sorted(value if isinstance(value, dict) else ()):
+        test_natural(node.value(), value[key], f'{path}["{key}"]')
+
+
 def test_parts(node, value, path):
     if node.kind in ("structure", "union"):
         members = node.members()
