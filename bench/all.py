@@ -16,7 +16,7 @@ HERE = pathlib.Path(__file__).resolve().parent
 PROGRAM = HERE.parent / "crates" / "smithy_bind_program" / "out" / "smithy_bind_program"
 
 # The scripts that tell instructions, and those that print tables of their own, which `jobs.sh` and `generate.sh` do too.
-SCRIPTS = ("placing.sh", "reading.sh", "way_back.sh", "generate.sh", "jobs.sh", "requests.py", "c_call.sh", "routing.sh", "run.sh", "attacks.py")
+SCRIPTS = ("placing.sh", "reading.sh", "way_back.sh", "generate.sh", "jobs.sh", "requests.py", "json_names.py", "c_call.sh", "routing.sh", "run.sh", "attacks.py")
 
 UPSTREAM = {
     "get": 7_030,

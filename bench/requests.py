@@ -21,7 +21,7 @@ PROGRAM = ROOT / "crates" / "smithy_bind_program" / "out" / "smithy_bind_program
 def counted(program, command, job):
     """The instructions of a run over a job."""
     with tempfile.TemporaryDirectory() as work:
-        words = ["valgrind", "--tool=callgrind", f"--callgrind-out-file={work}/out", str(program), command]
+        words = ["valgrind", "--tool=callgrind", f"--callgrind-out-file={work}/out", str(program), *command.split()]
         run = subprocess.run(words, input=job, stdout=subprocess.PIPE, stderr=subprocess.PIPE, check=True)
         return int(re.search(rb"Collected : (\d+)", run.stderr)[1])
 

@@ -12,7 +12,8 @@ in the place of another of its sort; or a part of its value is dropped, doubled,
 
 - with the status and the text that the slow second reading of scripts/second.py has, of whatever command and whatever bytes; there is
   memory enough, so 6 is none;
-- and with a line of `explain` that scripts/explained.py takes: `Job` where it doesn't end with 2, and else why it does;
+- and with a line of `explain`, where that knows the command, that scripts/explained.py takes: `Job` where it doesn't end with 2, and
+  else why it does;
 - within ten times the median of the runs that end with 0, of its command and of as many bytes, up to twice as many, where there are
   FEW such runs. It is the time of the processor; a run that takes longer is run ten times more, and the shortest one counts.
 
@@ -44,7 +45,7 @@ import second  # noqa: E402
 import smithy_bind  # noqa: E402
 
 ROWS = ROOT / "crates" / "job_rows"
-COMMANDS = ("request", "rpc", "response", "recover", "route", "gateway", "answer")
+COMMANDS = ("request", "rpc", "response", "recover", "route", "gateway", "answer", "aws request", "aws response")
 # Longer rows are left out, so that a run is short.
 MOST_BYTES = 20_000
 BATCH = 5_000
@@ -68,10 +69,10 @@ def samples():
     found = []
     with open(ROWS / "stdin", encoding="utf-8") as given, open(ROWS / "stdout", encoding="utf-8") as ends:
         for row, end in zip(map(json.loads, given), ends):
-            job, words = row["job"], row["words"]
+            job, command = row["job"], " ".join(row["words"])
             data = job.encode() if isinstance(job, str) else base64.b64decode(job["base64"])
-            if len(words) == 1 and words[0] in COMMANDS and len(data) <= MOST_BYTES:
-                sample = Sample(words[0], data, WORD.findall(data), value_of(data))
+            if command in COMMANDS and len(data) <= MOST_BYTES:
+                sample = Sample(command, data, WORD.findall(data), value_of(data))
                 found += [sample] * (1 if end.startswith("2 ") else 4)
     return found
 
@@ -180,6 +181,8 @@ def differs(library, command, data, values, end):
     due = second.ended(command, values)
     if end != due:
         return f"is to end with {due[0]} and {due[1][:200]!r}"
+    if command not in jobs.READINGS:
+        return None
     line = f"{library.explain(command, data)}\n".encode()
     how = explained.line_differs(command, data, values, end.status, line)
     return f"has the line {line[:200]!r}, and {how}" if how else None

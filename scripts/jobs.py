@@ -35,7 +35,10 @@ class NoJob(ValueError):
 
 
 class Float:
-    """A number that is no whole one."""
+    """A number that is no whole one, with its text."""
+
+    def __init__(self, text):
+        self.text = text
 
 
 # JSON.
@@ -65,7 +68,7 @@ def number(text):
 def number_of(text):
     if float(text) in (float("inf"), float("-inf")):
         raise NoJson
-    return Float()
+    return Float(text)
 
 
 def refuse(text):

@@ -241,26 +241,26 @@ class Message:
         return [it for it in self.first.values() if self.place(it.node) == place]
 
     def body(self):
-        """The bytes of the body, and whether the codec made them."""
+        """The bytes of the body, and the content type of one that the codec made."""
         payload = next((it for it in self.members if self.place(self.members[it]) == "httpPayload"), None)
         if payload is None:
             is_made = any(self.place(it) is None for it in self.members.values())
-            return json_text(self.fields) if is_made else b"", is_made
+            return (json_text(self.fields), CONTENT) if is_made else (b"", None)
         node, write = self.members[payload], self.first.get(payload)
         if node.kind == "blob":
-            return base64.b64decode(write.value) if write else b"", False
+            return base64.b64decode(write.value) if write else b"", None
         if node.kind == "string":
-            return write.value.encode() if write else b"", False
-        return json_text(document(node, write.value)) if write else b"", True
+            return write.value.encode() if write else b"", None
+        return json_text(document(node, write.value)) if write else b"", CONTENT
 
-    def headers(self, body, is_made, omit):
+    def headers(self, body, content, omit):
         found = {}
         for write in self.first.values():
             for name, value in headers_of(write, self.place(write.node)):
                 found[name.lower()] = value
-        if is_made and not omit.get("contentType"):
-            found.setdefault("content-type", CONTENT)
-        if (body or is_made) and not omit.get("contentLength"):
+        if content is not None and not omit.get("contentType"):
+            found.setdefault("content-type", content)
+        if (body or content is not None) and not omit.get("contentLength"):
             found.setdefault("content-length", str(len(body)))
         return found
 
@@ -309,10 +309,13 @@ def shown(first, headers, body):
 def request(job):
     shapes, name = job["model"]["shapes"], job["operation"]
     http = http_of(shapes, name) or {"method": "GET", "uri": job.get("endpoint") or "/"}
-    message = Message(end_of(shapes, name, "input").members(), job["input"], REQUEST)
+    return placed(job, http, Message(end_of(shapes, name, "input").members(), job["input"], REQUEST))
+
+
+def placed(job, http, message):
     target = message.target(http["uri"])
-    body, is_made = message.body()
-    return shown(f"{http['method']} {target}", message.headers(body, is_made, job.get("omit", {})), body)
+    body, content = message.body()
+    return shown(f"{http['method']} {target}", message.headers(body, content, job.get("omit", {})), body)
 
 
 def posted(job):
@@ -320,9 +323,14 @@ def posted(job):
     shapes = job["model"]["shapes"]
     input = end_of(shapes, job["operation"], "input")
     fields = {it.name: document(it.node, it.value) for it in writes_of(input.members(), job["input"])}
-    target, body = tested_target(job.get("endpoint") or "/"), json_text(fields)
-    message = Message({}, {}, ())
-    return shown(f"POST {target}", message.headers(body, True, job.get("omit", {})), body)
+    body = json_text(fields)
+    return shown(*call_of(job, body, CONTENT), body)
+
+
+def call_of(job, body, content):
+    """The first line and the headers of a body that is posted whole."""
+    target = tested_target(job.get("endpoint") or "/")
+    return f"POST {target}", Message({}, {}, ()).headers(body, content, job.get("omit", {}))
 
 
 def response(job):
@@ -330,8 +338,8 @@ def response(job):
     message = Message(end_of(shapes, name, "output").members(), job["output"], RESPONSE)
     codes = [it.value for it in message.at("httpResponseCode")]
     status = codes[0] if codes else job.get("status", (http_of(shapes, name) or {}).get("code", 200))
-    body, is_made = message.body()
-    return shown(str(status), message.headers(body, is_made, {}), body)
+    body, content = message.body()
+    return shown(str(status), message.headers(body, content, {}), body)
 
 
 PLACED = {"request": request, "rpc": posted, "answer": response}

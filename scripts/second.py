@@ -5,8 +5,8 @@
 looks whether the rows of crates/job_rows end so. Each that doesn't has a line, and the last line is `N passed, M failed`.
 
 scripts/jobs.py says which bytes are a job, scripts/rules.py whose schema is checked, scripts/placing.py what `request`, `rpc` and `answer`
-write, scripts/received.py what `response` does, scripts/recovering.py what `recover` does, scripts/routes.py which operation a request is
-of; here they are put together.
+write, scripts/received.py what `response` does, scripts/aws.py what both do by a protocol of AWS, scripts/recovering.py what `recover` does,
+scripts/routes.py which operation a request is of; here they are put together.
 """
 
 import base64
@@ -15,6 +15,7 @@ import pathlib
 import sys
 
 sys.dont_write_bytecode = True
+import aws
 import jobs
 import placing
 import received
@@ -114,6 +115,9 @@ READINGS = {
     "gateway": lambda job: sent_on(job) if job["to"] == "rpc" else taken(job),
 }
 
+# Each command with a protocol of AWS, and what it is without one.
+AWS = {"aws request": "request", "aws response": "response"}
+
 
 def is_due(command, values):
     """Whether bytes of this value, alone in a list, which is empty where they are no JSON, are a job by a checked schema."""
@@ -122,6 +126,9 @@ def is_due(command, values):
 
 def ended(command, values):
     """The status and the text of a command over such bytes, of which there are not too many."""
+    if command in AWS:
+        has_protocol = bool(values) and isinstance(values[0], dict) and "protocol" in values[0]
+        return aws.ended(command, values[0]) if has_protocol else ended(AWS[command], values)
     if not is_due(command, values):
         return 2, b""
     return placing.ended(command, values[0]) if command in placing.PLACED else READINGS[command](values[0])
@@ -141,9 +148,9 @@ def rows():
     with open(ROWS / "stdin", encoding="utf-8") as given, open(ROWS / "stdout", encoding="utf-8") as ends:
         for row, end in zip(map(json.loads, given), ends):
             status, text = end.split(" ", 1)
-            words = row["words"]
-            if len(words) == 1 and words[0] in jobs.READINGS:
-                yield row["case"], words[0], octets(row["job"]), (int(status), octets(json.loads(text)))
+            command = " ".join(row["words"])
+            if command in jobs.READINGS or command in AWS:
+                yield row["case"], command, octets(row["job"]), (int(status), octets(json.loads(text)))
 
 
 def read(data):
