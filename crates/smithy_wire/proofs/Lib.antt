@@ -4,6 +4,7 @@ pub mod Common
 pub mod EachLemmas
 pub mod FieldLemmas
 pub mod FinishedTexts
+pub mod FollowLemmas
 pub mod JsonInLemmas
 pub mod KnownLemmas
 pub mod LawfulTexts

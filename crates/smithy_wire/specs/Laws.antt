@@ -1,12 +1,16 @@
--- What the text of a document by a node keeps.
-use Rattle.std.specs.Prelude.{◌≡◌, ℕ, Bool, IsTrue, List, Ok}
+-- What the text of a document by a node keeps, and which values it is written of.
+use Rattle.std.specs.Prelude.{◌≡◌, ◌↔◌, ℕ, Bool, IsTrue, List, Some, None, Ok}
+use Rattle.smithy_ids.specs.Kinds.{is_structure_or_union}
 use Rattle.smithy_serde.specs.Lawful.{IsLawfulText, TellsApart, is_sound}
-use Rattle.smithy_wire.specs.Words.{Schema, Document}
+use Rattle.smithy_serde.specs.Values.{Value, Writes}
+use Rattle.smithy_wire.specs.Words.{Schema, Document, shape}
 use Rattle.smithy_wire.specs.declared.side.Side.{Side}
 use Rattle.smithy_wire.specs.declared.wire_style.WireStyle.{WireStyle}
 use Rattle.std.specs.Prelude.{Option}
 use Rattle.smithy_wire.specs.WireNames.{names_stand, swapped}
-use Rattle.smithy_wire.specs.Forms.{Form}
+use Rattle.smithy_wire.specs.Forms.{Form, form_of}
+use Rattle.smithy_wire.specs.Follows.{body_follows, fields_follow, follows}
+use Rattle.smithy_wire.specs.Misfits.{body_misfit_told, misfit, whole_misfit_told}
 use Rattle.smithy_wire.specs.Standing.{Stand}
 use Rattle.smithy_wire.specs.Wire.{wire}
 use Rattle.smithy_wire.specs.Unwire.{unwire}
@@ -24,3 +28,15 @@ IsTextLawful = (style : WireStyle) (f : Form) → Stand style.json_names f → I
 
 abbrev pub TextsDiffer : Type 0
 TextsDiffer = (names : Bool) (f : Form) → Stand names f → TellsApart (wire_text names f)
+
+-- In a value nothing is found exactly where it follows its node.
+abbrev pub ValueIsExact : Type 0
+ValueIsExact = (n : Schema) (v : Value) → (misfit (form_of n) v ≡ None) ↔ IsTrue (follows (Some n) v)
+
+-- An input is let through whole exactly where each write is of a member, whose node its value follows;
+abbrev pub WholeIsExact : Type 0
+WholeIsExact = (n : Schema) (ws : Writes) → IsTrue (is_structure_or_union (shape n).node.kind) → (whole_misfit_told n ws ≡ None) ↔ IsTrue (fields_follow None (shape n) ws)
+
+-- by its body exactly where each write is so that stands in the body.
+abbrev pub BodyIsExact : Type 0
+BodyIsExact = (n : Schema) (ws : Writes) → IsTrue (is_structure_or_union (shape n).node.kind) → (body_misfit_told n ws ≡ None) ↔ IsTrue (body_follows n ws)

@@ -1,5 +1,6 @@
 pub mod Words
 pub mod ExactNumbers
+pub mod Follows
 pub mod Forms
 pub mod Laws
 pub mod Misfits

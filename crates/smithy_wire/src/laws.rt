@@ -1,5 +1,6 @@
 //! Laws of the JSON of AWS's protocols, each the contract of a function that does nothing.
 ghost use Rattle.smithy_wire.specs.Laws.{IsReadBack, IsTextLawful, UndoesItself, TextsDiffer};
+ghost use Rattle.smithy_wire.specs.Laws.{ValueIsExact, WholeIsExact, BodyIsExact};
 
 /// Where names stand, a name that is changed twice is the name again.
 pub fn swaps_undo_themselves()
@@ -23,4 +24,12 @@ pub fn texts_are_lawful()
 #[tactic(auto, using(crate::proofs::LawfulTexts::texts_differ))]
 pub fn texts_tell_apart()
     ensures { TextsDiffer }
+{}
+
+/// Nothing is found in a value exactly where it follows its node at every depth, and nothing is told of an input of a
+/// structure, by its body or whole, exactly where each of its writes there is of a member whose node its value follows.
+pub fn misfits_are_exact()
+    ensures value { ValueIsExact }
+    ensures whole { WholeIsExact }
+    ensures body { BodyIsExact }
 {}
