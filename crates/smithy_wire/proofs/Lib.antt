@@ -21,6 +21,7 @@ pub mod Rows
 pub mod StandLemmas
 pub mod TextLaws
 pub mod TimeLaws
+pub mod ValueReads
 pub mod WholeLemmas
 pub mod WireLaws
 pub mod WriteLemmas

@@ -1,6 +1,7 @@
 //! Laws of the JSON of AWS's protocols, each the contract of a function that does nothing.
 ghost use Rattle.smithy_wire.specs.Laws.{IsReadBack, IsTextLawful, UndoesItself, TextsDiffer};
 ghost use Rattle.smithy_wire.specs.Laws.{ValueIsExact, WholeIsExact, BodyIsExact};
+ghost use Rattle.smithy_wire.specs.Laws.{ReadsNormalForm, ReadsNormalStructure};
 
 /// Where names stand, a name that is changed twice is the name again.
 pub fn swaps_undo_themselves()
@@ -32,4 +33,11 @@ pub fn misfits_are_exact()
     ensures value { ValueIsExact }
     ensures whole { WholeIsExact }
     ensures body { BodyIsExact }
+{}
+
+/// The text of a value that follows a node at every depth, read by that node, gives the value's normal form: whatever form
+/// it is written and read by, where names stand, and where a program can hold its document, of at most 100 levels.
+pub fn values_are_read_back()
+    ensures value { ReadsNormalForm }
+    ensures structure { ReadsNormalStructure }
 {}
