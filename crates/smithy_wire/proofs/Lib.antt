@@ -18,6 +18,7 @@ pub mod PathLemmas
 pub mod PlainLemmas
 pub mod ReadLemmas
 pub mod Rows
+pub mod SaidLemmas
 pub mod StandLemmas
 pub mod TextLaws
 pub mod TimeLaws

@@ -13,9 +13,10 @@ use Rattle.smithy_wire.specs.declared.side.Side.{Side}
 use Rattle.smithy_wire.specs.declared.wire_style.WireStyle.{WireStyle}
 use Rattle.std.specs.Prelude.{Option}
 use Rattle.smithy_wire.specs.WireNames.{names_stand, swapped}
-use Rattle.smithy_wire.specs.Forms.{Form, form_of}
+use Rattle.smithy_wire.specs.Forms.{Form, fields, form_of}
 use Rattle.smithy_wire.specs.Follows.{body_follows, fields_follow, follows}
 use Rattle.smithy_wire.specs.Misfits.{body_misfit_told, misfit, whole_misfit_told}
+use Rattle.smithy_wire.specs.Said.{fields_said, object_json, said}
 use Rattle.smithy_wire.specs.Standing.{Stand}
 use Rattle.smithy_wire.specs.Wire.{wire}
 use Rattle.smithy_wire.specs.Unwire.{unwire}
@@ -68,3 +69,16 @@ ReadsNormalStructure =
     (style : WireStyle) (f : Form) (n : Schema) (ws : Writes) (d : Document) → Stand style.json_names f → Stands n → Follows n (structure ws) →
     document_of (structure ws) ≡ Ok d → IsTrue (is_document_in_range d) → nesting d ≤ max_nesting →
     structure_in style f n (wire_text style.json_names f d) ≡ Some (Ok (normal_form n (structure ws)))
+
+-- The JSON of a value that follows its node is what is said of it;
+abbrev pub ValuesAreSaid : Type 0
+ValuesAreSaid =
+    (names : Bool) (n : Schema) (v : Value) (d : Document) → IsTrue (follows (Some n) v) → document_of v ≡ Ok d →
+    wire names (form_of n) d ≡ said names (Some n) v
+
+-- so is that of a body's fields.
+abbrev pub FieldsAreSaid : Type 0
+FieldsAreSaid =
+    (names : Bool) (side : Side) (n : Schema) (ws : Writes) (d : Document) → IsTrue (fields_follow (Some side) (shape n) ws) →
+    document_of (structure ws) ≡ Ok d →
+    wire names (fields (Some side) (shape n)) d ≡ object_json (fields_said names (Some side) (shape n) ws)

@@ -4,6 +4,7 @@ pub mod Follows
 pub mod Forms
 pub mod Laws
 pub mod Misfits
+pub mod Said
 pub mod Standing
 pub mod Styles
 pub mod Unwire

@@ -1,7 +1,7 @@
 //! Laws of the JSON of AWS's protocols, each the contract of a function that does nothing.
 ghost use Rattle.smithy_wire.specs.Laws.{IsReadBack, IsTextLawful, UndoesItself, TextsDiffer};
 ghost use Rattle.smithy_wire.specs.Laws.{ValueIsExact, WholeIsExact, BodyIsExact};
-ghost use Rattle.smithy_wire.specs.Laws.{ReadsNormalForm, ReadsNormalStructure};
+ghost use Rattle.smithy_wire.specs.Laws.{ReadsNormalForm, ReadsNormalStructure, ValuesAreSaid, FieldsAreSaid};
 
 /// Where names stand, a name that is changed twice is the name again.
 pub fn swaps_undo_themselves()
@@ -40,4 +40,11 @@ pub fn misfits_are_exact()
 pub fn values_are_read_back()
     ensures value { ReadsNormalForm }
     ensures structure { ReadsNormalStructure }
+{}
+
+/// The JSON of a value in which nothing is found is what the traits of its shapes say: a structure is the object of its
+/// members by their names in JSON, a time its text or its seconds, a big number a number, a blob its base64 text.
+pub fn values_are_said()
+    ensures value { ValuesAreSaid }
+    ensures fields { FieldsAreSaid }
 {}
