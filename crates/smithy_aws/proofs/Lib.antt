@@ -1,5 +1,6 @@
 pub mod BodyLemmas
 pub mod CallLemmas
+pub mod CallTelling
 pub mod PayloadSteps
 pub mod RawLemmas
 pub mod ReadyLemmas
