@@ -6,4 +6,6 @@ pub mod RawLemmas
 pub mod ReadyLemmas
 pub mod RequestLemmas
 pub mod RestLemmas
+pub mod RestTelling
 pub mod ShapeLemmas
+pub mod TypeFacts

@@ -1,5 +1,31 @@
 //! Laws of the requests of AWS's JSON protocols.
-ghost use Rattle.smithy_aws.specs.Laws.{AwsJsonTells};
+ghost use Rattle.std.specs.Prelude.{codes, IsTrue};
+ghost use Rattle.smithy_schema.specs.References.{schema_of};
+ghost use Rattle.smithy_unambiguity.specs.Laws.{FactsDecideView};
+ghost use Rattle.smithy_aws.specs.Laws.{RestJson1Tells, AwsJsonTells};
+ghost use Rattle.smithy_aws.specs.Requests.{takes_requests};
+ghost use Rattle.smithy_aws.specs.views.Sent.{bodies};
+
+use smithy_binding::HttpBindingProtocol;
+use smithy_schema::SchemaRef;
+use smithy_schema::laws::schema_is_well_made;
+use smithy_serde::Codec;
+use smithy_unambiguity::laws::facts_decide_view;
+use smithy_wire::{WireJson, wire_json_is_lawful};
+
+/// A request of restJson1 tells the normal form of its ready input, and no more: two requests of typed inputs by this schema,
+/// at one endpoint and with the same default headers left out, have the same facts exactly if the inputs that were made ready
+/// have one normal form. Asked where both bodies are bytes of a payload, and neither is empty: a header member says the
+/// content type of both inputs, or of neither. Condition: requests can be made by the schema. Takes no memory.
+pub fn rest_json1_requests_tell(schema: SchemaRef<'_>)
+    requires { IsTrue (takes_requests (schema_of schema)) }
+    ensures { RestJson1Tells (schema_of schema.entry) }
+{
+    schema_is_well_made(schema);
+    let wire = WireJson::of_input(schema, true);
+    wire_json_is_lawful(&wire);
+    bodies_tell(wire);
+}
 
 /// A request of AWS JSON 1.0 or 1.1 tells the normal form of what is posted, and no more: two requests of one call, of inputs
 /// that follow one schema at every depth and nest no deeper than 100 levels, have the same facts exactly if the inputs
@@ -7,3 +33,12 @@ ghost use Rattle.smithy_aws.specs.Laws.{AwsJsonTells};
 pub fn aws_json_requests_tell()
     ensures { AwsJsonTells }
 {}
+
+// What the core's requests tell, with bodies of JSON by a codec.
+fn bodies_tell<C: Codec + Drop>(codec: C)
+    requires { C.lawful codec }
+    ensures { FactsDecideView (bodies (codes "application/json") (C.text codec)) }
+{
+    let protocol = HttpBindingProtocol::rest_json(codec);
+    facts_decide_view(&protocol);
+}
