@@ -18,7 +18,7 @@ use Rattle.smithy_wire.specs.ExactNumbers.{is_integer, is_number}
 use Rattle.smithy_wire.specs.Follows.{body_follows, elements_follow, entries_follow, field_follows, field_of, fields_follow, follows, has_json, has_one_if_union, has_text, is_of_kind, values_follow}
 use Rattle.smithy_wire.specs.Forms.{either_format, element_form, entries, fields, form_by, form_kind, form_of, form_or_free, free, part_form, time_form, whole_form}
 use Rattle.smithy_wire.specs.Laws.{BodyIsExact, ValueIsExact, WholeIsExact}
-use Rattle.smithy_wire.specs.Misfits.{behind, body_misfit, body_misfit_told, entry_misfit, field_misfit, here, in_field, is_outside, item_misfit, misfit, misfit_told, outer_misfit, told_name, value_misfit, whole_misfit, whole_misfit_told, wrong_count, wrong_decimal, wrong_integer, wrong_kind, wrong_name, wrong_scalar, wrong_time}
+use Rattle.smithy_wire.specs.Misfits.{behind, body_misfit, body_misfit_told, entry_misfit, field_misfit, in_field, is_outside, item_misfit, misfit, misfit_told, outer_misfit, told_name, value_misfit, whole_misfit, whole_misfit_told, wrong_count, wrong_decimal, wrong_integer, wrong_kind, wrong_name, wrong_scalar, wrong_time}
 use Rattle.smithy_wire.specs.Unwire.{item_step, part_step}
 use Rattle.smithy_wire.specs.WireNames.{field_named}
 use Rattle.smithy_wire.specs.declared.misfit.Misfit.{Misfit}
