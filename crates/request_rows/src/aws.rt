@@ -2,6 +2,7 @@
 use crate::given_job::job_bytes;
 use crate::told::{no_job, outcome_text, writes_text};
 use serde_json::Value;
+use smithy_aws::laws::rest_json1_requests_tell;
 use smithy_aws::{AwsJson, AwsJsonVersion, ReadyInput, RestJson1Input};
 use smithy_ids::ShapeId;
 use smithy_job::{Job, read_job};
@@ -81,7 +82,10 @@ fn rest_json1_text(
     omit: OmitFlags,
 ) -> Result<Text, Failed> {
     match RestJson1Input::new(alloc, schema)? {
-        Some(by) => outcome_text(alloc, by.request(alloc, input, endpoint, omit)),
+        Some(by) => {
+            rest_json1_requests_tell(&by);
+            outcome_text(alloc, by.request(alloc, input, endpoint, omit))
+        }
         None => Ok(Text::from_str(alloc, "None")?),
     }
 }

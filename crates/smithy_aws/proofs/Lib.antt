@@ -1,8 +1,11 @@
 pub mod BodyLemmas
 pub mod CallLemmas
+pub mod CallTelling
 pub mod PayloadSteps
 pub mod RawLemmas
 pub mod ReadyLemmas
 pub mod RequestLemmas
 pub mod RestLemmas
+pub mod RestTelling
 pub mod ShapeLemmas
+pub mod TypeFacts

@@ -29,7 +29,7 @@ raw_form : (o : Option Schema) (m : Schema) (beside : Bool) → option_and_then 
 raw_form None m beside is = absurd (cc is)
 raw_form (Some n) m beside is = rw (by_kind (is_raw_kind n.node.kind) n m is) refl
 
-uncoded : (schema : Schema) (m : Schema) → raw_payload schema ≡ Some m → is_codec (form_in schema) ≡ false
+pub uncoded : (schema : Schema) (m : Schema) → raw_payload schema ≡ Some m → is_codec (form_in schema) ≡ false
 uncoded schema m is = raw_form (payload_of schema) m (has_unbound_member schema) is
 
 -- neither a type nor a length is added then

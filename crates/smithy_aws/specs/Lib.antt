@@ -2,6 +2,7 @@ pub mod Added
 pub mod BodyValues
 pub mod ErrorCodes
 pub mod ErrorShapes
+pub mod Laws
 pub mod Payloads
 pub mod Ready
 pub mod Requests

@@ -7,6 +7,7 @@ mod body_value;
 mod error_codes;
 mod error_shapes;
 mod following;
+pub mod laws;
 mod payload;
 mod ready;
 mod response_shape;

@@ -20,7 +20,7 @@ use std::alloc::Global;
 /// A schema of inputs that requests of AWS restJson1 are made by.
 #[derive(Clone, Copy)]
 pub struct RestJson1Input<'t> {
-    schema: SchemaRef<'t>,
+    pub(crate) schema: SchemaRef<'t>,
     ghost taken: { IsTrue (takes_requests (schema_of schema)) },
 }
 

@@ -4,6 +4,7 @@ pub mod Common
 pub mod EachLemmas
 pub mod FieldLemmas
 pub mod FinishedTexts
+pub mod FollowLemmas
 pub mod JsonInLemmas
 pub mod KnownLemmas
 pub mod LawfulTexts
@@ -17,9 +18,11 @@ pub mod PathLemmas
 pub mod PlainLemmas
 pub mod ReadLemmas
 pub mod Rows
+pub mod SaidLemmas
 pub mod StandLemmas
 pub mod TextLaws
 pub mod TimeLaws
+pub mod ValueReads
 pub mod WholeLemmas
 pub mod WireLaws
 pub mod WriteLemmas

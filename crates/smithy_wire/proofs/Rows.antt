@@ -1,11 +1,18 @@
 -- Worked rows of the definitions.
-use Rattle.smithy_wire.proofs.Common.{◌≡◌, refl, true, false, Some, None, pos}
+use Rattle.smithy_wire.proofs.Common.{◌≡◌, refl, ℕ, true, false, List, [], ◌∷◌, Some, None, pos}
 use Rattle.std.specs.Prelude.{codes, neg_ℤ}
 use Rattle.json.specs.Json as json
+use Rattle.smithy_ids.specs.declared.shape_type.ShapeType.{ShapeType}
 use Rattle.smithy_ids.specs.declared.shape_type.ShapeType.TheVariants as kind
+use Rattle.smithy_ids.specs.declared.traits.TimestampFormat.TheVariants as time
+use Rattle.smithy_schema.specs.Nodes.{Schema, Table, bare_node, no_traits}
+use Rattle.smithy_serde.specs.Values as value
+use Rattle.smithy_serde.specs.Values.{Value, Writes, no_writes, scalar, structure, write}
 use Rattle.smithy_types.specs.Documents as doc
 use Rattle.smithy_wire.specs.ExactNumbers.{is_integer, is_number, whole_number}
+use Rattle.smithy_wire.specs.Follows.{follows}
 use Rattle.smithy_wire.specs.Forms.{free, date_time, http_date, big_integer, big_decimal, whole, document}
+use Rattle.smithy_wire.specs.Said.{said}
 use Rattle.smithy_wire.specs.Unwire.{number_read, string_read}
 use Rattle.smithy_wire.specs.Wire.{wire_number, wire_string}
 use Rattle.smithy_wire.specs.WireText.{unread_text}
@@ -98,3 +105,50 @@ fraction_is_refused = refl
 pub refusal_with_its_path : unread_text record { text = codes "1.5"; word = codes "integer"; path = codes ".Table[2]" } ≡ codes "cannot read 1.5 as integer at Table[2]"
 unfolding wire_on_literals
 refusal_with_its_path = refl
+
+-- ---- what is said of values
+
+-- a structure with a member `id`, which is `ID` in JSON, and one with a date
+abbrev members_table : Table
+members_table =
+    None
+    ∷ Some (record (bare_node (codes "a#S$id") kind.String) { member_name = Some (codes "id"); member_index = Some 0; traits = record no_traits { json_name = Some (codes "ID") } })
+    ∷ Some (record (bare_node (codes "a#S$at") kind.Timestamp) { member_name = Some (codes "at"); member_index = Some 1; traits = record no_traits { timestamp_format = Some time.DateTime } })
+    ∷ []
+
+abbrev node_of : ShapeType → Schema
+node_of k = record { table = members_table; node = record (bare_node (codes "a#S") k) { members = 1 ∷ 2 ∷ [] } }
+
+abbrev named : List ℕ → Value → Writes → Writes
+named name v ws = write (record { full_name = []; member_name = Some name; member_index = None; time_format = None }) v ws
+
+abbrev an_id : Writes → Writes
+an_id ws = named (codes "id") (scalar (value.text (codes "x"))) ws
+
+abbrev a_date : Writes → Writes
+a_date ws = named (codes "at") (scalar (value.timestamp (pos 1515523620))) ws
+
+pub members_by_their_names : said true (Some (node_of kind.Structure)) (structure (an_id (a_date no_writes)))
+    ≡ json.object (json.member (codes "at") (json.string (codes "2018-01-09T18:47:00Z")) (json.member (codes "ID") (json.string (codes "x")) json.no_members))
+unfolding wire_on_literals
+members_by_their_names = refl
+
+pub a_structure_follows : follows (Some (node_of kind.Structure)) (structure (an_id (a_date no_writes))) ≡ true
+unfolding wire_on_literals
+a_structure_follows = refl
+
+pub a_union_has_one_member : follows (Some (node_of kind.Union)) (structure (an_id (a_date no_writes))) ≡ false
+unfolding wire_on_literals
+a_union_has_one_member = refl
+
+pub each_write_is_of_a_member : follows (Some (node_of kind.Structure)) (structure (named (codes "ID") (scalar (value.text (codes "x"))) no_writes)) ≡ false
+unfolding wire_on_literals
+each_write_is_of_a_member = refl
+
+pub each_value_is_of_its_kind : follows (Some (node_of kind.Structure)) (structure (named (codes "id") (scalar (value.boolean true)) no_writes)) ≡ false
+unfolding wire_on_literals
+each_value_is_of_its_kind = refl
+
+pub a_date_has_its_year : follows (Some (node_of kind.Structure)) (structure (named (codes "at") (scalar (value.timestamp (pos 253402300800))) no_writes)) ≡ false
+unfolding wire_on_literals
+a_date_has_its_year = refl

@@ -1,8 +1,10 @@
 pub mod Words
 pub mod ExactNumbers
+pub mod Follows
 pub mod Forms
 pub mod Laws
 pub mod Misfits
+pub mod Said
 pub mod Standing
 pub mod Styles
 pub mod Unwire
