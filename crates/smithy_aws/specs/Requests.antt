@@ -75,6 +75,10 @@ pub record Call : Type 0 where
   pub target : List ℕ
   pub is_query_compatible : Bool
 
+abbrev pub protocol_name : AwsJsonVersion → List ℕ
+protocol_name V1_0 = codes "aws.protocols#awsJson1_0"
+protocol_name V1_1 = codes "aws.protocols#awsJson1_1"
+
 abbrev pub content_type_of : AwsJsonVersion → List ℕ
 content_type_of V1_0 = codes "application/x-amz-json-1.0"
 content_type_of V1_1 = codes "application/x-amz-json-1.1"

@@ -21,10 +21,13 @@ pub enum AwsJsonVersion {
 impl AwsJsonVersion {
     ghost use Rattle.std.specs.Prelude.{◌≡◌, IsTrue};
     ghost use Rattle.smithy_types.specs.Grammars.{is_header_value};
-    ghost use Rattle.smithy_aws.specs.Requests.{content_type_of};
+    ghost use Rattle.smithy_ids.specs.ShapeIdParts.{parts_of};
+    ghost use Rattle.smithy_aws.specs.Requests.{content_type_of, protocol_name};
 
     /// The name of the protocol. Takes no memory.
-    pub fn protocol_id(self) -> ShapeId<'static> {
+    pub fn protocol_id(self) -> ShapeId<'static>
+        ensures { (parts_of result).full_name ≡ protocol_name self }
+    {
         match self {
             AwsJsonVersion::V1_0 => {
                 ShapeId::from_parts("aws.protocols#awsJson1_0", "aws.protocols", "awsJson1_0")

@@ -1,9 +1,7 @@
 // The requests of inputs by the core's protocols, with bodies of a codec.
 ghost use Rattle.std.specs.Prelude.{IsTrue};
 ghost use Rattle.smithy_schema.specs.References.{schema_of};
-ghost use Rattle.smithy_serde.specs.StructValues.{members_of};
 ghost use Rattle.smithy_binding.specs.Checked.{checked_input};
-ghost use Rattle.smithy_aws.specs.Requests.{content_type_of};
 ghost use Rattle.smithy_aws.specs.views.ReadyInputs.{ready_writes};
 ghost use Rattle.smithy_aws.specs.views.Sent.{IsPlaced, IsPosted};
 
@@ -45,7 +43,7 @@ pub(crate) fn posted_by<C: Codec + Drop>(
     omit: OmitFlags,
 ) -> Result<Request, SerdeError>
     requires { C.lawful codec }
-    ensures { IsPosted (C.text codec) (content_type_of version) (members_of input.now) endpoint.now omit result }
+    ensures { IsPosted (C.text codec) version input.now endpoint.now omit result }
 {
     let protocol = HttpRpcProtocol::new(version.protocol_id(), codec, version.content_type());
     protocol.serialize_request(alloc, input, schema, endpoint, omit)

@@ -457,22 +457,22 @@ fn answer(alloc: Global, tried: Result<(), Refused>) -> Result<(), SerdeError>
 pub fn check_body(
     alloc: Global,
     table: &Schemas,
-    schema: SchemaRef<'_>,
+    node: SchemaRef<'_>,
     input: &WriteList,
 ) -> Result<(), SerdeError>
-    ensures { TellsMisfit (body_misfit_told (schema_of schema.entry) (writes_in table.now input.now)) result }
+    ensures { TellsMisfit (body_misfit_told (schema_of node.entry) (writes_in table.now input.now)) result }
 {
-    answer(alloc, test_body(alloc, table, schema, input))
+    answer(alloc, test_body(alloc, table, node, input))
 }
 
 /// The same of all members of an input that is posted whole, whatever bindings they have.
 pub fn check_whole(
     alloc: Global,
     table: &Schemas,
-    schema: SchemaRef<'_>,
+    node: SchemaRef<'_>,
     input: &WriteList,
 ) -> Result<(), SerdeError>
-    ensures { TellsMisfit (whole_misfit_told (schema_of schema.entry) (writes_in table.now input.now)) result }
+    ensures { TellsMisfit (whole_misfit_told (schema_of node.entry) (writes_in table.now input.now)) result }
 {
-    answer(alloc, test_fields(alloc, table, Form::of(schema), input))
+    answer(alloc, test_fields(alloc, table, Form::of(node), input))
 }

@@ -5,12 +5,16 @@ use Rattle.smithy_http.specs.Requests.{Request}
 use Rattle.smithy_schema.specs.References.{schema_of}
 use Rattle.smithy_schema.specs.declared.schema_ref.SchemaRef.{SchemaRef}
 use Rattle.smithy_serde.specs.Values.{Writes, list_of}
+use Rattle.smithy_serde.specs.StructValues.{members_of}
 use Rattle.smithy_serde.specs.declared.error.SerdeError.{SerdeError}
 use Rattle.smithy_serde.specs.declared.header_omit_settings.OmitFlags.{OmitFlags}
+use Rattle.smithy_serde.specs.declared.struct_value.StructValue.{StructValue}
 use Rattle.smithy_binding.specs.Answer.{answer}
 use Rattle.smithy_binding.specs.Placing.{Protocol, with_default}
 use Rattle.smithy_binding.specs.Refusing.{Answers}
 use Rattle.smithy_binding.specs.Rpc.{rpc_answer}
+use Rattle.smithy_aws.specs.Requests.{content_type_of}
+use Rattle.smithy_aws.specs.declared.aws_json.AwsJsonVersion.{AwsJsonVersion}
 
 -- bodies of this content type and these texts
 abbrev pub bodies : List ℕ → (Document → List ℕ) → Protocol
@@ -25,6 +29,7 @@ abbrev pub IsPlaced : (Document → List ℕ) → SchemaRef → Writes → List 
 IsPlaced text schema ws endpoint omit result =
     Answers result (answer (bodies (codes "application/json") text) (schema_of schema) (list_of ws) endpoint omit)
 
--- that of writes which are posted whole
-abbrev pub IsPosted : (Document → List ℕ) → List ℕ → Writes → List ℕ → OmitFlags → Result Request SerdeError → Type 0
-IsPosted text content_type ws endpoint omit result = Answers result (rpc_answer (bodies content_type text) ws endpoint omit)
+-- that of an input which is posted whole, with a version's content type
+abbrev pub IsPosted : (Document → List ℕ) → AwsJsonVersion → StructValue → List ℕ → OmitFlags → Result Request SerdeError → Type 0
+IsPosted text version input endpoint omit result =
+    Answers result (rpc_answer (bodies (content_type_of version) text) (members_of input) endpoint omit)
