@@ -3,6 +3,7 @@
 #![tactic(auto)]
 
 mod aws;
+mod decimals;
 mod documents;
 mod given_job;
 mod items;
@@ -63,6 +64,9 @@ fn of_jobs(alloc: Global, call: &str, given: &Value) -> Result<Option<Text>, Fai
         return Ok(Some(text));
     }
     if let Some(text) = protocols::answer(alloc, call, given)? {
+        return Ok(Some(text));
+    }
+    if let Some(text) = decimals::answer(alloc, call, given)? {
         return Ok(Some(text));
     }
     if let Some(text) = many::answer(alloc, call, given)? {

@@ -23,6 +23,7 @@ use Rattle.smithy_job.specs.Common as jobs
 use Rattle.smithy_job.specs.Common.{Many, common, inputs_given, job_by, job_for, many}
 use Rattle.smithy_job.specs.CommonView.{IsCommon, IsReadBy, input_read, nodes_among, writes_seen}
 use Rattle.smithy_job.specs.Inputs.{input}
+use Rattle.smithy_model.specs.declared.floats.Floats.TheVariants.{Kept}
 use Rattle.smithy_job.specs.Tables.{Has, ReadsAs}
 use Rattle.smithy_job.specs.declared.common.Common.{Common}
 use Rattle.smithy_job.specs.declared.common.Inputs.{Inputs}
@@ -78,7 +79,7 @@ made_none text stored nodes = λ is o. tt
 -- what comes of a value is what comes of its writes
 by_writes : (text : Document → List ℕ) (c : jobs.Common) (d : Data) → option_map (answer_with text c) (input_read c.schema d) ≡ answer_for (json_bodies text) c d
 unfolding job_for
-by_writes text c d = go (input c.schema d)
+by_writes text c d = go (input Kept c.schema d)
   where
     go : (ws : Option Writes) → option_map (answer_with text c) (option_map list_of ws) ≡ option_map (answer_of (json_bodies text)) (job_by c ws)
     go None = refl
@@ -218,7 +219,7 @@ requested_without d text none = rw none (go (common d))
 
 by_job : (bodies : Protocol) (c : jobs.Common) (item : Data) → checked_input c.schema ≡ true → outcome_of (answered bodies) (job_for c item) ≡ told_alone (answer_for bodies c item)
 unfolding job_for answered
-by_job bodies c item checked = go (input c.schema item)
+by_job bodies c item checked = go (input Kept c.schema item)
   where
     go : (ws : Option Writes) → outcome_of (answered bodies) (job_by c ws) ≡ told_alone (option_map (answer_of bodies) (job_by c ws))
     go None = refl

@@ -14,12 +14,13 @@ use Rattle.smithy_serde.specs.declared.header_omit_settings.OmitFlags.{OmitFlags
 use Rattle.smithy_serde.specs.declared.value.WriteList.{WriteList}
 use Rattle.smithy_model.specs.Models as models
 use Rattle.smithy_model.specs.views.PlacedView.{IsPlacedAt, IsPlaced, Places}
+use Rattle.smithy_model.specs.declared.floats.Floats.TheVariants.{Kept}
 use Rattle.smithy_model.specs.declared.error.JobError.{JobError}
 use Rattle.smithy_model.specs.declared.error.JobError.TheVariants.{NoJob, OutOfMemory}
 use Rattle.smithy_job.specs.Common as jobs
 use Rattle.smithy_job.specs.Common.{Many, common, common_with, job_by, job_for, inputs_given, are_inputs, if_inputs, many, whole, IsAlone}
 use Rattle.smithy_job.specs.Inputs.{input}
-use Rattle.smithy_job.specs.Jobs.{Job, job, job_with, operation_in, in_model, schema, written, written_by}
+use Rattle.smithy_job.specs.Jobs.{Job, job, job_with, job_with_floats, operation_in, in_model, schema, written, written_by}
 use Rattle.smithy_job.specs.Settings.{endpoint, omit, omit_given, text_given}
 use Rattle.smithy_job.specs.views.CommonView.{input_read, writes_seen, AreInputs, AreReadOver, AreRead, IsCommon, IsWhole, ReadsBehind, TellsInputs, nodes_among}
 use Rattle.smithy_job.specs.views.ReadingView.{Names}
@@ -37,15 +38,15 @@ module _ (d : Data) (text : List ℕ) (flags : OmitFlags) (e : endpoint d ≡ So
   unfolding common
   by_parts = rw (e, o) refl
 
-  pub common-so : (stored : Common) → view stored.job.now ≡ d → stored.endpoint.now ≡ text → stored.omit ≡ flags → IsPlacedAt (schema models.input d) stored.model → Has (common d) (IsCommon stored)
-  common-so stored same text_is flags_is h = rw by_parts (go (schema models.input d) refl h)
+  pub common-so : (stored : Common) → view stored.job.now ≡ d → stored.endpoint.now ≡ text → stored.omit ≡ flags → IsPlacedAt (schema Kept models.input d) stored.model → Has (common d) (IsCommon stored)
+  common-so stored same text_is flags_is h = rw by_parts (go (schema Kept models.input d) refl h)
     where
-      go : (s : Option Schema) → schema models.input d ≡ s → IsPlacedAt s stored.model → Has (option_map (λ x. record { schema = x; endpoint = text; omit = flags }) s) (IsCommon stored)
+      go : (s : Option Schema) → schema Kept models.input d ≡ s → IsPlacedAt s stored.model → Has (option_map (λ x. record { schema = x; endpoint = text; omit = flags }) s) (IsCommon stored)
       go None is h = absurd h
       go (Some s) is h = record { model = rw same is; placed = h; endpoint = text_is; omit = flags_is }
 
-  pub common-refused : (x : JobError) (r : Result Common JobError) → r ≡ Err x → Places (schema models.input d) (Err x) → ReadsAs IsCommon (common d) r
-  common-refused NoJob r is h = rw (is, by_parts) (none-mapped _ (schema models.input d) h)
+  pub common-refused : (x : JobError) (r : Result Common JobError) → r ≡ Err x → Places (schema Kept models.input d) (Err x) → ReadsAs IsCommon (common d) r
+  common-refused NoJob r is h = rw (is, by_parts) (none-mapped _ (schema Kept models.input d) h)
   common-refused OutOfMemory r is h = rw is tt
 
 -- ---- inputs over tables that grow
@@ -131,7 +132,7 @@ some_seen t (Some w ∷ xs) = some_seen t xs
 
 some_input : (c : jobs.Common) (d : Data) → is_some (input_read c.schema d) ≡ is_some (job_for c d)
 unfolding job_for
-some_input c d = go (input c.schema d)
+some_input c d = go (input Kept c.schema d)
   where
     go : (ws : Option Writes) → is_some (option_map list_of ws) ≡ is_some (job_by c ws)
     go None = refl
@@ -186,32 +187,32 @@ module _ (d item alone : Data) (same : IsAlone d item alone) where
   operation-alone : operation_in alone ≡ operation_in d
   operation-alone = rw (same.model, same.operation) refl
 
-  schema-alone : schema models.input alone ≡ schema models.input d
+  schema-alone : schema Kept models.input alone ≡ schema Kept models.input d
   unfolding schema
   schema-alone = rw operation-alone refl
 
   alone_by : (e : Option (List ℕ)) (o : Option OmitFlags) (s : Option Schema)
-      → option_and_then (λ e. option_and_then (λ o. option_map (λ w. record { schema = w.schema; writes = w.writes; endpoint = e; omit = o }) (option_and_then (λ s. written_by s (input s item)) s)) o) e
-      ≡ option_and_then (λ c. job_by c (input c.schema item)) (option_and_then (λ e. option_and_then (λ o. option_map (λ s. record { schema = s; endpoint = e; omit = o }) s) o) e)
+      → option_and_then (λ e. option_and_then (λ o. option_map (λ w. record { schema = w.schema; writes = w.writes; endpoint = e; omit = o }) (option_and_then (λ s. written_by s (input Kept s item)) s)) o) e
+      ≡ option_and_then (λ c. job_by c (input Kept c.schema item)) (option_and_then (λ e. option_and_then (λ o. option_map (λ s. record { schema = s; endpoint = e; omit = o }) s) o) e)
   alone_by None o s = refl
   alone_by (Some e) None s = refl
   alone_by (Some e) (Some o) None = refl
-  alone_by (Some e) (Some o) (Some s) = go (input s item)
+  alone_by (Some e) (Some o) (Some s) = go (input Kept s item)
     where
       go : (ws : Option Writes) → option_map (λ w. record { schema = w.schema; writes = w.writes; endpoint = e; omit = o }) (written_by s ws) ≡ job_by (record { schema = s; endpoint = e; omit = o }) ws
       go None = refl
       go (Some ws) = refl
 
   -- its writes are those of the item
-  written-alone : written models.input (codes "input") alone ≡ option_and_then (λ s. written_by s (input s item)) (schema models.input d)
+  written-alone : written Kept models.input (codes "input") alone ≡ option_and_then (λ s. written_by s (input Kept s item)) (schema Kept models.input d)
   unfolding written
   written-alone =
-      ap (option_and_then (λ s. written_by s (option_and_then (input s) (get (codes "input") alone)))) schema-alone
-      ∙ ap (λ (i : Option Data). option_and_then (λ s. written_by s (option_and_then (input s) i)) (schema models.input d)) same.input
+      ap (option_and_then (λ s. written_by s (option_and_then (input Kept s) (get (codes "input") alone)))) schema-alone
+      ∙ ap (λ (i : Option Data). option_and_then (λ s. written_by s (option_and_then (input Kept s) i)) (schema Kept models.input d)) same.input
 
   -- it is what the jobs have in common, with this input
   pub job-alone : job alone ≡ option_and_then (λ c. job_for c item) (common d)
-  unfolding job common job_for
+  unfolding job job_with_floats common job_for
   job-alone =
       (λ i. option_and_then (λ e. option_and_then (λ o. option_map (λ w. record { schema = w.schema; writes = w.writes; endpoint = e; omit = o }) (written-alone i)) (omit_given (same.omit i))) (text_given (same.endpoint i)))
-      ∙ alone_by (endpoint d) (omit d) (schema models.input d)
+      ∙ alone_by (endpoint d) (omit d) (schema Kept models.input d)

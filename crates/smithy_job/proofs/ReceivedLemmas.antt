@@ -12,12 +12,13 @@ use Rattle.smithy_model.specs.views.PlacedView.{IsPlacedAt, ArePlacedAt, Places,
 use Rattle.smithy_model.specs.Reads.{Reads}
 use Rattle.smithy_model.specs.declared.error.JobError.{JobError}
 use Rattle.smithy_model.specs.declared.error.JobError.TheVariants.{NoJob, OutOfMemory}
+use Rattle.smithy_model.specs.declared.floats.Floats.{Floats}
 use Rattle.smithy_model.specs.declared.table.ModelTable.{ModelTable}
 use Rattle.smithy_model.specs.declared.table.PlacedErrors.{PlacedErrors}
 use Rattle.smithy_model.proofs.Each.{and_rest, each_item}
 use Rattle.std.proofs.lemmas.List.{drop_more}
 use Rattle.smithy_job.specs.Jobs as jobs
-use Rattle.smithy_job.specs.Jobs.{errors_given, expected, expected_by_code, message, names_given, received_as, received_by}
+use Rattle.smithy_job.specs.Jobs.{errors_given_with_floats, expected, expected_by_code, expected_with_floats, message, names_given, received_as, received_by}
 use Rattle.smithy_job.specs.Keys.{Keys}
 use Rattle.smithy_job.specs.Responses.{header_in}
 use Rattle.smithy_job.specs.views.Tables.{Has, ReadsAs}
@@ -78,18 +79,18 @@ errors-refused f o NoJob r is h = rw is (none-mapped f o h)
 errors-refused f o OutOfMemory r is h = rw is tt
 
 -- the errors that a response may name, by the names of the service's
-pub errors-so : (k : Keys) (names : List (List ℕ)) (r : Result PlacedErrors JobError) → names_given k.service_errors ≡ Some names → PlacesErrors (jobs.errors_among names k) r → PlacesErrors (errors_given k) r
-unfolding errors_given
-errors-so k names r given h = rw given h
+pub errors-so : (floats : Floats) (k : Keys) (names : List (List ℕ)) (r : Result PlacedErrors JobError) → names_given k.service_errors ≡ Some names → PlacesErrors (jobs.errors_among floats names k) r → PlacesErrors (errors_given_with_floats floats k) r
+unfolding errors_given_with_floats
+errors-so floats k names r given h = rw given h
 
-pub errors-ungiven : {A : Type 0} (k : Keys) (seen : A → List (List ℕ)) (e : JobError) (r : Result PlacedErrors JobError) → r ≡ Err e → Reads seen (names_given k.service_errors) (Err e) → PlacesErrors (errors_given k) r
-unfolding errors_given
-errors-ungiven k seen NoJob r is h = rw (is, h) refl
-errors-ungiven k seen OutOfMemory r is h = rw is tt
+pub errors-ungiven : {A : Type 0} (floats : Floats) (k : Keys) (seen : A → List (List ℕ)) (e : JobError) (r : Result PlacedErrors JobError) → r ≡ Err e → Reads seen (names_given k.service_errors) (Err e) → PlacesErrors (errors_given_with_floats floats k) r
+unfolding errors_given_with_floats
+errors-ungiven floats k seen NoJob r is h = rw (is, h) refl
+errors-ungiven floats k seen OutOfMemory r is h = rw is tt
 
 -- what is expected where no error is named
-pub expected-unnamed : (k : Keys) (names : List (List ℕ)) → k.error ≡ None → names_given k.service_errors ≡ Some names → (r : Result ExpectedIn JobError) → ReadsAs IsExpectedIn (expected_by_code names k) r → ReadsAs IsExpectedIn (expected k) r
-expected-unnamed k names none given r h = rw (none, given) h
+pub expected-unnamed : (floats : Floats) (k : Keys) (names : List (List ℕ)) → k.error ≡ None → names_given k.service_errors ≡ Some names → (r : Result ExpectedIn JobError) → ReadsAs IsExpectedIn (expected_by_code floats names k) r → ReadsAs IsExpectedIn (expected_with_floats floats k) r
+expected-unnamed floats k names none given r h = rw (none, given) h
 
 -- the whole job
 module _ (k : Keys) (m : jobs.Message) (a : message k ≡ Some m) where

@@ -5,6 +5,7 @@ use Rattle.smithy_http.specs.Requests.{Request}
 use Rattle.smithy_schema.specs.Nodes.{Schema, at_place}
 use Rattle.smithy_serde.specs.declared.header_omit_settings.OmitFlags.{OmitFlags}
 use Rattle.smithy_model.specs.Models as models
+use Rattle.smithy_model.specs.declared.floats.Floats.TheVariants.{Kept}
 use Rattle.smithy_model.specs.views.PlacedView.{IsPlacedAt, Places}
 use Rattle.smithy_model.specs.declared.error.JobError.{JobError}
 use Rattle.smithy_model.specs.declared.error.JobError.TheVariants.{NoJob, OutOfMemory}
@@ -24,8 +25,8 @@ module _ (d : Data) (q : Request) (e : List ℕ) (o : OmitFlags) (read : request
   by_parts = rw (read, text, flags) refl
 
   pub recovering-so : (stored : Recovering) (placed : ModelTable) → stored.request ≡ q → stored.table ≡ placed.table → stored.index ≡ placed.index → stored.endpoint.now ≡ e → stored.omit ≡ o
-      → IsPlacedAt (schema models.input d) placed → Has (recovering d) (IsRecovering stored)
-  recovering-so stored placed request table index same left_out h = rw by_parts (go (schema models.input d) h)
+      → IsPlacedAt (schema Kept models.input d) placed → Has (recovering d) (IsRecovering stored)
+  recovering-so stored placed request table index same left_out h = rw by_parts (go (schema Kept models.input d) h)
     where
       go : (s : Option Schema) → IsPlacedAt s placed → Has (option_map (λ x. record { request = q; schema = x; endpoint = e; omit = o }) s) (IsRecovering stored)
       go None none = absurd none
@@ -38,6 +39,6 @@ module _ (d : Data) (q : Request) (e : List ℕ) (o : OmitFlags) (read : request
           }
 
   -- a model that is refused
-  pub recovering-refused : (x : JobError) (r : Result Recovering JobError) → r ≡ Err x → Places (schema models.input d) (Err x) → ReadsAs IsRecovering (recovering d) r
-  recovering-refused NoJob r is h = rw (is, by_parts) (none-mapped _ (schema models.input d) h)
+  pub recovering-refused : (x : JobError) (r : Result Recovering JobError) → r ≡ Err x → Places (schema Kept models.input d) (Err x) → ReadsAs IsRecovering (recovering d) r
+  recovering-refused NoJob r is h = rw (is, by_parts) (none-mapped _ (schema Kept models.input d) h)
   recovering-refused OutOfMemory r is h = rw is tt

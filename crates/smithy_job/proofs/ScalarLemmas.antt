@@ -40,12 +40,12 @@ blob_unread t error d = rw d refl
 pub integer_is : (n t : List ℕ) → n ≡ t → is_big_integer_in_range t ≡ true → IsScalar (stored.BigInteger n) (cond (is_big_integer_in_range t) (big_integer t) (text t))
 integer_is n t e in_range = rw in_range (big_is n t e)
 
-decimal_alone : (n t : List ℕ) → n ≡ t → IsScalar (stored.BigDecimal n) (big_decimal t)
+pub big_decimal_is : (n t : List ℕ) → n ≡ t → IsScalar (stored.BigDecimal n) (big_decimal t)
 unfolding value_in IsDefined
-decimal_alone n t e = record { value = λ table. rw e refl; defined = λ table. tt }
+big_decimal_is n t e = record { value = λ table. rw e refl; defined = λ table. tt }
 
 pub decimal_is : (n t : List ℕ) → n ≡ t → is_big_decimal_in_range t ≡ true → IsScalar (stored.BigDecimal n) (cond (is_big_decimal_in_range t) (big_decimal t) (text t))
-decimal_is n t e in_range = rw in_range (decimal_alone n t e)
+decimal_is n t e in_range = rw in_range (big_decimal_is n t e)
 
 pub null_is : IsScalar stored.Null null
 unfolding value_in IsDefined

@@ -9,6 +9,7 @@ use Rattle.smithy_model.specs.Models.{Asked}
 use Rattle.smithy_model.specs.views.PlacedView.{IsPlaced, IsPlacedAt, Places}
 use Rattle.smithy_model.specs.declared.error.JobError.{JobError}
 use Rattle.smithy_model.specs.declared.error.JobError.TheVariants.{NoJob, OutOfMemory}
+use Rattle.smithy_model.specs.declared.floats.Floats.{Floats}
 use Rattle.smithy_model.specs.declared.table.ModelTable.{ModelTable}
 use Rattle.smithy_job.specs.Inputs.{input}
 use Rattle.smithy_job.specs.Jobs.{schema, written, written_by}
@@ -18,20 +19,20 @@ use Rattle.smithy_job.specs.declared.written.Written.{Written as Stored}
 use Rattle.smithy_job.proofs.TableLemmas.{keeps-all, model-label}
 use Rattle.smithy_job.proofs.ValueLemmas.{has_node}
 
-pub no_schema : (asked : Asked) (key : List ℕ) (d : Data) → schema asked d ≡ None → written asked key d ≡ None
+pub no_schema : (floats : Floats) (asked : Asked) (key : List ℕ) (d : Data) → schema floats asked d ≡ None → written floats asked key d ≡ None
 unfolding written
-no_schema asked key d e = rw e refl
+no_schema floats asked key d e = rw e refl
 
-module _ (asked : Asked) (key : List ℕ) (d : Data) (s : Schema) (there : schema asked d ≡ Some s) where
-  by_schema : written asked key d ≡ written_by s (option_and_then (input s) (get key d))
+module _ (floats : Floats) (asked : Asked) (key : List ℕ) (d : Data) (s : Schema) (there : schema floats asked d ≡ Some s) where
+  by_schema : written floats asked key d ≡ written_by s (option_and_then (input floats s) (get key d))
   unfolding written
   by_schema = rw there refl
 
-  pub no_writes : option_and_then (input s) (get key d) ≡ None → written asked key d ≡ None
+  pub no_writes : option_and_then (input floats s) (get key d) ≡ None → written floats asked key d ≡ None
   no_writes e = by_schema ∙ ap (written_by s) e
 
-  written_is : (i : Data) (ws : Writes) → get key d ≡ Some i → input s i ≡ Some ws → written asked key d ≡ Some (record { schema = s; writes = list_of ws })
-  written_is i ws a b = by_schema ∙ ap (written_by s) (ap (option_and_then (input s)) a ∙ b)
+  written_is : (i : Data) (ws : Writes) → get key d ≡ Some i → input floats s i ≡ Some ws → written floats asked key d ≡ Some (record { schema = s; writes = list_of ws })
+  written_is i ws a b = by_schema ∙ ap (written_by s) (ap (option_and_then (input floats s)) a ∙ b)
 
 -- the schema that was placed
 pub placed_schema : (o : Option Schema) (placed : ModelTable) → IsPlacedAt o placed → (s : Schema) × (o ≡ Some s) × IsPlaced placed s
@@ -42,12 +43,12 @@ placed_schema (Some s) placed h = (s, refl, h)
 pub schema_there : (placed : ModelTable) (s here : Schema) → IsPlaced placed s → Some here ≡ at_place placed.table placed.index.0 → here ≡ s
 schema_there placed s here h at = ap (λ (o : Option Schema). unwrap_or o s) (at ∙ ap (λ t. at_place t placed.index.0) h.nodes ∙ h.node)
 
-module _ (asked : Asked) (key : List ℕ) (d : Data) (s : Schema) (there : schema asked d ≡ Some s) (stored : Stored) (names : List (Bor (List ℕ))) (i : Data) where
-  by_input : (o : Option Writes) → input s i ≡ o → Has o (AreWrites (nodes_with stored.table names) stored.writes) → at_place stored.table stored.index.0 ≡ Some s
-      → get key d ≡ Some i → nodes_in stored ≡ nodes_with stored.table names → Has (written asked key d) (IsWritten stored)
+module _ (floats : Floats) (asked : Asked) (key : List ℕ) (d : Data) (s : Schema) (there : schema floats asked d ≡ Some s) (stored : Stored) (names : List (Bor (List ℕ))) (i : Data) where
+  by_input : (o : Option Writes) → input floats s i ≡ o → Has o (AreWrites (nodes_with stored.table names) stored.writes) → at_place stored.table stored.index.0 ≡ Some s
+      → get key d ≡ Some i → nodes_in stored ≡ nodes_with stored.table names → Has (written floats asked key d) (IsWritten stored)
   by_input None e h at given nodes = absurd h
   by_input (Some ws) e h at given nodes =
-      rw (written_is asked key d s there i ws given e)
+      rw (written_is floats asked key d s there i ws given e)
       (record {
         schema = at;
         writes = ap list_of (h.writes (nodes_in stored) (rw nodes (keeps-all (nodes_with stored.table names))));
@@ -55,11 +56,11 @@ module _ (asked : Asked) (key : List ℕ) (d : Data) (s : Schema) (there : schem
         defined = h.defined (nodes_in stored) (rw nodes (keeps-all (nodes_with stored.table names)));
       })
 
-  pub written_read : Has (input s i) (AreWrites (nodes_with stored.table names) stored.writes) → at_place stored.table stored.index.0 ≡ Some s → get key d ≡ Some i
-      → nodes_in stored ≡ nodes_with stored.table names → Has (written asked key d) (IsWritten stored)
-  written_read h at given nodes = by_input (input s i) refl h at given nodes
+  pub written_read : Has (input floats s i) (AreWrites (nodes_with stored.table names) stored.writes) → at_place stored.table stored.index.0 ≡ Some s → get key d ≡ Some i
+      → nodes_in stored ≡ nodes_with stored.table names → Has (written floats asked key d) (IsWritten stored)
+  written_read h at given nodes = by_input (input floats s i) refl h at given nodes
 
 -- a model that is refused
-pub written_refused : (asked : Asked) (key : List ℕ) (d : Data) (e : JobError) (r : Result Stored JobError) → r ≡ Err e → Places (schema asked d) (Err e) → ReadsAs IsWritten (written asked key d) r
-written_refused asked key d NoJob r is h = rw is (no_schema asked key d h)
-written_refused asked key d OutOfMemory r is h = rw is tt
+pub written_refused : (floats : Floats) (asked : Asked) (key : List ℕ) (d : Data) (e : JobError) (r : Result Stored JobError) → r ≡ Err e → Places (schema floats asked d) (Err e) → ReadsAs IsWritten (written floats asked key d) r
+written_refused floats asked key d NoJob r is h = rw is (no_schema floats asked key d h)
+written_refused floats asked key d OutOfMemory r is h = rw is tt

@@ -6,6 +6,7 @@ use Rattle.serde_json.specs.Find.{get}
 use Rattle.smithy_ids.specs.Traits.{Http}
 use Rattle.smithy_model.specs.Models as models
 use Rattle.smithy_model.specs.Models.{http_in_model}
+use Rattle.smithy_model.specs.declared.floats.Floats.TheVariants.{Kept}
 use Rattle.smithy_job.specs.Jobs.{Written, in_model, written}
 use Rattle.smithy_job.specs.Responses.{three_digits, status_in}
 
@@ -35,7 +36,7 @@ abbrev pub code_asked : Data → Option ℕ
 code_asked job = code_given job (get (codes "status") job)
 
 abbrev pub answering_with : Data → ℕ → Option Answering
-answering_with job c = option_map (λ w. record { output = w; code = c }) (written models.output (codes "output") job)
+answering_with job c = option_map (λ w. record { output = w; code = c }) (written Kept models.output (codes "output") job)
 
 -- The job of an output that a JSON value is, and none where it has not the form of one.
 unfoldable pub answering : Data → Option Answering

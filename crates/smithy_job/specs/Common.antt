@@ -8,6 +8,7 @@ use Rattle.smithy_serde.specs.Values.{Writes, list_of}
 use Rattle.smithy_serde.specs.declared.header_omit_settings.OmitFlags.{OmitFlags}
 use Rattle.smithy_model.specs.Json.{items_in, provided}
 use Rattle.smithy_model.specs.Models as models
+use Rattle.smithy_model.specs.declared.floats.Floats.TheVariants.{Kept}
 use Rattle.smithy_job.specs.Inputs.{input}
 use Rattle.smithy_job.specs.Jobs.{Job, schema}
 use Rattle.smithy_job.specs.Settings.{endpoint, omit}
@@ -19,7 +20,7 @@ pub record Common : Type 0 where
   pub omit : OmitFlags
 
 abbrev pub common_with : Data → List ℕ → OmitFlags → Option Common
-common_with job e o = option_map (λ s. record { schema = s; endpoint = e; omit = o }) (schema models.input job)
+common_with job e o = option_map (λ s. record { schema = s; endpoint = e; omit = o }) (schema Kept models.input job)
 
 -- what the jobs of many inputs have in common
 unfoldable pub common : Data → Option Common
@@ -30,7 +31,7 @@ job_by c ws = option_map (λ ws. record { schema = c.schema; writes = list_of ws
 
 -- the job of one input; none where the value has not the form of an input
 unfoldable pub job_for : Common → Data → Option Job
-job_for c d = job_by c (input c.schema d)
+job_for c d = job_by c (input Kept c.schema d)
 
 pub record Many : Type 0 where
   pub common : Common

@@ -5,6 +5,7 @@ use Rattle.smithy_http.specs.Requests.{Request}
 use Rattle.smithy_schema.specs.Nodes.{Schema}
 use Rattle.smithy_serde.specs.declared.header_omit_settings.OmitFlags.{OmitFlags}
 use Rattle.smithy_model.specs.Models as models
+use Rattle.smithy_model.specs.declared.floats.Floats.TheVariants.{Kept}
 use Rattle.smithy_job.specs.Jobs.{schema}
 use Rattle.smithy_job.specs.Requests.{request_given}
 use Rattle.smithy_job.specs.Settings.{endpoint, omit}
@@ -17,7 +18,7 @@ pub record Recovering : Type 0 where
   pub omit : OmitFlags
 
 abbrev pub recovering_with : Data → Request → List ℕ → OmitFlags → Option Recovering
-recovering_with job q e o = option_map (λ s. record { request = q; schema = s; endpoint = e; omit = o }) (schema models.input job)
+recovering_with job q e o = option_map (λ s. record { request = q; schema = s; endpoint = e; omit = o }) (schema Kept models.input job)
 
 -- The job of a request that a JSON value is, and none where it has not the form of one.
 unfoldable pub recovering : Data → Option Recovering

@@ -9,6 +9,7 @@ use Rattle.smithy_ids.specs.Kinds.{is_structure_or_union}
 use Rattle.smithy_schema.specs.Nodes.{Schema, shape, element_of, key_of, value_of, member_named}
 use Rattle.smithy_serde.specs.Values.{Label, label_of, boolean, document, null, Value, scalar, list, map, structure, Writes, no_writes, write}
 use Rattle.smithy_json.specs.FromData.{of_data}
+use Rattle.smithy_model.specs.declared.floats.Floats.{Floats}
 use Rattle.smithy_job.specs.Scalars.{number_at, text_at}
 
 abbrev pub kind_of : Option Schema → Option ShapeType
@@ -47,29 +48,30 @@ document_or here d value = if is_document_kind (kind_of here) then option_map (�
 
 unfoldable mutual
   -- none where there is a float in it
-  pub value_in : Option Schema → Data → Option Value
-  value_in here json.null = document_or here json.null (Some (scalar null))
-  value_in here (json.boolean b) = document_or here (json.boolean b) (Some (scalar (boolean b)))
-  value_in here (json.number n) = document_or here (json.number n) (option_map scalar (number_at (kind_of here) n))
-  value_in here (json.string s) = document_or here (json.string s) (Some (scalar (text_at (kind_of here) s)))
-  value_in here (json.array ds) = document_or here (json.array ds) (option_map list (elements_in (option_and_then element_of here) ds))
-  value_in here (json.object ms) =
+  pub value_in : Floats → Option Schema → Data → Option Value
+  value_in floats here json.null = document_or here json.null (Some (scalar null))
+  value_in floats here (json.boolean b) = document_or here (json.boolean b) (Some (scalar (boolean b)))
+  value_in floats here (json.number n) = document_or here (json.number n) (option_map scalar (number_at floats (kind_of here) n))
+  value_in floats here (json.string s) = document_or here (json.string s) (Some (scalar (text_at (kind_of here) s)))
+  value_in floats here (json.array ds) = document_or here (json.array ds) (option_map list (elements_in floats (option_and_then element_of here) ds))
+  value_in floats here (json.object ms) =
       document_or here (json.object ms)
-      (if is_structure_kind (kind_of here) then option_map structure (members_in here ms)
-      else option_map map (entries_in (option_and_then key_of here) (option_and_then value_of here) ms))
+      (if is_structure_kind (kind_of here) then option_map structure (members_in floats here ms)
+      else option_map map (entries_in floats (option_and_then key_of here) (option_and_then value_of here) ms))
 
-  pub elements_in : Option Schema → Items → Option Writes
-  elements_in element json.no_items = Some no_writes
-  elements_in element (json.item d ds) = option_and_then (λ v. option_map (write (label_at element) v) (elements_in element ds)) (value_in element d)
+  pub elements_in : Floats → Option Schema → Items → Option Writes
+  elements_in floats element json.no_items = Some no_writes
+  elements_in floats element (json.item d ds) =
+      option_and_then (λ v. option_map (write (label_at element) v) (elements_in floats element ds)) (value_in floats element d)
 
   -- keys and values in turn
-  pub entries_in : Option Schema → Option Schema → Members → Option Writes
-  entries_in key value json.no_members = Some no_writes
-  entries_in key value (json.member k d ms) =
-      option_and_then (λ v. option_map (λ ws. write (label_at key) (scalar (text_at (kind_of key) k)) (write (label_at value) v ws)) (entries_in key value ms)) (value_in value d)
+  pub entries_in : Floats → Option Schema → Option Schema → Members → Option Writes
+  entries_in floats key value json.no_members = Some no_writes
+  entries_in floats key value (json.member k d ms) =
+      option_and_then (λ v. option_map (λ ws. write (label_at key) (scalar (text_at (kind_of key) k)) (write (label_at value) v ws)) (entries_in floats key value ms)) (value_in floats value d)
 
   -- the members of a structure at a node
-  pub members_in : Option Schema → Members → Option Writes
-  members_in here json.no_members = Some no_writes
-  members_in here (json.member k d ms) =
-      option_and_then (λ v. option_map (write (member_label (member_at here k) k) v) (members_in here ms)) (value_in (member_at here k) d)
+  pub members_in : Floats → Option Schema → Members → Option Writes
+  members_in floats here json.no_members = Some no_writes
+  members_in floats here (json.member k d ms) =
+      option_and_then (λ v. option_map (write (member_label (member_at here k) k) v) (members_in floats here ms)) (value_in floats (member_at here k) d)

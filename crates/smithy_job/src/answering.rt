@@ -13,7 +13,7 @@ use crate::response::status_of;
 use crate::written::{Written, read_written};
 use smithy_ids::HttpTrait;
 use smithy_json::JsonValue;
-use smithy_model::{Asked, JobError};
+use smithy_model::{Asked, Floats, JobError};
 use std::alloc::Global;
 
 /// An output that becomes a response.
@@ -82,6 +82,6 @@ pub fn read_answering(alloc: Global, job: &JsonValue<'_>) -> Result<Answering, J
     ensures { ReadsAs IsAnswering (answering (view job.now)) result }
 {
     let code = code_asked(alloc, job)?;
-    let output = read_written(alloc, job, Asked::Output, "output")?;
+    let output = read_written(alloc, job, Asked::Output, "output", Floats::Kept)?;
     Ok(Answering { output, code })
 }

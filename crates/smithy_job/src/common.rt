@@ -14,7 +14,7 @@ use crate::reading::schema_asked;
 use crate::settings::{endpoint_of, omit_of};
 use crate::written::further_nodes;
 use smithy_json::JsonValue;
-use smithy_model::{Asked, JobError, ModelTable, items_of};
+use smithy_model::{Asked, Floats, JobError, ModelTable, items_of};
 use smithy_schema::{SchemaRef, Schemas};
 use smithy_serde::{OmitFlags, WriteList};
 use smithy_types::OutOfMemory;
@@ -57,7 +57,7 @@ pub fn read_common<'v, 't>(
     let Some(omit) = omit_of(job) else {
         return Err(JobError::NoJob);
     };
-    let model = schema_asked(alloc, job, Asked::Input)?;
+    let model = schema_asked(alloc, job, Asked::Input, Floats::Kept)?;
     Ok(Common {
         job,
         model,
@@ -91,6 +91,7 @@ fn read_behind<'t>(
         table: &model.table,
         natural: model.natural,
         earlier: names.as_slice(),
+        floats: Floats::Kept,
     };
     match read_input(alloc, nodes, &mut own, schema, value) {
         Ok(writes) => {
@@ -161,6 +162,7 @@ impl<'v, 't> Common<'v, 't> {
             Asked::Input,
             &self.model.table,
             names.as_slice(),
+            Floats::Kept,
         )?;
         Ok(Inputs { further, each })
     }

@@ -3,8 +3,8 @@ ghost use Rattle.std.specs.Prelude.{◌≡◌, map, option_map};
 ghost use Rattle.smithy_json.specs.views.JsonView.{view};
 ghost use Rattle.smithy_schema.specs.References.{schema_of};
 ghost use Rattle.smithy_job.specs.Values.{natural_label};
-ghost use Rattle.smithy_job.specs.Inputs.{named_value, pair_in, input};
-ghost use Rattle.smithy_job.specs.views.ReadingView.{KeepsNodes, ReadsWrites, pairs_at};
+ghost use Rattle.smithy_job.specs.Inputs.{named_value, pair_in};
+ghost use Rattle.smithy_job.specs.views.ReadingView.{KeepsNodes, ReadsWrites, input_at, pairs_at};
 ghost use Rattle.smithy_job.specs.views.Seen.{seen};
 ghost use Rattle.smithy_job.specs.views.Tables.{HasLabel, StandsIn};
 
@@ -72,7 +72,7 @@ pub fn read_input<'t>(
     requires natural { HasLabel model.table.now model.natural.0 natural_label }
     requires schema { StandsIn model.table.now (schema_of schema) }
     ensures kept { KeepsNodes model.entry names.old names.new result }
-    ensures writes { ReadsWrites model.entry names.new (input (schema_of schema.entry) (view value.now)) result }
+    ensures writes { ReadsWrites model.entry names.new (input_at schema.entry value.now) result }
 {
     match value {
         JsonValue::Object(members) => members_at(

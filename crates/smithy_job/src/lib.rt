@@ -41,10 +41,10 @@ pub use job_kind::JobKind;
 pub use keys::{Keys, responses_of};
 pub use named_operations::NamedOperations;
 pub use operation::Operation;
-pub use reading::{Job, read_job};
+pub use reading::{Job, read_job, read_job_with_floats};
 pub use received::{
-    CodedError, Expected, ExpectedIn, Message, Received, read_errors, read_expected, read_message,
-    read_received, read_received_by,
+    CodedError, Expected, ExpectedIn, Message, Received, read_errors, read_errors_with_floats,
+    read_expected, read_expected_with_floats, read_message, read_received, read_received_by,
 };
 pub use recovering::{Recovering, read_recovering};
 pub use routing::{NamedRouting, read_named_routing};

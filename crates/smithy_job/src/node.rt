@@ -7,6 +7,7 @@ ghost use Rattle.smithy_job.specs.Values.{kind_of, is_document_kind, is_structur
 ghost use Rattle.smithy_job.specs.Values.{label_at, member_at, member_label};
 
 use smithy_ids::{ShapeId, ShapeType};
+use smithy_model::Floats;
 use smithy_schema::{Schema, SchemaIndex, SchemaRef, Schemas};
 use smithy_types::OutOfMemory;
 
@@ -17,6 +18,8 @@ pub struct ModelNodes<'t> {
     pub natural: SchemaIndex,
     /// Names that are no member's and have their nodes behind those of the table.
     pub earlier: &'t [&'t str],
+    /// How the floats of the model were read, and numbers are where a decimal stands.
+    pub floats: Floats,
 }
 
 /// The kind of a node.

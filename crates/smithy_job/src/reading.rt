@@ -6,9 +6,9 @@ ghost use Rattle.smithy_model.specs.views.ModelView.{asked_view};
 ghost use Rattle.smithy_model.specs.views.NameView.{texts};
 ghost use Rattle.smithy_model.specs.views.PlacedView.{Places, PlacesErrors};
 ghost use Rattle.smithy_job.specs.Answering.{operation_http};
-ghost use Rattle.smithy_job.specs.Jobs.{job, operation_in, schema, schema_at, errors_at};
+ghost use Rattle.smithy_job.specs.Jobs.{job, job_with_floats, operation_in, schema, schema_at, errors_at};
 ghost use Rattle.smithy_job.specs.views.KeysView.{operation_at};
-ghost use Rattle.smithy_job.specs.views.Seen.{operation_seen};
+ghost use Rattle.smithy_job.specs.views.Seen.{given_seen, operation_seen};
 ghost use Rattle.smithy_job.specs.views.Tables.{ReadsAs};
 ghost use Rattle.smithy_job.specs.views.JobView.{IsJob};
 
@@ -17,8 +17,8 @@ use crate::written::read_written;
 use smithy_ids::HttpTrait;
 use smithy_json::JsonValue;
 use smithy_model::{
-    Asked, JobError, ModelTable, PlacedErrors, errors_of_operation, http_of_operation,
-    schema_of_operation,
+    Asked, Floats, JobError, ModelTable, PlacedErrors, errors_with_floats, http_of_operation,
+    schema_with_floats,
 };
 use smithy_schema::{SchemaIndex, Schemas};
 use smithy_serde::{OmitFlags, WriteList};
@@ -60,11 +60,12 @@ pub fn schema_at<'t>(
     alloc: Global,
     operation: Option<(&JsonValue<'t>, &'t str)>,
     asked: Asked<'t>,
+    floats: Floats,
 ) -> Result<ModelTable, JobError>
-    ensures { Places (schema_at (asked_view asked.entry) (option_map operation_seen operation.entry)) result }
+    ensures { Places (schema_at floats (asked_view asked.entry) (given_seen operation.entry)) result }
 {
     match operation {
-        Some((model, name)) => schema_of_operation(alloc, model, name, asked),
+        Some((model, name)) => schema_with_floats(alloc, model, name, asked, floats),
         None => Err(JobError::NoJob),
     }
 }
@@ -75,10 +76,11 @@ pub fn schema_asked<'t>(
     alloc: Global,
     job: &JsonValue<'t>,
     asked: Asked<'t>,
+    floats: Floats,
 ) -> Result<ModelTable, JobError>
-    ensures { Places (schema (asked_view asked.entry) (view job.now)) result }
+    ensures { Places (schema floats (asked_view asked.entry) (view job.now)) result }
 {
-    schema_at(alloc, operation_of(job), asked)
+    schema_at(alloc, operation_of(job), asked, floats)
 }
 
 /// The errors of an operation of a model, and these of its service. Takes memory. No job where the model hasn't the form of one.
@@ -87,11 +89,12 @@ pub fn errors_at<'t>(
     alloc: Global,
     given: Option<(&JsonValue<'t>, &'t str)>,
     service: &[&'t str],
+    floats: Floats,
 ) -> Result<PlacedErrors, JobError>
-    ensures { PlacesErrors (errors_at (texts service.now) (option_map operation_seen given.entry)) result }
+    ensures { PlacesErrors (errors_at floats (texts service.now) (given_seen given.entry)) result }
 {
     match given {
-        Some((model, name)) => errors_of_operation(alloc, model, name, service),
+        Some((model, name)) => errors_with_floats(alloc, model, name, service, floats),
         None => Err(JobError::NoJob),
     }
 }
@@ -107,10 +110,15 @@ pub fn http_asked<'t>(alloc: Global, job: &JsonValue<'t>) -> Result<Option<HttpT
     }
 }
 
-/// The job that a JSON value is. Takes memory. What hasn't the form of one is no job.
-#[tactic(auto, unfolding(crate::specs::Jobs::job))]
-pub fn read_job<'t>(alloc: Global, value: &JsonValue<'t>) -> Result<Job<'t>, JobError>
-    ensures { ReadsAs IsJob (job (view value.now)) result }
+/// The job that a JSON value is, with the floats of its model as they are or as decimals; then a whole number of 64 bits
+/// where a decimal stands is the text of its digits. Takes memory. What hasn't the form of one is no job.
+#[tactic(auto, unfolding(crate::specs::Jobs::job_with_floats))]
+pub fn read_job_with_floats<'t>(
+    alloc: Global,
+    value: &JsonValue<'t>,
+    floats: Floats,
+) -> Result<Job<'t>, JobError>
+    ensures { ReadsAs IsJob (job_with_floats floats (view value.now)) result }
 {
     let Some(endpoint) = endpoint_of(value) else {
         return Err(JobError::NoJob);
@@ -118,7 +126,7 @@ pub fn read_job<'t>(alloc: Global, value: &JsonValue<'t>) -> Result<Job<'t>, Job
     let Some(omit) = omit_of(value) else {
         return Err(JobError::NoJob);
     };
-    let written = read_written(alloc, value, Asked::Input, "input")?;
+    let written = read_written(alloc, value, Asked::Input, "input", floats)?;
     Ok(Job {
         table: written.table,
         index: written.index,
@@ -127,4 +135,12 @@ pub fn read_job<'t>(alloc: Global, value: &JsonValue<'t>) -> Result<Job<'t>, Job
         endpoint,
         omit,
     })
+}
+
+/// The same with its floats as they are.
+#[tactic(auto, unfolding(crate::specs::Jobs::job))]
+pub fn read_job<'t>(alloc: Global, value: &JsonValue<'t>) -> Result<Job<'t>, JobError>
+    ensures { ReadsAs IsJob (job (view value.now)) result }
+{
+    read_job_with_floats(alloc, value, Floats::Kept)
 }

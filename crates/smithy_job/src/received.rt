@@ -6,9 +6,9 @@ ghost use Rattle.smithy_model.specs.views.NameView.{texts};
 ghost use Rattle.smithy_model.specs.Reads.{Reads};
 ghost use Rattle.smithy_model.specs.views.ModelView.{asked_view};
 ghost use Rattle.smithy_model.specs.views.PlacedView.{Places, PlacesErrors};
-ghost use Rattle.smithy_job.specs.Jobs.{full_name_in, names_given, errors_among, errors_given, schema_among, expected_output, expected_coded, expected_error, expected_by_code, expected_by_name, expected, message, received, received_by};
+ghost use Rattle.smithy_job.specs.Jobs.{full_name_in, names_given, errors_among, errors_given, errors_given_with_floats, schema_among, expected_output, expected_coded, expected_error, expected_by_code, expected_by_name, expected, expected_with_floats, message, received, received_by};
 ghost use Rattle.smithy_job.specs.views.KeysView.{keys_seen, value_seen};
-ghost use Rattle.smithy_job.specs.views.ReceivedView.{message_seen, IsExpectedIn, IsReceived};
+ghost use Rattle.smithy_job.specs.views.ReceivedView.{message_seen, IsReceived, ReadsExpected};
 ghost use Rattle.smithy_job.specs.views.Tables.{ReadsAs};
 
 use crate::keys::Keys;
@@ -16,7 +16,7 @@ use crate::reading::{errors_at, operation_given, schema_at};
 use crate::response::{policy_given, read_response};
 use smithy_http::{NonUtf8HeaderHandling, Response};
 use smithy_json::JsonValue;
-use smithy_model::{Asked, JobError, ModelTable, PlacedErrors, is_full_name, items_of};
+use smithy_model::{Asked, Floats, JobError, ModelTable, PlacedErrors, is_full_name, items_of};
 use smithy_schema::{SchemaIndex, Schemas};
 use std::alloc::Global;
 
@@ -104,10 +104,16 @@ fn schema_among<'t>(
     alloc: Global,
     keys: &Keys<'_, 't>,
     asked: Asked<'t>,
+    floats: Floats,
 ) -> Result<ModelTable, JobError>
-    ensures { Places (schema_among (asked_view asked.entry) (keys_seen keys.now)) result }
+    ensures { Places (schema_among floats (asked_view asked.entry) (keys_seen keys.now)) result }
 {
-    schema_at(alloc, operation_given(keys.model, keys.operation), asked)
+    schema_at(
+        alloc,
+        operation_given(keys.model, keys.operation),
+        asked,
+        floats,
+    )
 }
 
 // The errors of the operation that stands under the keys, and these of its service.
@@ -115,25 +121,48 @@ fn errors_among<'t>(
     alloc: Global,
     keys: &Keys<'_, 't>,
     service: &[&'t str],
+    floats: Floats,
 ) -> Result<PlacedErrors, JobError>
-    ensures { PlacesErrors (errors_among (texts service.now) (keys_seen keys.now)) result }
+    ensures { PlacesErrors (errors_among floats (texts service.now) (keys_seen keys.now)) result }
 {
-    errors_at(alloc, operation_given(keys.model, keys.operation), service)
+    errors_at(
+        alloc,
+        operation_given(keys.model, keys.operation),
+        service,
+        floats,
+    )
 }
 
 /// The errors that a response may name: those of the operation that stands under the keys, and those that are named as its service's.
-/// Takes memory. No job where they haven't the form, or the model hasn't what they ask for.
+/// The floats of the model are as they are or decimals. Takes memory. No job where they haven't the form, or the model hasn't what
+/// they ask for.
+pub fn read_errors_with_floats(
+    alloc: Global,
+    keys: &Keys<'_, '_>,
+    floats: Floats,
+) -> Result<PlacedErrors, JobError>
+    ensures { PlacesErrors (errors_given_with_floats floats (keys_seen keys.now)) result }
+{
+    let service = service_errors(alloc, keys.service_errors)?;
+    errors_among(alloc, keys, service.as_slice(), floats)
+}
+
+/// The same with its floats as they are.
+#[tactic(auto, unfolding(crate::specs::Jobs::errors_given))]
 pub fn read_errors(alloc: Global, keys: &Keys<'_, '_>) -> Result<PlacedErrors, JobError>
     ensures { PlacesErrors (errors_given (keys_seen keys.now)) result }
 {
-    let service = service_errors(alloc, keys.service_errors)?;
-    errors_among(alloc, keys, service.as_slice())
+    read_errors_with_floats(alloc, keys, Floats::Kept)
 }
 
-fn expected_output<'t>(alloc: Global, keys: &Keys<'_, 't>) -> Result<ExpectedIn<'t>, JobError>
-    ensures { ReadsAs IsExpectedIn (expected_output (keys_seen keys.now)) result }
+fn expected_output<'t>(
+    alloc: Global,
+    keys: &Keys<'_, 't>,
+    floats: Floats,
+) -> Result<ExpectedIn<'t>, JobError>
+    ensures { ReadsExpected (expected_output floats (keys_seen keys.now)) result }
 {
-    let placed = schema_among(alloc, keys, Asked::Output)?;
+    let placed = schema_among(alloc, keys, Asked::Output, floats)?;
     Ok(ExpectedIn {
         table: placed.table,
         expected: Expected::Output(placed.index),
@@ -144,10 +173,11 @@ fn expected_error<'t>(
     alloc: Global,
     keys: &Keys<'_, 't>,
     name: &'t str,
+    floats: Floats,
 ) -> Result<ExpectedIn<'t>, JobError>
-    ensures { ReadsAs IsExpectedIn (expected_error name.now (keys_seen keys.now)) result }
+    ensures { ReadsExpected (expected_error floats name.now (keys_seen keys.now)) result }
 {
-    let placed = schema_among(alloc, keys, Asked::Error(name))?;
+    let placed = schema_among(alloc, keys, Asked::Error(name), floats)?;
     Ok(ExpectedIn {
         table: placed.table,
         expected: Expected::Error(placed.index),
@@ -159,10 +189,11 @@ fn expected_coded<'t>(
     keys: &Keys<'_, 't>,
     code: &'t str,
     service: &[&'t str],
+    floats: Floats,
 ) -> Result<ExpectedIn<'t>, JobError>
-    ensures { ReadsAs IsExpectedIn (expected_coded code.now (texts service.now) (keys_seen keys.now)) result }
+    ensures { ReadsExpected (expected_coded floats code.now (texts service.now) (keys_seen keys.now)) result }
 {
-    let placed = errors_among(alloc, keys, service)?;
+    let placed = errors_among(alloc, keys, service, floats)?;
     Ok(ExpectedIn {
         table: placed.table,
         expected: Expected::Coded(CodedError {
@@ -178,14 +209,15 @@ fn expected_by_code<'t>(
     alloc: Global,
     keys: &Keys<'_, 't>,
     service: &[&'t str],
+    floats: Floats,
 ) -> Result<ExpectedIn<'t>, JobError>
-    ensures { ReadsAs IsExpectedIn (expected_by_code (texts service.now) (keys_seen keys.now)) result }
+    ensures { ReadsExpected (expected_by_code floats (texts service.now) (keys_seen keys.now)) result }
 {
     let Some(code) = keys.code else {
-        return expected_output(alloc, keys);
+        return expected_output(alloc, keys, floats);
     };
     match code.as_str() {
-        Some(code) => expected_coded(alloc, keys, code, service),
+        Some(code) => expected_coded(alloc, keys, code, service, floats),
         None => Err(JobError::NoJob),
     }
 }
@@ -195,30 +227,42 @@ fn expected_by_name<'t>(
     alloc: Global,
     keys: &Keys<'_, 't>,
     name: &JsonValue<'t>,
+    floats: Floats,
 ) -> Result<ExpectedIn<'t>, JobError>
-    ensures { ReadsAs IsExpectedIn (expected_by_name (view name.now) (keys_seen keys.now)) result }
+    ensures { ReadsExpected (expected_by_name floats (view name.now) (keys_seen keys.now)) result }
 {
     match (keys.code, keys.service_errors) {
         (None, None) => match name.as_str() {
-            Some(name) => expected_error(alloc, keys, name),
+            Some(name) => expected_error(alloc, keys, name, floats),
             None => Err(JobError::NoJob),
         },
         _ => Err(JobError::NoJob),
     }
 }
 
-/// What a response is read as, by what stands under the keys. Takes memory. No job where they haven't the form, or the model
-/// hasn't what they ask for.
-pub fn read_expected<'t>(alloc: Global, keys: &Keys<'_, 't>) -> Result<ExpectedIn<'t>, JobError>
-    ensures { ReadsAs IsExpectedIn (expected (keys_seen keys.now)) result }
+/// What a response is read as, by what stands under the keys, with the floats of the model as they are or as decimals. Takes
+/// memory. No job where they haven't the form, or the model hasn't what they ask for.
+pub fn read_expected_with_floats<'t>(
+    alloc: Global,
+    keys: &Keys<'_, 't>,
+    floats: Floats,
+) -> Result<ExpectedIn<'t>, JobError>
+    ensures { ReadsExpected (expected_with_floats floats (keys_seen keys.now)) result }
 {
     match keys.error {
-        Some(name) => expected_by_name(alloc, keys, name),
+        Some(name) => expected_by_name(alloc, keys, name, floats),
         None => {
             let service = service_errors(alloc, keys.service_errors)?;
-            expected_by_code(alloc, keys, service.as_slice())
+            expected_by_code(alloc, keys, service.as_slice(), floats)
         }
     }
+}
+
+/// The same with its floats as they are.
+pub fn read_expected<'t>(alloc: Global, keys: &Keys<'_, 't>) -> Result<ExpectedIn<'t>, JobError>
+    ensures { ReadsExpected (expected (keys_seen keys.now)) result }
+{
+    read_expected_with_floats(alloc, keys, Floats::Kept)
 }
 
 /// The response that stands under the keys, with what is done with a header of it that is not UTF-8. Takes memory. No job where

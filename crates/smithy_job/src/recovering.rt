@@ -9,7 +9,7 @@ use crate::request::request_of;
 use crate::settings::{endpoint_of, omit_of};
 use smithy_http::Request;
 use smithy_json::JsonValue;
-use smithy_model::{Asked, JobError, ModelTable};
+use smithy_model::{Asked, Floats, JobError, ModelTable};
 use smithy_schema::{SchemaIndex, Schemas};
 use smithy_serde::OmitFlags;
 use std::alloc::Global;
@@ -36,7 +36,7 @@ pub fn read_recovering<'t>(alloc: Global, job: &JsonValue<'t>) -> Result<Recover
     let Some(omit) = omit_of(job) else {
         return Err(JobError::NoJob);
     };
-    let ModelTable { table, index, .. } = schema_asked(alloc, job, Asked::Input)?;
+    let ModelTable { table, index, .. } = schema_asked(alloc, job, Asked::Input, Floats::Kept)?;
     Ok(Recovering {
         request,
         table,

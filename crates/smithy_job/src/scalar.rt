@@ -4,8 +4,8 @@ ghost use Rattle.serde_json.specs.View.{number_view};
 ghost use Rattle.smithy_json.specs.views.JsonView.{view};
 ghost use Rattle.smithy_json.specs.FromData.{of_data};
 ghost use Rattle.smithy_serde.specs.Values as values;
-ghost use Rattle.smithy_serde.specs.Values.{big_integer, document};
-ghost use Rattle.smithy_job.specs.Scalars.{whole_at, number_at, text_at};
+ghost use Rattle.smithy_serde.specs.Values.{big_integer, big_decimal, document};
+ghost use Rattle.smithy_job.specs.Scalars.{whole_at, whole_decimal, large_at, number_at, text_at};
 ghost use Rattle.smithy_job.specs.views.Tables.{ReadsAs, IsScalar};
 
 use base64::DecodeAllocError;
@@ -13,7 +13,7 @@ use base64::engine::general_purpose::STANDARD;
 use serde_json::Number;
 use smithy_ids::ShapeType;
 use smithy_json::{JsonValue, document_of};
-use smithy_model::JobError;
+use smithy_model::{Floats, JobError};
 use smithy_serde::ShapeValue;
 use smithy_types::{BigDecimal, BigInteger, Blob, DateTime, OutOfMemory, Text, TypesError};
 use std::alloc::Global;
@@ -28,14 +28,39 @@ fn big_integer(alloc: Global, text: &str) -> Result<ShapeValue, OutOfMemory>
     }
 }
 
+// The same of a decimal.
+fn big_decimal(alloc: Global, text: &str) -> Result<ShapeValue, OutOfMemory>
+    ensures { IfOk result (λ v. IsScalar v (big_decimal text.now)) }
+{
+    match BigDecimal::parse(alloc, text) {
+        Ok(number) => Ok(ShapeValue::BigDecimal(number)),
+        Err(_) => Err(OutOfMemory),
+    }
+}
+
+// The value of a number of 64 bits where a decimal stands.
+#[tactic(auto, unfolding(smithy_serde::specs::StoredValues::value_in, smithy_serde::specs::StoredValues::IsDefined))]
+fn whole_decimal(alloc: Global, floats: Floats, number: i64) -> Result<ShapeValue, OutOfMemory>
+    ensures { IfOk result (λ v. IsScalar v (whole_decimal floats number)) }
+{
+    match floats {
+        Floats::Kept => Ok(ShapeValue::Long(number)),
+        Floats::Decimals => {
+            let text = format!(in alloc; "{number}")?;
+            big_decimal(alloc, text.as_str())
+        }
+    }
+}
+
 // The value of a number of 64 bits: of the kind, and else a Long.
 #[tactic(auto, unfolding(smithy_serde::specs::StoredValues::value_in, smithy_serde::specs::StoredValues::IsDefined))]
 fn whole_value(
     alloc: Global,
+    floats: Floats,
     kind: Option<ShapeType>,
     number: i64,
 ) -> Result<ShapeValue, OutOfMemory>
-    ensures { IfOk result (λ v. IsScalar v (whole_at kind number)) }
+    ensures { IfOk result (λ v. IsScalar v (whole_at floats kind number)) }
 {
     match kind {
         Some(ShapeType::Byte) => match i8::try_from(number) {
@@ -55,27 +80,47 @@ fn whole_value(
             let text = format!(in alloc; "{number}")?;
             big_integer(alloc, text.as_str())
         }
+        Some(ShapeType::BigDecimal) => whole_decimal(alloc, floats, number),
         _ => Ok(ShapeValue::Long(number)),
     }
 }
 
-/// The value of a number: of the kind where it is in the kind's range, else a Long, and past 64 bits a
-/// BigInteger. Takes memory. A float is no job.
+// The value of a number past 64 bits, by the text of its digits.
+fn large_value(
+    alloc: Global,
+    floats: Floats,
+    kind: Option<ShapeType>,
+    text: &str,
+) -> Result<ShapeValue, OutOfMemory>
+    ensures { IfOk result (λ v. IsScalar v (large_at floats kind text.now)) }
+{
+    match kind {
+        Some(ShapeType::BigDecimal) => match floats {
+            Floats::Kept => big_integer(alloc, text),
+            Floats::Decimals => big_decimal(alloc, text),
+        },
+        _ => big_integer(alloc, text),
+    }
+}
+
+/// The value of a number: of the kind where it is in the kind's range, else a Long, and past 64 bits a BigInteger; where a decimal
+/// stands, and floats are read as decimals, a BigDecimal. Takes memory. A float is no job.
 pub fn number_value(
     alloc: Global,
+    floats: Floats,
     kind: Option<ShapeType>,
     number: &Number,
 ) -> Result<ShapeValue, JobError>
-    ensures { ReadsAs IsScalar (number_at kind (number_view number.now)) result }
+    ensures { ReadsAs IsScalar (number_at floats kind (number_view number.now)) result }
 {
     if let Some(number) = number.as_i64() {
-        return Ok(whole_value(alloc, kind, number)?);
+        return Ok(whole_value(alloc, floats, kind, number)?);
     }
     let Some(number) = number.as_u64() else {
         return Err(JobError::NoJob);
     };
     let text = format!(in alloc; "{number}")?;
-    Ok(big_integer(alloc, text.as_str())?)
+    Ok(large_value(alloc, floats, kind, text.as_str())?)
 }
 
 fn string_value(alloc: Global, text: &str) -> Result<ShapeValue, OutOfMemory>

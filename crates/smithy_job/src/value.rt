@@ -1,7 +1,6 @@
 // The value that a JSON value is at a node.
-ghost use Rattle.smithy_json.specs.views.JsonView.{view};
-ghost use Rattle.smithy_job.specs.Values.{natural_label, value_in};
-ghost use Rattle.smithy_job.specs.views.ReadingView.{node_of, KeepsNodes, ReadsValue, ReadsWrites, elements_at, entries_at, members_at};
+ghost use Rattle.smithy_job.specs.Values.{natural_label};
+ghost use Rattle.smithy_job.specs.views.ReadingView.{node_of, KeepsNodes, ReadsValue, ReadsWrites, value_at, elements_at, entries_at, members_at};
 ghost use Rattle.smithy_job.specs.views.Tables.{HasLabel, MayStandIn};
 
 use crate::node::{
@@ -28,7 +27,7 @@ pub fn value_at<'t>(
     requires natural { HasLabel model.table.now model.natural.0 natural_label }
     requires here { MayStandIn model.table.now (node_of here) }
     ensures kept { KeepsNodes model.entry names.old names.new result }
-    ensures value { ReadsValue model.entry names.new (value_in (node_of here.entry) (view value.now)) result }
+    ensures value { ReadsValue model.entry names.new (value_at here.entry value.now) result }
 {
     let kind = kind_of(here);
     if is_document(kind) {
@@ -37,7 +36,7 @@ pub fn value_at<'t>(
     match value {
         JsonValue::Null => Ok(ShapeValue::Null),
         JsonValue::Bool(truth) => Ok(ShapeValue::Boolean(*truth)),
-        JsonValue::Number(number) => number_value(alloc, kind, number),
+        JsonValue::Number(number) => number_value(alloc, model.floats, kind, number),
         JsonValue::String(text) => Ok(text_value(alloc, kind, *text)?),
         JsonValue::Array(items) => {
             let elements = elements_at(alloc, model, names, element_of(here), items.as_slice())?;

@@ -11,7 +11,7 @@ use crate::input::read_input;
 use crate::node::{ModelNodes, add_nodes};
 use crate::reading::schema_asked;
 use smithy_json::JsonValue;
-use smithy_model::{Asked, JobError, ModelTable};
+use smithy_model::{Asked, Floats, JobError, ModelTable};
 use smithy_schema::{SchemaIndex, Schemas};
 use smithy_serde::WriteList;
 use smithy_types::OutOfMemory;
@@ -36,14 +36,15 @@ pub fn further_nodes<'t>(
     asked: Asked<'t>,
     table: &Schemas,
     names: &[&str],
+    floats: Floats,
 ) -> Result<Option<Schemas>, OutOfMemory>
-    requires { option_map (λ s. s.table) (schema (asked_view asked) (view job.now)) ≡ Some table.now }
+    requires { option_map (λ s. s.table) (schema floats (asked_view asked) (view job.now)) ≡ Some table.now }
     ensures { IfOk result (λ o. unwrap_or o table.now ≡ nodes_with table.now names.now) }
 {
     if names.is_empty() {
         return Ok(None);
     }
-    let Ok(again) = schema_asked(alloc, job, asked) else {
+    let Ok(again) = schema_asked(alloc, job, asked, floats) else {
         return Err(OutOfMemory);
     };
     let mut nodes = again.table;
@@ -58,9 +59,10 @@ fn written_by<'t>(
     asked: Asked<'t>,
     key: &str,
     model: ModelTable,
+    floats: Floats,
 ) -> Result<Written, JobError>
-    requires { IsPlacedAt (schema (asked_view asked) (view job.now)) model }
-    ensures { ReadsAs IsWritten (written (asked_view asked.entry) key.now (view job.now)) result }
+    requires { IsPlacedAt (schema floats (asked_view asked) (view job.now)) model }
+    ensures { ReadsAs IsWritten (written floats (asked_view asked.entry) key.now (view job.now)) result }
 {
     let ModelTable {
         table,
@@ -78,9 +80,10 @@ fn written_by<'t>(
         table: &table,
         natural,
         earlier: &[],
+        floats,
     };
     let writes = read_input(alloc, nodes, &mut names, schema, value)?;
-    let further = further_nodes(alloc, job, asked, &table, names.as_slice())?;
+    let further = further_nodes(alloc, job, asked, &table, names.as_slice(), floats)?;
     Ok(Written {
         table,
         index,
@@ -96,8 +99,10 @@ pub fn read_written<'t>(
     job: &JsonValue<'t>,
     asked: Asked<'t>,
     key: &str,
+    floats: Floats,
 ) -> Result<Written, JobError>
-    ensures { ReadsAs IsWritten (written (asked_view asked.entry) key.now (view job.now)) result }
+    ensures { ReadsAs IsWritten (written floats (asked_view asked.entry) key.now (view job.now)) result }
 {
-    written_by(alloc, job, asked, key, schema_asked(alloc, job, asked)?)
+    let model = schema_asked(alloc, job, asked, floats)?;
+    written_by(alloc, job, asked, key, model, floats)
 }

@@ -1,6 +1,7 @@
 pub mod Each
 pub mod FilledLemmas
 pub mod FirstPlaces
+pub mod FloatLemmas
 pub mod FurtherLemmas
 pub mod Items
 pub mod Lists

@@ -12,6 +12,7 @@ use Rattle.smithy_model.specs.Names.{is_full_name}
 use Rattle.smithy_model.specs.Operations.{Operation, operation_in, operation_at}
 use Rattle.smithy_model.specs.Shapes.{is_of_prelude}
 use Rattle.smithy_model.specs.WrongModels.{is_object, shapes_in}
+use Rattle.smithy_model.specs.declared.floats.Floats.TheVariants.{Kept}
 
 no_member : (d : Data) (name : List ℕ) → as_object d ≡ None → get name d ≡ None
 no_member parsed.null name e = refl
@@ -42,7 +43,7 @@ none_of None e = refl
 none_of (Some x) e = absurd (cc e)
 
 abbrev asked_of : Asked → List ℕ → Data → Option Schema
-asked_of asked name shapes = option_and_then (schema_in asked shapes) (operation_at shapes name)
+asked_of asked name shapes = option_and_then (schema_in Kept asked shapes) (operation_at shapes name)
 
 of_object : (asked : Asked) (name : List ℕ) (o : Option Data) → option_and_then (asked_of asked name) (option_and_then (λ d. provided (is_object d) (Some d)) o) ≡ option_and_then (asked_of asked name) o
 of_object asked name None = refl
@@ -50,7 +51,7 @@ of_object asked name (Some d) = go (is_object d) refl
   where
     go : (b : Bool) → is_object d ≡ b → option_and_then (asked_of asked name) (provided b (Some d)) ≡ asked_of asked name d
     go true e = refl
-    go false e = sym (ap (option_and_then (schema_in asked d)) (no_operation d name (none_of (as_object d) e)))
+    go false e = sym (ap (option_and_then (schema_in Kept asked d)) (no_operation d name (none_of (as_object d) e)))
 
 pub by_shapes : (asked : Asked) (model : Data) (name : List ℕ) → option_and_then (λ shapes. schema_among asked shapes name) (shapes_in model) ≡ schema_in_model asked model name
 unfolding schema_among schema_in_model

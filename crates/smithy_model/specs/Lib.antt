@@ -1,4 +1,5 @@
 pub mod Among
+pub mod Floats
 pub mod Further
 pub mod GivenTraits
 pub mod Json

@@ -2,6 +2,7 @@
 #![tactic(auto)]
 
 mod error;
+mod floats;
 mod further;
 mod json_value;
 mod model;
@@ -27,8 +28,12 @@ mod wrong_shapes;
 mod wrong_traits;
 
 pub use error::JobError;
+pub use floats::Floats;
 pub use json_value::{items_of, members_of, text_of};
-pub use model::{errors_of_operation, http_of_operation, schema_among, schema_of_operation};
+pub use model::{
+    errors_of_operation, errors_with_floats, http_of_operation, schema_among, schema_of_operation,
+    schema_with_floats,
+};
 pub use model_shapes::ModelShapes;
 pub use name::is_full_name;
 pub use pointer::{pointer_of, within};

@@ -2,16 +2,17 @@
 ghost use Rattle.std.specs.Prelude.{◌≡◌};
 ghost use Rattle.smithy_json.specs.views.JsonView.{view};
 ghost use Rattle.smithy_model.specs.Among.{schema_among};
-ghost use Rattle.smithy_model.specs.Models.{http_asked, http_in_model, schema_in_model, errors_in_model};
+ghost use Rattle.smithy_model.specs.Models.{http_asked, http_in_model, schema_in_model, schema_with_floats, errors_in_model, errors_with_floats};
 ghost use Rattle.smithy_model.specs.Reads.{Reads};
 ghost use Rattle.smithy_model.specs.views.ModelView.{asked_view, operation_view, shapes_view};
 ghost use Rattle.smithy_model.specs.views.NameView.{texts};
-ghost use Rattle.smithy_model.specs.views.PlacedView.{Places, PlacesErrors};
+ghost use Rattle.smithy_model.specs.views.PlacedView.{schema_asked, Places, PlacesErrors};
 
 use crate::error::JobError;
+use crate::floats::Floats;
 use crate::model_shapes::ModelShapes;
 use crate::operation::{name_asked, operation_at};
-use crate::reached::{shapes_from, with_http};
+use crate::reached::{shapes_from, with_floats, with_http};
 use crate::shape::{Asked, Operation};
 use crate::table::{ModelTable, PlacedErrors, errors_of, table_of};
 use smithy_ids::HttpTrait;
@@ -25,6 +26,27 @@ fn http_asked<'t>(operation: Operation<'t>, asked: Asked<'_>) -> Option<HttpTrai
         Asked::Input => operation.http,
         _ => None,
     }
+}
+
+// The schema of what is asked of an operation, by the shapes that are reached from it, their floats read so.
+fn schema_by<'t>(
+    alloc: Global,
+    shapes: &ModelShapes<'_, 't>,
+    operation: Operation<'t>,
+    asked: Asked<'_>,
+    floats: Floats,
+) -> Result<ModelTable, JobError>
+    ensures { Places (schema_asked floats asked.entry shapes.now operation.entry) result }
+{
+    let Some(root) = name_asked(&operation, asked) else {
+        return Err(JobError::NoJob);
+    };
+    let reached = with_floats(shapes_from(alloc, shapes, &[root])?, floats);
+    table_of(
+        alloc,
+        &with_http(reached, http_asked(operation, asked)),
+        root,
+    )
 }
 
 /// The schema of what is asked of an operation of this full name, by those of the shapes of a model that are reached from it
@@ -42,21 +64,34 @@ pub fn schema_among(
     ensures { Places (schema_among (asked_view asked.entry) (shapes_view shapes.now) name.now) result }
 {
     let operation = operation_at(alloc, shapes, name)?;
-    let Some(root) = name_asked(&operation, asked) else {
-        return Err(JobError::NoJob);
-    };
-    let reached = shapes_from(alloc, shapes, &[root])?;
-    table_of(
-        alloc,
-        &with_http(reached, http_asked(operation, asked)),
-        root,
-    )
+    schema_by(alloc, shapes, operation, asked, Floats::Kept)
 }
 
-/// The same of a model, whose shapes' names are gone over once. Takes memory.
+/// The same of a model, whose shapes' names are gone over once, with its floats as they are or as decimals. Takes memory.
 ///
 /// No job where the model has no `shapes`, and else as for `schema_among`.
-#[tactic(auto, unfolding(crate::specs::Among::schema_among, crate::specs::Models::schema_in_model))]
+#[tactic(auto, unfolding(crate::specs::Models::schema_with_floats))]
+pub fn schema_with_floats(
+    alloc: Global,
+    model: &JsonValue<'_>,
+    name: &str,
+    asked: Asked<'_>,
+    floats: Floats,
+) -> Result<ModelTable, JobError>
+    ensures { Places (schema_with_floats floats (asked_view asked.entry) (view model.now) name.now) result }
+{
+    let Some(object) = model.get("shapes") else {
+        return Err(JobError::NoJob);
+    };
+    let Some(shapes) = ModelShapes::of(object) else {
+        return Err(JobError::NoJob);
+    };
+    let operation = operation_at(alloc, &shapes, name)?;
+    schema_by(alloc, &shapes, operation, asked, floats)
+}
+
+/// The same with its floats as they are.
+#[tactic(auto, unfolding(crate::specs::Models::schema_in_model, crate::specs::Models::schema_with_floats))]
 pub fn schema_of_operation(
     alloc: Global,
     model: &JsonValue<'_>,
@@ -65,13 +100,7 @@ pub fn schema_of_operation(
 ) -> Result<ModelTable, JobError>
     ensures { Places (schema_in_model (asked_view asked.entry) (view model.now) name.now) result }
 {
-    let Some(object) = model.get("shapes") else {
-        return Err(JobError::NoJob);
-    };
-    let Some(shapes) = ModelShapes::of(object) else {
-        return Err(JobError::NoJob);
-    };
-    schema_among(alloc, &shapes, name, asked)
+    schema_with_floats(alloc, model, name, asked, Floats::Kept)
 }
 
 /// `@http` of an operation of this full name, where it has one. Of the shapes the operation alone is looked at. Takes memory.
@@ -95,17 +124,19 @@ pub fn http_of_operation<'t>(
     Ok(operation.http)
 }
 
-/// The schemas of all errors of an operation of this full name, and of these errors of its service, in one table. Takes memory.
+/// The schemas of all errors of an operation of this full name, and of these errors of its service, in one table, with the
+/// model's floats as they are or as decimals. Takes memory.
 ///
 /// No job as for `schema_of_operation`; each error's shape is reached.
-#[tactic(auto, unfolding(crate::specs::Models::errors_in_model))]
-pub fn errors_of_operation<'t>(
+#[tactic(auto, unfolding(crate::specs::Models::errors_with_floats))]
+pub fn errors_with_floats<'t>(
     alloc: Global,
     model: &JsonValue<'t>,
     name: &str,
     service: &[&'t str],
+    floats: Floats,
 ) -> Result<PlacedErrors, JobError>
-    ensures { PlacesErrors (errors_in_model (texts service.now) (view model.now) name.now) result }
+    ensures { PlacesErrors (errors_with_floats floats (texts service.now) (view model.now) name.now) result }
 {
     let Some(object) = model.get("shapes") else {
         return Err(JobError::NoJob);
@@ -116,6 +147,19 @@ pub fn errors_of_operation<'t>(
     let Operation { errors, .. } = operation_at(alloc, &shapes, name)?;
     let mut names = Vec::from_slice(alloc, errors.as_slice())?;
     names.extend_from_slice(service)?;
-    let reached = shapes_from(alloc, &shapes, names.as_slice())?;
+    let reached = with_floats(shapes_from(alloc, &shapes, names.as_slice())?, floats);
     errors_of(alloc, &reached, errors.as_slice(), service)
+}
+
+/// The same with its floats as they are.
+#[tactic(auto, unfolding(crate::specs::Models::errors_in_model, crate::specs::Models::errors_with_floats))]
+pub fn errors_of_operation<'t>(
+    alloc: Global,
+    model: &JsonValue<'t>,
+    name: &str,
+    service: &[&'t str],
+) -> Result<PlacedErrors, JobError>
+    ensures { PlacesErrors (errors_in_model (texts service.now) (view model.now) name.now) result }
+{
+    errors_with_floats(alloc, model, name, service, Floats::Kept)
 }

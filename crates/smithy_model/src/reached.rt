@@ -1,6 +1,7 @@
 // The shapes that are reached from some.
 ghost use Rattle.std.specs.Prelude.{◌≡◌, ◌++◌, ◌∷◌, [], false, map, IfOk, OnOk, Some};
 ghost use Rattle.smithy_model.specs.Reached.{is_among, with_name, with_names, reached};
+ghost use Rattle.smithy_model.specs.Floats.{decimal_shape, with_floats};
 ghost use Rattle.smithy_model.specs.Models.{with_http};
 ghost use Rattle.smithy_model.specs.Reads.{Reads};
 ghost use Rattle.smithy_model.specs.views.ModelView.{shape_view, shapes_view};
@@ -8,6 +9,7 @@ ghost use Rattle.smithy_model.specs.views.NameView.{texts, ArePositions};
 ghost use Rattle.smithy_model.specs.views.ReachedView.{shapes_of, and_targets, IsWhole};
 
 use crate::error::JobError;
+use crate::floats::{Floats, decimal_kind};
 use crate::model_shapes::ModelShapes;
 use crate::prelude::PRELUDE_SHAPES;
 use crate::shape::{Member, Shape};
@@ -145,4 +147,39 @@ pub fn with_http<'v, 't>(reached: Reached<'v, 't>, http: Option<HttpTrait<'t>>) 
         set_http(shapes.as_mut_slice(), http);
     }
     Reached { shapes, positions }
+}
+
+// Gives those of the shapes that are floats the kind of decimals.
+fn set_decimals(shapes: &mut [Shape<'_, '_>])
+    ensures { map shape_view shapes.new ≡ map decimal_shape (map shape_view shapes.old) }
+{
+    for shape in shapes.iter_mut() {
+        shape.kind = decimal_kind(shape.kind);
+    }
+}
+
+// These shapes, those that are floats with the kind of decimals.
+fn as_decimals<'v, 't>(mut shapes: Vec<Shape<'v, 't>>) -> Vec<Shape<'v, 't>>
+    ensures { map shape_view result.items ≡ map decimal_shape (map shape_view shapes.entry.items) }
+{
+    set_decimals(shapes.as_mut_slice());
+    shapes
+}
+
+/// The same shapes, with their floats as they are or as decimals. Takes no memory.
+pub fn with_floats<'v, 't>(reached: Reached<'v, 't>, floats: Floats) -> Reached<'v, 't>
+    requires { IsWhole reached }
+    ensures shapes { shapes_of result ≡ with_floats floats (shapes_of reached.entry) }
+    ensures whole { IsWhole result }
+{
+    match floats {
+        Floats::Kept => reached,
+        Floats::Decimals => {
+            let Reached { shapes, positions } = reached;
+            Reached {
+                shapes: as_decimals(shapes),
+                positions,
+            }
+        }
+    }
 }

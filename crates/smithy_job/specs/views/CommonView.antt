@@ -13,6 +13,7 @@ use Rattle.smithy_serde.specs.StoredValues.{AreDefined, HasNode, writes_in}
 use Rattle.smithy_serde.specs.Values.{Write, list_of}
 use Rattle.smithy_serde.specs.declared.value.WriteList.{WriteList}
 use Rattle.smithy_model.specs.Models as models
+use Rattle.smithy_model.specs.declared.floats.Floats.TheVariants.{Kept}
 use Rattle.smithy_model.specs.views.PlacedView.{IsPlaced, IsPlacedAt}
 use Rattle.smithy_job.specs.Common as jobs
 use Rattle.smithy_job.specs.Common.{Many, are_inputs}
@@ -24,14 +25,14 @@ use Rattle.smithy_job.specs.declared.common.Common.{Common}
 use Rattle.smithy_job.specs.declared.common.Inputs.{Inputs}
 
 pub record IsCommon (stored : Common) (is : jobs.Common) : Type 0 where
-  pub model : schema models.input (view stored.job.now) ≡ Some is.schema
+  pub model : schema Kept models.input (view stored.job.now) ≡ Some is.schema
   pub placed : IsPlaced stored.model is.schema
   pub endpoint : stored.endpoint.now ≡ is.endpoint
   pub omit : stored.omit ≡ is.omit
 
 -- its schema is that of its job's operation
 abbrev pub IsReadCommon : Common → Type 0
-IsReadCommon stored = IsPlacedAt (schema models.input (view stored.job.now)) stored.model
+IsReadCommon stored = IsPlacedAt (schema Kept models.input (view stored.job.now)) stored.model
 
 -- the writes of an input, where there is one
 abbrev pub writes_seen : Table → Option WriteList → Option (List Write)
@@ -39,7 +40,7 @@ writes_seen nodes stored = option_map (λ w. list_of (writes_in nodes w)) stored
 
 -- the writes of a value, where it has the form of an input
 abbrev pub input_read : Schema → Data → Option (List Write)
-input_read s d = option_map list_of (input s d)
+input_read s d = option_map list_of (input Kept s d)
 
 -- those of values, by a node of the code
 abbrev pub input_at : SchemaRef → JsonValue → Option (List Write)

@@ -1,9 +1,11 @@
 -- The job of a response that the code's one stands for.
-use Rattle.std.specs.Prelude.{◌≡◌, Some}
+use Rattle.std.specs.Prelude.{◌≡◌, Option, Some, Result}
 use Rattle.smithy_schema.specs.Nodes.{Table, at_place}
 use Rattle.smithy_model.specs.Nodes.{Errors}
 use Rattle.smithy_model.specs.views.PlacedView.{StandAt}
+use Rattle.smithy_model.specs.declared.error.JobError.{JobError}
 use Rattle.smithy_job.specs.Jobs as jobs
+use Rattle.smithy_job.specs.views.Tables.{ReadsAs}
 use Rattle.smithy_job.specs.declared.received.CodedError.{CodedError}
 use Rattle.smithy_job.specs.declared.received.Expected.{Expected}
 use Rattle.smithy_job.specs.declared.received.Expected.TheVariants.{Output, Error, Coded}
@@ -27,6 +29,9 @@ message_seen m = record { response = m.response; policy = m.policy }
 
 abbrev pub IsExpectedIn : ExpectedIn → jobs.Expected → Type 0
 IsExpectedIn stored is = IsExpected stored.table stored.expected is
+
+abbrev pub ReadsExpected : Option jobs.Expected → Result ExpectedIn JobError → Type 0
+ReadsExpected expected result = ReadsAs IsExpectedIn expected result
 
 pub record IsReceived (stored : Received) (is : jobs.Received) : Type 0 where
   pub response : stored.response ≡ is.response

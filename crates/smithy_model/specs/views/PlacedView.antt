@@ -3,10 +3,16 @@ use Rattle.std.specs.Prelude.{◌≡◌, ℕ, List, map, Option, Some, None, Res
 use Rattle.std.specs.Borrow.{Bor}
 use Rattle.smithy_schema.specs.Nodes.{Table, Schema, node_at, at_place}
 use Rattle.smithy_schema.specs.declared.parts.SchemaIndex.{SchemaIndex}
+use Rattle.smithy_model.specs.Models.{schema_in}
 use Rattle.smithy_model.specs.Nodes.{Errors, errors_of, natural_node}
+use Rattle.smithy_model.specs.views.ModelView.{asked_view, operation_view, shapes_view}
 use Rattle.smithy_model.specs.views.NameView.{texts}
 use Rattle.smithy_model.specs.views.ReachedView.{shapes_of}
+use Rattle.smithy_model.specs.declared.floats.Floats.{Floats}
+use Rattle.smithy_model.specs.declared.model_shapes.ModelShapes.{ModelShapes}
 use Rattle.smithy_model.specs.declared.reached.Reached.{Reached}
+use Rattle.smithy_model.specs.declared.shape.Asked.{Asked}
+use Rattle.smithy_model.specs.declared.shape.Operation.{Operation}
 use Rattle.smithy_model.specs.declared.error.JobError.{JobError}
 use Rattle.smithy_model.specs.declared.error.JobError.TheVariants.{NoJob, OutOfMemory}
 use Rattle.smithy_model.specs.declared.table.ModelTable.{ModelTable}
@@ -27,6 +33,10 @@ abbrev pub Places : Option Schema → Result ModelTable JobError → Type 0
 Places schema (Ok placed) = IsPlacedAt schema placed
 Places schema (Err NoJob) = schema ≡ None
 Places schema (Err OutOfMemory) = Unit {0}
+
+-- the schema of what is asked of an operation, by the shapes of a model
+abbrev pub schema_asked : Floats → Asked → ModelShapes → Operation → Option Schema
+schema_asked floats asked shapes operation = schema_in floats (asked_view asked) (shapes_view shapes) (operation_view operation)
 
 -- the errors of these names among the shapes
 abbrev pub errors_among : Reached → List (Bor (List ℕ)) → List (Bor (List ℕ)) → Option Errors

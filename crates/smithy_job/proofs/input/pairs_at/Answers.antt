@@ -15,8 +15,8 @@ loop-item-init c = record {
 
 pub returns-in_err-value-clause-writes : goal.returns-in_err-value-clause-writes
 returns-in_err-value-clause-writes c =
-    next_refused _ _ _ _ (value_in (option_map schema_of c.member_at-node.result) (view c.in-Some.value.now)) _ c.in_err-value.field-0.0 c.from_residual-in_err-value.result (search rules)
-    (rw (next_pair (schema_of c.args.schema) c.args.items.now c.loop-item.item-index c.item-item.result c.in-Some.name.now (view c.in-Some.value.now) c.loop-item-test.true c.item-item.is (sym c.in-Some.ensures), ← c.member_at-node.ensures) at c.loop-item.invariant.so_far)
+    next_refused _ _ _ _ (value_in c.args.model.floats (option_map schema_of c.member_at-node.result) (view c.in-Some.value.now)) _ c.in_err-value.field-0.0 c.from_residual-in_err-value.result (search rules)
+    (rw (next_pair c.args.model.floats (schema_of c.args.schema) c.args.items.now c.loop-item.item-index c.item-item.result c.in-Some.name.now (view c.in-Some.value.now) c.loop-item-test.true c.item-item.is (sym c.in-Some.ensures), ← c.member_at-node.ensures) at c.loop-item.invariant.so_far)
     c.in_err-value.ensures.value
 
 pub loop-item-preserved : goal.loop-item-preserved
@@ -25,10 +25,10 @@ loop-item-preserved c =
     record {
       kept = keeps-both _ _ _ c.loop-item.invariant.kept kept;
       so_far =
-          value_more _ _ c.loop-item.writes c.push.new.self c.in_ok-index.index _ c.in_ok-value.value (value_in (option_map schema_of c.member_at-node.result) (view c.in-Some.value.now)) _ _ kept
+          value_more _ _ c.loop-item.writes c.push.new.self c.in_ok-index.index _ c.in_ok-value.value (value_in c.args.model.floats (option_map schema_of c.member_at-node.result) (view c.in-Some.value.now)) _ _ kept
           (label-kept _ _ _ _ c.in_ok-value.ensures.kept c.in_ok-index.ensures.index) c.in_ok-value.ensures.value c.in_ok-push.ensures.ok c.in_ok-push.ensures.ok_defined
-          (rw (next_pair (schema_of c.args.schema) c.args.items.now c.loop-item.item-index c.item-item.result c.in-Some.name.now (view c.in-Some.value.now) c.loop-item-test.true c.item-item.is (sym c.in-Some.ensures), ← c.member_at-node.ensures) at c.loop-item.invariant.so_far);
+          (rw (next_pair c.args.model.floats (schema_of c.args.schema) c.args.items.now c.loop-item.item-index c.item-item.result c.in-Some.name.now (view c.in-Some.value.now) c.loop-item-test.true c.item-item.is (sym c.in-Some.ensures), ← c.member_at-node.ensures) at c.loop-item.invariant.so_far);
     }
 
 pub returns-clause-writes : goal.returns-clause-writes
-returns-clause-writes c = so_far-end _ _ _ _ (no_pair (schema_of c.args.schema) c.args.items.now c.loop-item.item-index c.loop-item-test.false) c.loop-item.invariant.so_far
+returns-clause-writes c = so_far-end _ _ _ _ (no_pair c.args.model.floats (schema_of c.args.schema) c.args.items.now c.loop-item.item-index c.loop-item-test.false) c.loop-item.invariant.so_far

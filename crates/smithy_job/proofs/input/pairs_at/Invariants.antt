@@ -9,5 +9,5 @@ use Rattle.smithy_job.proofs.input.pairs_at.Given as goal
 abbrev pub invariant-loop-item : goal.invariant-loop-item
 invariant-loop-item l = record {
   kept : Keeps (nodes_with (nodes_with l.model.table.now l.model.earlier.now) l.fn.names.items) (nodes_with (nodes_with l.model.table.now l.model.earlier.now) l.names.items);
-  so_far : SoFar (nodes_with (nodes_with l.model.table.now l.model.earlier.now) l.names.items) l.writes (pairs_in (schema_of l.schema) (items_view (drop l.item-index l.items))) (pairs_in (schema_of l.schema) (items_view l.items));
+  so_far : SoFar (nodes_with (nodes_with l.model.table.now l.model.earlier.now) l.names.items) l.writes (pairs_in l.model.floats (schema_of l.schema) (items_view (drop l.item-index l.items))) (pairs_in l.model.floats (schema_of l.schema) (items_view l.items));
 }

@@ -14,21 +14,21 @@ use Rattle.smithy_job.proofs.written.written_by.Goals as goal
 pub returns-in_default-get : goal.returns-in_default-get
 returns-in_default-get c =
     let asked = asked_view c.args.asked in
-    let placed = placed_schema (schema asked (view c.args.job.now)) c.args.model c.requires in
-    no_writes asked c.args.key.now (view c.args.job.now) placed.0 placed.1 (ap (option_and_then (input placed.0)) (sym c.in_default-get.ensures))
+    let placed = placed_schema (schema c.args.floats asked (view c.args.job.now)) c.args.model c.requires in
+    no_writes c.args.floats asked c.args.key.now (view c.args.job.now) placed.0 placed.1 (ap (option_and_then (input c.args.floats placed.0)) (sym c.in_default-get.ensures))
 
 pub returns-in_err-writes : goal.returns-in_err-writes
 returns-in_err-writes c =
     let asked = asked_view c.args.asked in
-    let placed = placed_schema (schema asked (view c.args.job.now)) c.args.model c.requires in
+    let placed = placed_schema (schema c.args.floats asked (view c.args.job.now)) c.args.model c.requires in
     let same = schema_there c.args.model placed.0 (schema_of c.in-Some.schema) placed.2 c.in-Some.ensures.node in
-    refuses (AreWrites (nodes_with (nodes_with c.args.model.table []) c.read_input.new.names.items)) IsWritten (input (schema_of c.in-Some.schema) (view c.in-Some-get.value.now)) _ c.in_err-writes.field-0.0 c.from_residual.result (search rules)
-    (λ none. no_writes asked c.args.key.now (view c.args.job.now) placed.0 placed.1 (ap (option_and_then (input placed.0)) (sym c.in-Some-get.ensures) ∙ ap (λ s. input s (view c.in-Some-get.value.now)) (sym same) ∙ none)) c.in_err-writes.ensures.writes
+    refuses (AreWrites (nodes_with (nodes_with c.args.model.table []) c.read_input.new.names.items)) IsWritten (input c.args.floats (schema_of c.in-Some.schema) (view c.in-Some-get.value.now)) _ c.in_err-writes.field-0.0 c.from_residual.result (search rules)
+    (λ none. no_writes c.args.floats asked c.args.key.now (view c.args.job.now) placed.0 placed.1 (ap (option_and_then (input c.args.floats placed.0)) (sym c.in-Some-get.ensures) ∙ ap (λ s. input c.args.floats s (view c.in-Some-get.value.now)) (sym same) ∙ none)) c.in_err-writes.ensures.writes
 
 pub returns : goal.returns
 returns c =
     let asked = asked_view c.args.asked in
-    let placed = placed_schema (schema asked (view c.args.job.now)) c.args.model c.requires in
+    let placed = placed_schema (schema c.args.floats asked (view c.args.job.now)) c.args.model c.requires in
     let same = schema_there c.args.model placed.0 (schema_of c.in-Some.schema) placed.2 c.in-Some.ensures.node in
-    written_read asked c.args.key.now (view c.args.job.now) placed.0 placed.1 _ c.read_input.new.names.items (view c.in-Some-get.value.now) (rw same at (rw (append-nil c.args.model.table) at c.in_ok-writes.ensures.writes))
+    written_read c.args.floats asked c.args.key.now (view c.args.job.now) placed.0 placed.1 _ c.read_input.new.names.items (view c.in-Some-get.value.now) (rw same at (rw (append-nil c.args.model.table) at c.in_ok-writes.ensures.writes))
     (sym c.in-Some.ensures.node ∙ ap (λ s. Some s) same) (sym c.in-Some-get.ensures) (rw c.as_slice.ensures.value at c.in_ok-further.ensures)
