@@ -23,8 +23,9 @@ use Rattle.smithy_model.specs.Reads.{Reads}
 use Rattle.smithy_model.specs.declared.error.JobError.{JobError}
 use Rattle.smithy_model.specs.declared.error.JobError.TheVariants as job_error
 use Rattle.smithy_model.specs.declared.table.PlacedErrors.{PlacedErrors}
+use Rattle.smithy_model.specs.declared.floats.Floats.TheVariants.{Decimals}
 use Rattle.smithy_job.specs.Jobs as jobs
-use Rattle.smithy_job.specs.Jobs.{errors_given, expected, message}
+use Rattle.smithy_job.specs.Jobs.{errors_given_with_floats, expected_with_floats, message}
 use Rattle.smithy_job.specs.Keys.{Keys}
 use Rattle.smithy_job.specs.ReceivedView.{message_seen, IsCoded, IsExpected, IsExpectedIn}
 use Rattle.smithy_job.specs.Tables.{Has, ReadsAs}
@@ -232,30 +233,30 @@ module _ (reading : AwsReading) (k : Keys) (r : Result Answer JobError) where
     message_so read told = rw read told
 
     -- what the job asks
-    pub expected_none : is_asked k m.response ≡ true → (x : JobError) → r ≡ Err x → ReadsAs IsExpectedIn (expected k) (Err x) → Gives (outcome_of told_reply (message_read reading k (message_seen m))) r
+    pub expected_none : is_asked k m.response ≡ true → (x : JobError) → r ≡ Err x → ReadsAs IsExpectedIn (expected_with_floats Decimals k) (Err x) → Gives (outcome_of told_reply (message_read reading k (message_seen m))) r
     unfolding expected_for
     expected_none asked job_error.NoJob is h = rw (is, asked, h) refl
     expected_none asked job_error.OutOfMemory is h = rw is tt
 
-    pub expected_so : is_asked k m.response ≡ true → (stored : ExpectedIn) → Has (expected k) (IsExpectedIn stored) → TellsExpected reading stored m r
+    pub expected_so : is_asked k m.response ≡ true → (stored : ExpectedIn) → Has (expected_with_floats Decimals k) (IsExpectedIn stored) → TellsExpected reading stored m r
         → Gives (outcome_of told_reply (message_read reading k (message_seen m))) r
     unfolding expected_for
-    expected_so asked stored has told = rw asked (go (expected k) has)
+    expected_so asked stored has told = rw asked (go (expected_with_floats Decimals k) has)
       where
         go : (o : Option jobs.Expected) → Has o (IsExpectedIn stored) → Gives (outcome_of told_reply (option_and_then (reply_as reading (message_seen m)) (option_map Ok o))) r
         go None has = absurd has
         go (Some is) has = told is has
 
     -- the error that the response names
-    pub errors_none : is_asked k m.response ≡ false → (x : JobError) → r ≡ Err x → PlacesErrors (errors_given k) (Err x) → Gives (outcome_of told_reply (message_read reading k (message_seen m))) r
+    pub errors_none : is_asked k m.response ≡ false → (x : JobError) → r ≡ Err x → PlacesErrors (errors_given_with_floats Decimals k) (Err x) → Gives (outcome_of told_reply (message_read reading k (message_seen m))) r
     unfolding expected_for
     errors_none unasked job_error.NoJob is h = rw (is, unasked, h) refl
     errors_none unasked job_error.OutOfMemory is h = rw is tt
 
-    pub errors_so : is_asked k m.response ≡ false → (placed : PlacedErrors) → ArePlacedAt (errors_given k) placed → TellsError reading placed m r
+    pub errors_so : is_asked k m.response ≡ false → (placed : PlacedErrors) → ArePlacedAt (errors_given_with_floats Decimals k) placed → TellsError reading placed m r
         → Gives (outcome_of told_reply (message_read reading k (message_seen m))) r
     unfolding expected_for
-    errors_so unasked placed stand told = rw unasked (go (errors_given k) stand)
+    errors_so unasked placed stand told = rw unasked (go (errors_given_with_floats Decimals k) stand)
       where
         go : (o : Option Errors) → ArePlacedAt o placed
             → Gives (outcome_of told_reply (option_and_then (reply_as reading (message_seen m)) (option_map (λ errors. named_error errors (error_code m.response)) o))) r

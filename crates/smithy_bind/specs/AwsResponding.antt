@@ -14,9 +14,10 @@ use Rattle.smithy_aws.specs.ErrorCodes.{error_code}
 use Rattle.smithy_aws.specs.ErrorShapes.{is_success}
 use Rattle.smithy_aws.specs.ResponseValues.{Shape, floored, rest_json1_value, taken}
 use Rattle.smithy_model.specs.Nodes.{Errors}
+use Rattle.smithy_model.specs.declared.floats.Floats.TheVariants.{Decimals}
 use Rattle.smithy_job.specs.AwsKeys.{reading_in}
 use Rattle.smithy_job.specs.Jobs as jobs
-use Rattle.smithy_job.specs.Jobs.{Expected, Message, errors_given, expected, message}
+use Rattle.smithy_job.specs.Jobs.{Expected, Message, errors_given_with_floats, expected_with_floats, message}
 use Rattle.smithy_job.specs.Keys.{Keys, keys_of}
 use Rattle.smithy_job.specs.declared.aws_call.AwsProtocol.{AwsProtocol}
 use Rattle.smithy_job.specs.declared.aws_call.AwsProtocol.TheVariants.{RestJson1, AwsJson10, AwsJson11}
@@ -42,8 +43,8 @@ is_asked k r = says_error k || is_success r.status
 -- what the job asks, and else the error that the response names
 unfoldable pub expected_for : Keys → Response → Option (Result Expected SerdeError)
 expected_for k r =
-    if is_asked k r then option_map Ok (expected k)
-    else option_map (λ errors. named_error errors (error_code r)) (errors_given k)
+    if is_asked k r then option_map Ok (expected_with_floats Decimals k)
+    else option_map (λ errors. named_error errors (error_code r)) (errors_given_with_floats Decimals k)
 
 -- what it is read by: a schema, or no error has the code
 abbrev pub coded_target : List ℕ → Option Schema → Target

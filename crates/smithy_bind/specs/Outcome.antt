@@ -15,11 +15,12 @@ use Rattle.smithy_document.specs.JsonHeld.{json_held}
 use Rattle.smithy_document.specs.JsonText.{json_text}
 use Rattle.serde_json.specs.Data.{Data, null}
 use Rattle.serde_json.specs.Find.{get}
+use Rattle.smithy_model.specs.declared.floats.Floats.TheVariants.{Decimals}
 use Rattle.smithy_job.specs.Answering.{answering}
 use Rattle.smithy_job.specs.AwsKeys.{call_in}
 use Rattle.smithy_job.specs.Common.{many}
 use Rattle.smithy_job.specs.Gateway.{Gateway, gateway}
-use Rattle.smithy_job.specs.Jobs.{Job, job}
+use Rattle.smithy_job.specs.Jobs.{Job, job, job_with_floats}
 use Rattle.smithy_job.specs.Recovering.{Recovering, recovering}
 use Rattle.smithy_job.specs.Routing.{routing}
 use Rattle.smithy_recovery.specs.Recovered.{Reading}
@@ -77,9 +78,13 @@ sent_by Rpc protocol j = called protocol j
 unfoldable pub sent_job : (Job → Outcome) → Data → Outcome
 sent_job answer d = outcome_of answer (job d)
 
+-- the same of a job whose floats are decimals
+unfoldable pub decimal_job_sent : (Job → Outcome) → Data → Outcome
+decimal_job_sent answer d = outcome_of answer (job_with_floats Decimals d)
+
 -- the answer to the input that a JSON value has, by the protocol of AWS that a value names
 abbrev pub sent_by_aws : Data → Data → Outcome
-sent_by_aws protocol d = outcome_of (λ call. sent_job (aws_sent call) d) (call_in protocol d)
+sent_by_aws protocol d = outcome_of (λ call. decimal_job_sent (aws_sent call) d) (call_in protocol d)
 
 -- the same by the protocol that the JSON value names, and what `request` answers where it names none
 unfoldable pub aws_requested : Protocol → Data → Outcome

@@ -3,16 +3,16 @@ ghost use Rattle.smithy_json.specs.JsonView.{view};
 ghost use Rattle.smithy_serde.specs.StructValues.{members_of};
 ghost use Rattle.smithy_job.specs.AwsCallView.{call_seen};
 ghost use Rattle.smithy_bind.specs.AwsRequesting.{aws_sent};
-ghost use Rattle.smithy_bind.specs.Outcome.{aws_requested, json_bodies, sent_by_aws, sent_job};
+ghost use Rattle.smithy_bind.specs.Outcome.{aws_requested, decimal_job_sent, json_bodies, sent_by_aws};
 ghost use Rattle.smithy_bind.specs.views.AnswerView.{Gives};
 ghost use Rattle.smithy_bind.specs.views.AwsView.{SendsByAws, SendsCall, SendsRestJson1};
 
 use crate::sending::job_told;
 use crate::told::{Answer, told};
 use smithy_aws::{AwsJson, AwsJsonVersion, RestJson1Input};
-use smithy_job::{AwsCall, AwsJsonCall, Job, Sending, aws_call_of, read_job};
+use smithy_job::{AwsCall, AwsJsonCall, Job, Sending, aws_call_of, read_job_with_floats};
 use smithy_json::JsonValue;
-use smithy_model::JobError;
+use smithy_model::{Floats, JobError};
 use smithy_schema::SchemaRef;
 use smithy_serde::{Codec, OmitFlags, StructValue};
 use std::alloc::Global;
@@ -49,10 +49,10 @@ fn named_told(
     }
 }
 
-// What is to be told of a job whose input is sent so.
-#[tactic(auto, unfolding(crate::specs::Outcome::sent_job))]
+// What is to be told of a job whose input is sent so, and whose floats are decimals.
+#[tactic(auto, unfolding(crate::specs::Outcome::decimal_job_sent))]
 fn call_told(alloc: Global, call: AwsCall<'_>, value: &JsonValue<'_>) -> Result<Answer, JobError>
-    ensures { Gives (sent_job (aws_sent (call_seen call.entry)) (view value.now)) result }
+    ensures { Gives (decimal_job_sent (aws_sent (call_seen call.entry)) (view value.now)) result }
 {
     let Job {
         table,
@@ -61,7 +61,7 @@ fn call_told(alloc: Global, call: AwsCall<'_>, value: &JsonValue<'_>) -> Result<
         writes,
         endpoint,
         omit,
-    } = read_job(alloc, value)?;
+    } = read_job_with_floats(alloc, value, Floats::Decimals)?;
     let Some(schema) = table.get(index) else {
         unreachable!()
     };

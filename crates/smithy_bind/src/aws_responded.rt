@@ -14,11 +14,11 @@ use crate::told::{Answer, refused};
 use smithy_aws::error_code;
 use smithy_http::Response;
 use smithy_job::{
-    AwsReading, CodedError, Expected, ExpectedIn, Keys, Message, aws_reading_of, read_errors,
-    read_expected, read_message,
+    AwsReading, CodedError, Expected, ExpectedIn, Keys, Message, aws_reading_of,
+    read_errors_with_floats, read_expected_with_floats, read_message,
 };
 use smithy_json::JsonValue;
-use smithy_model::{JobError, PlacedErrors};
+use smithy_model::{Floats, JobError, PlacedErrors};
 use smithy_serde::SerdeError;
 use std::alloc::Global;
 
@@ -96,7 +96,7 @@ fn asked_told(
     requires { IsTrue (is_asked (keys_seen keys.now) message.now.response) }
     ensures { TellsMessage reading keys.now message.now result }
 {
-    let expected = read_expected(alloc, keys)?;
+    let expected = read_expected_with_floats(alloc, keys, Floats::Decimals)?;
     expected_told(alloc, reading, expected, message)
 }
 
@@ -110,7 +110,7 @@ fn error_told(
     requires { is_asked (keys_seen keys.now) message.now.response ≡ false }
     ensures { TellsMessage reading keys.now message.now result }
 {
-    let errors = read_errors(alloc, keys)?;
+    let errors = read_errors_with_floats(alloc, keys, Floats::Decimals)?;
     named_error_told(alloc, reading, errors, message)
 }
 
