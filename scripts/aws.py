@@ -72,6 +72,50 @@ def takes(shapes, top, bindings, first, http=None):
     return rules.broken(top, bindings, http) is None and wire.names_stand(shapes, top, bindings, reached)
 
 
+# Floats, which are decimals.
+
+FLOATS = [jobs.PRELUDE + it for it in ("Float", "Double", "PrimitiveFloat", "PrimitiveDouble")]
+
+
+def with_decimals(job):
+    """The job, whose model has a BigDecimal where it says Float or Double."""
+    try:
+        shapes = {name: decimal_shape(it) for name, it in jobs.shapes_of(job).items()}
+    except jobs.NoJob:
+        return job
+    return {**job, "model": {**job["model"], "shapes": shapes}}
+
+
+def decimal_shape(shape):
+    if not isinstance(shape, dict):
+        return shape
+    found = {key: decimal_member(shape[key]) for key in ("member", "key", "value") if key in shape}
+    if isinstance(shape.get("members"), dict):
+        found["members"] = {name: decimal_member(it) for name, it in shape["members"].items()}
+    if shape.get("type") in ("float", "double"):
+        found["type"] = "bigDecimal"
+    return {**shape, **found}
+
+
+def decimal_member(member):
+    is_float = isinstance(member, dict) and member.get("target") in FLOATS
+    return {**member, "target": jobs.PRELUDE + "BigDecimal"} if is_float else member
+
+
+def with_digits(node, value):
+    """A value with the digits of each whole number that stands where a BigDecimal does."""
+    kind = node.kind if node is not None else None
+    if kind == "bigDecimal" and isinstance(value, int) and not isinstance(value, bool):
+        return str(value)
+    if kind == "list" and isinstance(value, list):
+        element = node.element()
+        return [with_digits(element, it) for it in value]
+    if kind in ("map", "structure", "union") and isinstance(value, dict):
+        members = node.members()
+        return {name: with_digits(node.value() if kind == "map" else members.get(name), it) for name, it in value.items()}
+    return value
+
+
 # Values.
 
 
@@ -118,14 +162,16 @@ class Message(placing.Message):
         return body, (media if is_legal else RAW[payload.node.kind]) if body else None
 
 
-def pairs(given):
-    return sorted(given.items()) if isinstance(given, dict) else given
+def writes_of(members, given):
+    """The writes of an input that are no nulls."""
+    writes = sorted(given.items()) if isinstance(given, dict) else given
+    return present_writes(members, [(name, with_digits(members.get(name), value)) for name, value in writes])
 
 
 def rest_request(job):
     shapes, name = job["model"]["shapes"], job["operation"]
     members, http = end_of(shapes, name, "input").members(), http_of(shapes, name)
-    writes = present_writes(members, pairs(job["input"]))
+    writes = writes_of(members, job["input"])
     message = Message(members, writes)
     message.target(http["uri"])
     for it, value in writes:
@@ -138,7 +184,7 @@ def call(job):
     shapes = job["model"]["shapes"]
     top = end_of(shapes, job["operation"], "input")
     members = top.members()
-    writes = present_writes(members, pairs(job["input"]))
+    writes = writes_of(members, job["input"])
     placing.tested_target(job.get("endpoint") or "/")
     # An input that is no structure has no members, so what stands in it was read by no node.
     entry = top.value() if top.kind == "map" else top if top.kind == "document" else None
@@ -224,6 +270,7 @@ def response(job):
 
 def ended(command, job):
     """The status and the text of a job with `protocol`."""
+    job = with_decimals(job)
     if not is_job(command, job):
         return 2, b""
     try:
