@@ -10,4 +10,4 @@ pub expected_told-requires : goal.expected_told-requires
 expected_told-requires c = some_coded c.args.errors c.as_str.result c.requires
 
 pub returns : goal.returns
-returns c = error_told c.args.reading c.args.errors c.args.message.now c.expected_told.result c.as_str.result (ap Some c.as_str.ensures.value ∙ (rw c.in-Some.is at c.in_ok-code.ensures)) c.expected_told.ensures
+returns c = error_told c.args.reading c.args.errors c.args.message.now c.expected_told.result c.as_str.result (ap Some c.as_str.ensures ∙ (rw c.in-Some.is at c.in_ok-code.ensures)) c.expected_told.ensures
