@@ -266,7 +266,8 @@ def http(found, is_needed):
 
 def operation(shapes, name, is_needed=False):
     """An operation: the names of its input, its output and its errors."""
-    need(is_name(name) and isinstance(shapes.get(name), dict) and shapes[name].get("type") == "operation")
+    need(is_name(name) and not name.startswith(PRELUDE))
+    need(isinstance(shapes.get(name), dict) and shapes[name].get("type") == "operation")
     found = shapes[name]
     need(found.get("mixins", []) == [])
     http(traits(found), is_needed)
