@@ -51,9 +51,9 @@ unfoldable pub use Rattle.smithy_strings.specs.Lists.{listed}
 pub use Rattle.smithy_strings.specs.Unwired.{is_wire_of, spelled_wire, text_of_bytes, text_of_wire}
 unfoldable pub use Rattle.smithy_strings.specs.Unwired.{unwired}
 pub use Rattle.smithy_strings.specs.Wire.{scalar_wire}
-pub use Rattle.smithy_types.specs.BigNumbers.{has_narrow_coefficient, is_big_decimal, is_big_decimal_in_range, is_big_integer_in_range, is_digit, is_signed_digits}
+pub use Rattle.smithy_types.specs.BigNumbers.{has_narrow_coefficient, is_big_decimal, is_digit, is_signed_digits}
 pub use Rattle.smithy_types.specs.Grammars.{is_token}
-pub use Rattle.smithy_unambiguity.proofs.Common.{AllByRecursion, Binding, Bool, Document, Err, Fault, Header, Held, IsLawfulText, IsTrue, Label, List, Node, None, Ok, Option, Protocol, Resolved, Result, Scalar, Schema, ShapeType, Some, Table, TimestampFormat, Value, Write, Writes, [], agree_below, agree_below_at, all_resolved, and_from, and_parts, ap, are_distinct, are_in_range, arith, at_place, base64, behind, binding_at, binding_of, body, body_fault, body_parts, bound_fault, bytes_by, codes, cond, cons_option, default_names, doc_of, document_value, drop, each, element_of, element_text, entries_of, entry_writes, enumerate_from, eq-eqb, eqb-true, false, false_from_ne_true, field_of, filter, filter_map, find, first, firsts, fits, flat_map, form_at, form_in, has_at_most_one, has_distinct_keys, has_element, has_header_kind, has_own_formats, has_sound_headers, has_unbound_member, headers, if◌then◌else◌, in_key_order, in_lower_case, inl, inr, inserted_at, is_bound, is_codec_kind, is_header_kind, is_in_range, is_none, is_null, is_of, is_one_of, is_outside_body, is_payload, is_placed_at, is_plain_string, is_raw_kind, is_shallow, is_shaped_write, is_some, is_sound_payload, is_text_map, is_utf8, is_well_made, item_fault, key_fault, key_of, kind_or_none, label_of, last_of, last_or, leb-true, length, list_all, list_all-append, list_any, list_of, list_of_members, map, map-append, map_entries, member-passes, member_at, member_text, members_of, members_with, nat_eq, nat_le, nat_lt, negsuc, no_writes, not, no_year, one_kind, then_some, option_and_then, option_map, option_map_or, option_or, option_to_list, or_right, own_entries, pairs_fault, payload_kind, place_at, pos, position_in, prefixes, raw_bytes, refl, resolve, resolved, same_format, same_kind, same_text, scalar_kind, settled, settled_elements, slice_get, starts_with, str_to_ascii_lowercase, subst, suc, sym, take, text_of_document, text_of_key, texts, then_give, then_try, to_header, to_label, to_payload, to_prefix, true, unless, unless_empty, unwrap_or, value_fault, value_of, values_at, wire, with_own_elements, write, writes_default, writes_fault_by, writes_of, zero, ℕ, ℤ, ◌&&◌, ◌++◌, ◌+◌, ◌==◌, kind_takes, text_form, ◌||◌, ◌∙◌, ◌∷◌, ◌≡◌, ◌≢◌, ◌≤◌, ◌⊎◌, both_ways}
+pub use Rattle.smithy_unambiguity.proofs.Common.{AllByRecursion, Binding, Bool, Document, Err, Fault, Header, Held, IsLawfulText, IsTrue, Label, List, Node, None, Ok, Option, Protocol, Resolved, Result, Scalar, Schema, ShapeType, Some, Table, TimestampFormat, Value, Write, Writes, [], agree_below, agree_below_at, all_resolved, and_from, and_parts, ap, are_distinct, are_in_range, arith, at_place, base64, behind, binding_at, binding_of, body, body_fault, body_parts, bound_fault, bytes_by, codes, cond, cons_option, default_names, doc_of, document_value, drop, each, element_of, element_text, entries_of, entry_writes, enumerate_from, eq-eqb, eqb-true, false, false_from_ne_true, field_of, filter, filter_map, find, first, firsts, fits, flat_map, form_at, form_in, has_at_most_one, has_distinct_keys, has_element, has_header_kind, has_own_formats, has_sound_headers, has_unbound_member, headers, if◌then◌else◌, in_key_order, in_lower_case, inl, inr, inserted_at, is_bound, is_codec_kind, is_header_kind, is_in_range, is_none, is_null, is_of, is_one_of, is_outside_body, is_payload, is_placed_at, is_plain_string, is_raw_kind, is_shallow, is_shaped_write, is_some, is_sound_payload, is_text_map, is_utf8, is_well_made, item_fault, key_fault, key_of, kind_or_none, label_of, last_of, last_or, leb-true, length, list_all, list_all-append, list_any, list_of, list_of_members, map, map-append, map_entries, member-passes, member_at, member_text, members_of, members_with, nat_eq, nat_le, nat_lt, negsuc, no_writes, not, no_year, one_kind, then_some, option_and_then, option_map, option_map_or, option_or, option_to_list, or_right, own_entries, pairs_fault, payload_kind, place_at, pos, position_in, prefixes, raw_bytes, refl, resolve, resolved, same_format, same_kind, same_text, scalar_kind, settled, settled_elements, slice_get, starts_with, str_to_ascii_lowercase, subst, suc, sym, take, text_of_document, text_of_key, texts, then_give, then_try, to_header, to_label, to_payload, to_prefix, true, unless, unless_empty, unwrap_or, value_fault, value_of, values_at, wire, with_own_elements, write, writes_default, writes_fault_by, writes_of, zero, ℕ, ℤ, ◌&&◌, ◌++◌, ◌+◌, ◌==◌, text_form, ◌||◌, ◌∙◌, ◌∷◌, ◌≡◌, ◌≢◌, ◌≤◌, ◌⊎◌, both_ways}
 pub use Rattle.smithy_unambiguity.proofs.Conforming.{IsFittingWrite, first_unfaulted, fitting_by, no_first, resolved_at}
 pub use Rattle.smithy_unambiguity.proofs.Defaults.{all_headers_at, leaves-elsewhere}
 pub use Rattle.smithy_unambiguity.proofs.Fits.{is_flat, taken}

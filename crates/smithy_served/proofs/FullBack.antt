@@ -1,5 +1,5 @@
 -- The response of a typed output hands out the normal form.
-use Rattle.smithy_served.proofs.Common.{IsCheckedOutput-from_test, IsCheckedOutput, has_response_body_member, response_payload_kind, as_output, Response, NonUtf8HeaderHandling, indexed, writes, Ended, body_part, has_payload, has_unbound, nothing, only_unbound, routed, handed, Source, in_body, in_header, in_payload, in_prefix, in_status, route, route_at, source_of, is_response_bound, in_order, contents, response_at, bound_view, first_value, member_view, answer_view, AreReadBackBeside, HandsOut, IsAnswered, OutputsAreReadBack, with_body, Bool, Held, IsLawfulText, List, None, Option, Protocol, Schema, Some, Value, Write, [], all_resolved, and_parts, ap, arith, body, cond, false, false_from_ne_true, find, has_at_most_one, if◌then◌else◌, is_codec_kind, is_raw_kind, is_sound_payload, last_of, leb-true, list_any, member_at, members_of, not, option_and_then, option_map, refl, settled, slice_get, subst, sym, true, ℕ, ◌&&◌, ◌++◌, ◌+◌, ◌||◌, ◌∙◌, ◌∷◌, ◌≡◌, ◌≤◌, all_placed, any_get, members_by_position, source_unbound}
+use Rattle.smithy_served.proofs.Common.{IsCheckedOutput-from_test, IsCheckedOutput, has_response_body_member, response_payload_kind, as_output, Response, NonUtf8HeaderHandling, indexed, writes, Ended, body_part, has_payload, has_unbound, nothing, only_unbound, routed, handed, Source, in_body, in_header, in_payload, in_prefix, in_status, route, route_at, source_of, is_response_bound, in_order, contents, response_at, bound_view, first_value, member_view, answer_view, AreReadBackBeside, HandsOut, IsAnswered, OutputsAreReadBack, with_body, Bool, Held, IsLawfulText, List, None, Option, Protocol, Schema, Some, Value, Write, [], all_resolved, and_parts, ap, arith, body, cond, false, false_from_ne_true, find, has_at_most_one, if◌then◌else◌, is_codec_kind, is_raw_kind, is_some, is_sound_payload, last_of, leb-true, list_any, member_at, members_of, not, option_and_then, option_map, refl, settled, slice_get, subst, sym, true, ℕ, ◌&&◌, ◌++◌, ◌+◌, ◌||◌, ◌∙◌, ◌∷◌, ◌≡◌, ◌≤◌, all_placed, any_get, members_by_position, source_unbound}
 use Rattle.smithy_serde.specs.Held as held
 use Rattle.smithy_serde.specs.declared.scalar.Group.TheVariants as group
 use Rattle.smithy_response.proofs.TransportLaw.{transport_is_heard}
@@ -12,26 +12,26 @@ use Rattle.smithy_served.proofs.PrefixBack.{prefix_handed}
 use Rattle.smithy_served.proofs.Payload.{payload_handed}
 use Rattle.smithy_served.proofs.Merge.{made_from, bound_part, free_part, merged, none_free}
 use Rattle.smithy_served.proofs.Join.{IsHanded, payloads, joined}
-use Rattle.smithy_served.proofs.FieldsBack.{own, read, fields_handed}
+use Rattle.smithy_served.proofs.FieldsBack.{read, fields_handed}
 
 -- A payload stands beside no unbound member.
 
 no_payload : (schema : Schema) → IsCheckedOutput schema → has_unbound schema ≡ true → has_payload schema ≡ false
 no_payload schema checked some =
-    none_found (members_of schema)
-    (by (find (λ m. m.node.traits.http_payload) (members_of schema)) (ap (is_sound_payload (response_payload_kind schema)) (sym some) ∙ (and_parts (has_at_most_one (λ t. t.http_payload) schema) (is_sound_payload (response_payload_kind schema) (has_response_body_member schema)) checked.payload).1))
+    sym (found (members_of schema)) ∙ by (find (λ m. m.node.traits.http_payload) (members_of schema))
+    (ap (is_sound_payload (response_payload_kind schema)) (sym some) ∙ (and_parts (has_at_most_one (λ t. t.http_payload) schema) (is_sound_payload (response_payload_kind schema) (has_response_body_member schema)) checked.payload).1)
   where
-    by : (o : Option Schema) → is_sound_payload (option_map (λ m. m.node.kind) o) true ≡ true → o ≡ None
+    by : (o : Option Schema) → is_sound_payload (option_map (λ m. m.node.kind) o) true ≡ true → is_some o ≡ false
     by None e = refl
     by (Some m) e = let q = (and_parts (is_raw_kind m.node.kind || is_codec_kind m.node.kind) false e).1 in absurd (cc q)
 
-    none_found : (ms : List Schema) → find (λ m. m.node.traits.http_payload) ms ≡ None → list_any (λ m. m.node.traits.http_payload) ms ≡ false
-    none_found [] e = refl
-    none_found (m ∷ ms) e = go m.node.traits.http_payload e (none_found ms)
+    found : (ms : List Schema) → is_some (find (λ m. m.node.traits.http_payload) ms) ≡ list_any (λ m. m.node.traits.http_payload) ms
+    found [] = refl
+    found (m ∷ ms) = go m.node.traits.http_payload ∙ ap (λ b. m.node.traits.http_payload || b) (found ms)
       where
-        go : (b : Bool) → cond b (Some m) (find (λ m. m.node.traits.http_payload) ms) ≡ None → (find (λ m. m.node.traits.http_payload) ms ≡ None → list_any (λ m. m.node.traits.http_payload) ms ≡ false) → (b || list_any (λ m. m.node.traits.http_payload) ms) ≡ false
-        go true h rest = absurd (cc h)
-        go false h rest = rest h
+        go : (b : Bool) → is_some (cond b (Some m) (find (λ m. m.node.traits.http_payload) ms)) ≡ (b || is_some (find (λ m. m.node.traits.http_payload) ms))
+        go true = refl
+        go false = refl
 
 -- another body changes no route but a payload's
 route_kept : (m : Schema) (response : Response) (bytes : List ℕ) → m.node.traits.http_payload ≡ false → route m (with_body bytes response) ≡ route m response
@@ -140,9 +140,9 @@ module _ (protocol : Protocol) (holds : List ℕ → Option Held) (lawful : IsLa
   outputs_are_read_back schema ws code response h policy is = all_back protocol holds lawful schema ws code response h is response policy (λ j m at. refl)
 
   pub outputs_are_read_back_beside : AreReadBackBeside protocol holds
-  outputs_are_read_back_beside schema ws code response policy own other bytes is some alike =
+  outputs_are_read_back_beside schema ws code response policy d other bytes is some alike =
       subst (λ listing. HandsOut listing (answer_view schema ws)) (sym same_listing)
-      (all_back protocol holds lawful schema ws code response (held.document own) is (with_body bytes response) policy (λ j m at. route_kept m response bytes (unpaid j m at)))
+      (all_back protocol holds lawful schema ws code response (held.document d) is (with_body bytes response) policy (λ j m at. route_kept m response bytes (unpaid j m at)))
     where
       none : has_payload schema ≡ false
       none = no_payload schema (IsCheckedOutput-from_test schema is.checked) some
@@ -150,8 +150,8 @@ module _ (protocol : Protocol) (holds : List ℕ → Option Held) (lawful : IsLa
       unpaid : (j : ℕ) (m : Schema) → slice_get (members_of schema) j ≡ Some m → m.node.traits.http_payload ≡ false
       unpaid j m at = false_from_ne_true m.node.traits.http_payload (λ e. let q : false ≡ true = sym none ∙ any_get (λ m. m.node.traits.http_payload) (members_of schema) j m at e in cc q)
 
-      same_listing : handed schema (with_body bytes response) (held.document other) false policy ≡ handed schema (with_body bytes response) (held.document own) false policy
+      same_listing : handed schema (with_body bytes response) (held.document other) false policy ≡ handed schema (with_body bytes response) (held.document d) false policy
       same_listing =
           sym (transport_is_heard schema (with_body bytes response) other false policy none)
           ∙ ap (λ x. handed schema (with_body bytes response) (held.document x) false policy) alike
-          ∙ transport_is_heard schema (with_body bytes response) own false policy none
+          ∙ transport_is_heard schema (with_body bytes response) d false policy none

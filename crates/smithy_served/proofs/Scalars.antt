@@ -1,15 +1,16 @@
 -- A header is read as the scalar that its text was written of.
-use Rattle.smithy_served.proofs.Common.{standard, one_text_of, begins_with_white_space, ends_with_white_space, HttpError, are_empty, has_nothing, is_plain_text, decoded_text, header_format, item_of_text, no_value, one_of, one_token, or_parse_refusal, scalar_of_header, text_of_header, time_of_header, read_scalar, is_in_width, is_scalar_in_range, value_by_kind, value_within, value_read, Width, byte, integer, long, short, SerdeError, is_trimmed, times_are_read, listed, is_wire_of, spelled_wire, text_of_bytes, text_of_wire, unwired, scalar_wire, has_narrow_coefficient, is_big_decimal, is_big_decimal_in_range, is_big_integer_in_range, is_signed_digits, Bool, Err, Header, Held, List, None, Ok, Option, Result, Scalar, Schema, ShapeType, Some, TimestampFormat, Value, [], and_parts, ap, base64, codes, cond, false, fits, if◌then◌else◌, is_in_range, is_none, is_some, is_utf8, not, then_some, option_and_then, option_map, refl, same_kind, same_text, scalar_kind, sym, text_of_key, then_give, then_try, true, unwrap_or, wire, ℕ, ℤ, ◌&&◌, kind_takes, text_form, ◌∙◌, ◌∷◌, ◌≡◌, ◌≢◌, is_flat, taken, blob_form, IsUtf8-from_is_utf8, ok_or, chars, trim, fits_in_range}
+use Rattle.smithy_served.proofs.Common.{standard, one_text_of, begins_with_white_space, ends_with_white_space, HttpError, are_empty, has_nothing, is_plain_text, decoded_text, header_format, item_of_text, no_value, one_of, one_token, or_parse_refusal, scalar_of_header, text_of_header, time_of_header, read_scalar, is_in_width, is_scalar_in_range, value_by_kind, value_within, value_read, Width, byte, integer, long, short, SerdeError, is_trimmed, times_are_read, listed, is_wire_of, spelled_wire, text_of_bytes, text_of_wire, unwired, scalar_wire, has_narrow_coefficient, is_big_decimal, is_signed_digits, Bool, Err, Header, Held, List, None, Ok, Option, Result, Scalar, Schema, ShapeType, Some, TimestampFormat, Value, [], and_parts, ap, base64, codes, cond, false, fits, if◌then◌else◌, is_in_range, is_none, is_some, is_utf8, not, then_some, option_and_then, option_map, refl, same_kind, scalar_kind, sym, text_of_key, then_give, then_try, true, wire, ℕ, ℤ, ◌&&◌, ◌||◌, ◌∙◌, ◌∷◌, ◌≡◌, ◌≢◌, is_flat, taken, IsUtf8-from_is_utf8, ok_or, chars, trim, fits_in_range}
 use Rattle.base64.specs.GeneralPurpose.{decoded_of}
-use Rattle.std.specs.Cmp.Lexicographic.{same_text as same_from_test}
 use Rattle.smithy_types.specs.Timestamps.{timestamp_text}
 use Rattle.smithy_ids.specs.declared.shape_type.ShapeType.TheVariants as kind
 use Rattle.smithy_http.specs.declared.error.HttpError.TheVariants as error
 use Rattle.smithy_serde.specs.Held as held
-use Rattle.smithy_serde.specs.TextReads.{scalar_of_text, whole_of_text, boolean_of_text}
+use Rattle.smithy_serde.specs.TextReads.{scalar_of_text, whole_of_text}
 use Rattle.smithy_serde.specs.Values as value
 use Rattle.std.specs.Str.Parse.{signed_digits_value}
+use Rattle.std.specs.Fmt.{signed_decimal}
 use Rattle.smithy_strings.proofs.ListLaws.{trim_same}
+use Rattle.smithy_strings.proofs.SpelledLemmas.{whole_read_back}
 use Rattle.smithy_strings.proofs.UnwireLaws.{unwired-wire}
 use Rattle.smithy_recovery.proofs.Exact.{kept}
 use Rattle.smithy_served.proofs.Plain.{are_bare, neither, one_token-bare, bare_signed, bare_decimal, bare_base64}
@@ -44,33 +45,24 @@ bare_whole w t x e = go (is_signed_digits t) refl e
     go true is h = bare_signed t is
     go false is h = absurd (cc h)
 
-bare_boolean : (t : List ℕ) (x : Scalar) → boolean_of_text t ≡ Some x → are_bare t ≡ true
-bare_boolean t x e = go (same_text t (codes "true")) refl (same_text t (codes "false")) refl e
-  where
-    go : (a : Bool) → same_text t (codes "true") ≡ a → (b : Bool) → same_text t (codes "false") ≡ b → cond a (Some (value.boolean true)) (cond b (Some (value.boolean false)) None) ≡ Some x → are_bare t ≡ true
-    go true ea b eb h = ap are_bare (same_from_test t (codes "true") (sym ea))
-    go false ea true eb h = ap are_bare (same_from_test t (codes "false") (sym eb))
-    go false ea false eb h = absurd (cc h)
-
-bare_integer : (t : List ℕ) (x : Scalar) → then_some (is_big_integer_in_range t) (value.big_integer t) ≡ Some x → are_bare t ≡ true
-bare_integer t x e = bare_signed t (and_parts (is_signed_digits t) (has_narrow_coefficient t) (kept (is_big_integer_in_range t) (value.big_integer t) x e).0).0
-
-bare_big_decimal : (t : List ℕ) (x : Scalar) → then_some (is_big_decimal_in_range t) (value.big_decimal t) ≡ Some x → are_bare t ≡ true
-bare_big_decimal t x e = bare_decimal t (and_parts (is_big_decimal t) (has_narrow_coefficient t) (kept (is_big_decimal_in_range t) (value.big_decimal t) x e).0).0
-
 bare_encoded : (bytes t : List ℕ) → Some (base64 bytes) ≡ Some t → are_bare t ≡ true
 bare_encoded bytes t e = let same : base64 bytes ≡ t = cc e in ap are_bare (sym same) ∙ bare_base64 bytes
 
--- a scalar of a kind that one form has
-bare_blob : (format : Option TimestampFormat) (media : Bool) (x : Scalar) (t : List ℕ) → scalar_kind x ≡ Some kind.Blob → scalar_wire format media Header x ≡ Some t → are_bare t ≡ true
-bare_blob format media x t k e =
-    let b = blob_form (value.scalar x) (ap (λ (o : Option ShapeType). unwrap_or (option_map (kind_takes kind.Blob) o) false) k) in
-    let is : x ≡ value.blob b.0 = cc b.1 in bare_encoded b.0 t (ap (scalar_wire format media Header) (sym is) ∙ e)
+-- a time, or a text that stands as it is
+abbrev stands_open : Bool → ShapeType → Bool
+stands_open media k = same_kind k kind.Timestamp || (same_kind k kind.String && not media)
 
-bare_media : (format : Option TimestampFormat) (x : Scalar) (t : List ℕ) → scalar_kind x ≡ Some kind.String → scalar_wire format true Header x ≡ Some t → are_bare t ≡ true
-bare_media format x t k e =
-    let s = text_form (value.scalar x) (ap (λ (o : Option ShapeType). unwrap_or (option_map (kind_takes kind.String) o) false) k) in
-    let is : x ≡ value.text s.0 = cc s.1 in bare_encoded s.0 t (ap (scalar_wire format true Header) (sym is) ∙ e)
+bare_wire : (format : Option TimestampFormat) (media : Bool) (k : ShapeType) (x : Scalar) (t : List ℕ) → scalar_kind x ≡ Some k → stands_open media k ≡ false → is_scalar_in_range x ≡ true → scalar_wire format media Header x ≡ Some t → are_bare t ≡ true
+bare_wire format media k (value.boolean true) t of_kind closed range e = let same : codes "true" ≡ t = cc e in ap are_bare (sym same)
+bare_wire format media k (value.boolean false) t of_kind closed range e = let same : codes "false" ≡ t = cc e in ap are_bare (sym same)
+bare_wire format media k (value.whole w z) t of_kind closed range e = let same : signed_decimal z ≡ t = cc e in ap are_bare (sym same) ∙ bare_whole w (signed_decimal z) (value.whole w z) (whole_read_back w z range)
+bare_wire format media k (value.big_integer s) t of_kind closed range e = let same : s ≡ t = cc e in ap are_bare (sym same) ∙ bare_signed s (and_parts (is_signed_digits s) (has_narrow_coefficient s) range).0
+bare_wire format media k (value.big_decimal s) t of_kind closed range e = let same : s ≡ t = cc e in ap are_bare (sym same) ∙ bare_decimal s (and_parts (is_big_decimal s) (has_narrow_coefficient s) range).0
+bare_wire format media k (value.blob bytes) t of_kind closed range e = bare_encoded bytes t e
+bare_wire format true k (value.text s) t of_kind closed range e = bare_encoded s t e
+bare_wire format false k (value.text s) t of_kind closed range e = let same : kind.String ≡ k = cc of_kind in let q : true ≡ false = ap (stands_open false) same ∙ closed in absurd (cc q)
+bare_wire format media k (value.timestamp z) t of_kind closed range e = let same : kind.Timestamp ≡ k = cc of_kind in let q : true ≡ false = ap (stands_open media) same ∙ closed in absurd (cc q)
+bare_wire format media k _ t of_kind closed range e = absurd (cc e)
 
 -- The one token.
 
@@ -122,7 +114,7 @@ text_read m name t x media is text k range back some trimmed =
   where
     go : (media : Option (List ℕ)) → scalar_wire m.node.traits.timestamp_format (is_some media) Header x ≡ Some t → text_of_wire (is_some media) t ≡ Some x → (not (is_none media) && are_empty (t ∷ [])) ≡ false
         → (is_none media ≡ true → is_trimmed (text_of_key (value.scalar x)) ≡ true) → cond (is_some media) (then_try (one_token kind.String name (t ∷ [])) decoded_text) (whole_text name t) ≡ Ok x
-    go (Some media) text back some trimmed = token_read kind.String name t decoded_text (some_text t some) (bare_media m.node.traits.timestamp_format x t k text) ∙ decoded_is t x back
+    go (Some media) text back some trimmed = token_read kind.String name t decoded_text (some_text t some) (bare_wire m.node.traits.timestamp_format true kind.String x t k refl range text) ∙ decoded_is t x back
     go None text back some trimmed =
         let same : value.text t ≡ x = cc back in
         plain_read name t (ap is_scalar_in_range same ∙ range) (ap (λ y. is_trimmed (text_of_key (value.scalar y))) same ∙ trimmed refl) ∙ ap Ok same
@@ -157,23 +149,13 @@ scalar_back m name t v flat is some trimmed = go m.node.kind flat is.kind is.spe
     media : Option (List ℕ)
     media = m.node.traits.media_type
 
-    token : (k : ShapeType) → (true && are_empty (t ∷ [])) ≡ false → are_bare t ≡ true → scalar_of_text k t ≡ Some x → then_try (one_token k name (t ∷ [])) (item_of_text k) ≡ Ok x
-    token k some bare e = token_read k name t (item_of_text k) (some_text t some) bare ∙ item_read k t x e
-
     go : (k : ShapeType) → is_flat k ≡ true → scalar_kind x ≡ Some k → spelled_wire format (is_some media) Header k t ≡ Some x
         → (not (same_kind k kind.String && is_none media) && are_empty (t ∷ [])) ≡ false → ((same_kind k kind.String && is_none media) ≡ true → is_trimmed (text_of_key (value.scalar x)) ≡ true)
         → scalar_of_header k m name (t ∷ []) ≡ Ok x
-    go kind.Boolean flat k e some trimmed = token kind.Boolean some (bare_boolean t x e) e
-    go kind.Byte flat k e some trimmed = token kind.Byte some (bare_whole byte t x e) e
-    go kind.Short flat k e some trimmed = token kind.Short some (bare_whole short t x e) e
-    go kind.Integer flat k e some trimmed = token kind.Integer some (bare_whole integer t x e) e
-    go kind.Long flat k e some trimmed = token kind.Long some (bare_whole long t x e) e
-    go kind.BigInteger flat k e some trimmed = token kind.BigInteger some (bare_integer t x e) e
-    go kind.BigDecimal flat k e some trimmed = token kind.BigDecimal some (bare_big_decimal t x e) e
-    go kind.Blob flat k e some trimmed = token kind.Blob some (bare_blob format (is_some media) x t k is.text) e
-    go kind.String flat k e some trimmed = text_read m name t x media refl is.text k is.range e some trimmed
-    go kind.Timestamp flat k e some trimmed = time_read m name t x k is.range is.text
-    go _ flat k e some trimmed = absurd (cc flat)
+    go kind.String flat of_kind e some trimmed = text_read m name t x media refl is.text of_kind is.range e some trimmed
+    go kind.Timestamp flat of_kind e some trimmed = time_read m name t x of_kind is.range is.text
+    go kind.Document flat of_kind e some trimmed = absurd (cc flat)
+    go k flat of_kind e some trimmed = token_read k name t (item_of_text k) (some_text t some) (bare_wire format (is_some media) k x t of_kind refl is.range is.text) ∙ item_read k t x e
 
 -- a flat kind is read as a scalar
 pub read_flat : (inner : Schema → Held → Result Value SerdeError) (k : ShapeType) (node : Schema) (h : Held) → is_flat k ≡ true → value_by_kind inner k node h ≡ then_give (read_scalar k node h) (λ x. value.scalar x)
