@@ -1,5 +1,5 @@
 -- A schema as a response has it: its members and their first writes are the schema's own.
-use Rattle.smithy_served.proofs.Common.{at-in, cited-in, member-in, position-in, as_output, first_value, Bool, List, None, Option, Resolved, Schema, Some, Write, [], all_resolved, ap, at_place, cond, cons_option, element_of, false, filter, filter_map, find, first, is_none, is_of, is_some, list_any, map, member_at, members_of, then_some, option_and_then, option_map, position_in, refl, resolve, resolved, true, ℕ, ◌||◌, ◌∙◌, ◌∷◌, ◌≡◌}
+use Rattle.smithy_served.proofs.Common.{at-in, cited-in, member-in, position-in, as_output, first_value, Bool, List, None, Option, Resolved, Schema, Some, Write, [], all_resolved, ap, at_place, cond, cons_option, element_of, false, filter, filter_map, find, first, is_none, is_of, is_some, list_any, map, member_at, members_of, then_some, option_and_then, option_map, position_in, refl, resolve, resolved, sym, true, ℕ, ◌||◌, ◌∙◌, ◌∷◌, ◌≡◌}
 use Rattle.smithy_binding.specs.declared.direction.Direction.TheVariants as direction
 
 -- lists whose elements are changed alike
@@ -15,6 +15,10 @@ none_is (Some x) e = absurd (cc e)
 pub some-map : {X Y : Type 0} (f : X → Y) (o : Option X) → is_some (option_map f o) ≡ is_some o
 some-map f None = refl
 some-map f (Some x) = refl
+
+pub option_map-map : {X Y Z : Type 0} (g : Y → Z) (f : X → Y) (o : Option X) → option_map g (option_map f o) ≡ option_map (λ x. g (f x)) o
+option_map-map g f None = refl
+option_map-map g f (Some x) = refl
 
 pub find-map : {X Y : Type 0} (p : Y → Bool) (f : X → Y) (xs : List X) → find p (map f xs) ≡ option_map f (find (λ x. p (f x)) xs)
 find-map p f [] = refl
@@ -77,21 +81,15 @@ resolved-out schema w =
     made : ℕ → Schema → Resolved
     made i m = record { position = i; member = m; value = w.value }
 
-    by : (i : ℕ) (o : Option Schema) → option_map (made i) (option_map as_output o) ≡ option_map out_write (option_map (made i) o)
-    by i None = refl
-    by i (Some m) = refl
-
     go : (o : Option ℕ) → option_and_then (λ i. option_map (made i) (option_map as_output (member_at schema i))) o ≡ option_map out_write (option_and_then (λ i. option_map (made i) (member_at schema i)) o)
     go None = refl
-    go (Some i) = by i (member_at schema i)
+    go (Some i) = option_map-map (made i) as_output (member_at schema i) ∙ sym (option_map-map out_write (made i) (member_at schema i))
 
 pub all_resolved-out : (schema : Schema) (ws : List Write) → all_resolved (as_output schema) ws ≡ map out_write (all_resolved schema ws)
 all_resolved-out schema ws = found_alike (resolved (as_output schema)) (resolved schema) out_write (resolved-out schema) ws
 
 -- the first write of a member has the same value
 pub first_value-out : (schema : Schema) (ws : List Write) (i : ℕ) → first_value (as_output schema) ws i ≡ first_value schema ws i
-first_value-out schema ws i = ap (λ rs. option_map (λ r. r.value) (find (is_of i) rs)) (all_resolved-out schema ws) ∙ ap (option_map (λ r. r.value)) (find-map (is_of i) out_write (all_resolved schema ws)) ∙ go (first schema ws i)
-  where
-    go : (o : Option Resolved) → option_map (λ r. r.value) (option_map out_write o) ≡ option_map (λ r. r.value) o
-    go None = refl
-    go (Some r) = refl
+first_value-out schema ws i =
+    ap (λ rs. option_map (λ (r : Resolved). r.value) (find (is_of i) rs)) (all_resolved-out schema ws)
+    ∙ ap (option_map (λ (r : Resolved). r.value)) (find-map (is_of i) out_write (all_resolved schema ws)) ∙ option_map-map (λ (r : Resolved). r.value) out_write (first schema ws i)

@@ -1,5 +1,5 @@
 -- What a typed output without a fault says of its first writes and its response.
-use Rattle.smithy_served.proofs.Common.{IsCheckedOutput, message_fault, message_headers, as_output, keep_defaults, placed_output, output_bound_fault, status_fault, written_code, Response, source_of, answer_fault, response_at, answer_response, first_value, IsTypedOutput, is_typed_at, is_typed_header, Fault, IsTrue, List, None, Ok, Option, Protocol, Schema, Some, Value, Write, [], ap, behind, binding_of, body, body_fault, bound_fault, fits, headers, is_bound, is_null, is_placed_at, member_at, sym, then_give, true, writes_fault_by, ℕ, ◌∙◌, ◌≡◌, IsFittingWrite, first_unfaulted, fitting_by, no_first, bound_fits, first_found, first_has, fitting_first, IsSoundMessage}
+use Rattle.smithy_served.proofs.Common.{IsCheckedOutput, message_fault, message_headers, as_output, keep_defaults, placed_output, output_bound_fault, status_fault, written_code, Response, source_of, answer_fault, response_at, answer_response, first_value, IsTypedOutput, is_typed_at, is_typed_header, Fault, IsTrue, List, None, Ok, Option, Protocol, Schema, Some, Value, Write, [], ap, behind, binding_of, body, body_fault, bound_fault, fits, is_bound, is_null, is_placed_at, member_at, sym, then_give, true, writes_fault_by, ℕ, ◌∙◌, ◌≡◌, IsFittingWrite, first_unfaulted, fitting_by, no_first, bound_fits, first_found, first_has, fitting_first, IsSoundMessage}
 use Rattle.smithy_binding.specs.declared.output.PlacedOutput.{PlacedOutput}
 use Rattle.smithy_unambiguity.proofs.ByMember.{at_member}
 use Rattle.smithy_served.proofs.Alike.{member_at-out, first_value-out}

@@ -1,5 +1,5 @@
 -- The response of a typed output hands out the normal form.
-use Rattle.smithy_served.proofs.Common.{IsCheckedOutput-from_test, IsCheckedOutput, has_response_body_member, response_payload_kind, as_output, Response, NonUtf8HeaderHandling, indexed, writes, Ended, body_part, has_payload, has_unbound, nothing, only_unbound, routed, handed, Source, in_body, in_header, in_payload, in_prefix, in_status, route, route_at, source_of, is_response_bound, in_order, contents, response_at, bound_view, first_value, member_view, answer_view, AreReadBackBeside, HandsOut, IsAnswered, OutputsAreReadBack, with_body, Bool, Held, IsLawfulText, List, None, Option, Protocol, Schema, Some, Value, Write, [], all_resolved, and_parts, ap, arith, body, cond, false, false_from_ne_true, find, has_at_most_one, if◌then◌else◌, is_codec_kind, is_raw_kind, is_some, is_sound_payload, last_of, leb-true, list_any, member_at, members_of, not, option_and_then, option_map, refl, settled, slice_get, subst, sym, true, ℕ, ◌&&◌, ◌++◌, ◌+◌, ◌||◌, ◌∙◌, ◌∷◌, ◌≡◌, ◌≤◌, all_placed, any_get, members_by_position, source_unbound}
+use Rattle.smithy_served.proofs.Common.{IsCheckedOutput-from_test, IsCheckedOutput, has_response_body_member, response_payload_kind, as_output, Response, NonUtf8HeaderHandling, indexed, Ended, body_part, has_payload, has_unbound, nothing, only_unbound, routed, handed, Source, in_body, in_header, in_payload, in_prefix, in_status, route, route_at, source_of, is_response_bound, in_order, contents, response_at, bound_view, first_value, member_view, answer_view, AreReadBackBeside, HandsOut, IsAnswered, OutputsAreReadBack, with_body, Bool, Held, IsLawfulText, List, None, Option, Protocol, Schema, Some, Value, Write, [], all_resolved, and_parts, ap, arith, body, cond, false, false_from_ne_true, find, has_at_most_one, if◌then◌else◌, is_codec_kind, is_raw_kind, is_some, is_sound_payload, last_of, leb-true, list_any, member_at, members_of, not, option_and_then, option_map, refl, settled, slice_get, subst, sym, true, ℕ, ◌&&◌, ◌++◌, ◌+◌, ◌||◌, ◌∙◌, ◌∷◌, ◌≡◌, ◌≤◌, all_placed, any_get, members_by_position, source_unbound}
 use Rattle.smithy_serde.specs.Held as held
 use Rattle.smithy_serde.specs.declared.scalar.Group.TheVariants as group
 use Rattle.smithy_response.proofs.TransportLaw.{transport_is_heard}
@@ -75,32 +75,28 @@ module _ (protocol : Protocol) (holds : List ℕ → Option Held) (lawful : IsLa
     in_index : in_order writes ≡ made_from (free_part view) 0 (members_of schema)
     alone : has_payload schema ≡ true → writes ≡ []
 
-  left_of : (other : Response) → IsLeft (body_part schema other false (Some h))
-  left_of other = go (has_unbound schema) refl
-    where
-      is_read : (a b : Bool) → a ≡ false → b ≡ true → (not a && b && true) ≡ true
-      is_read a b e f = λ i. not (e i) && f i && true
+  abbrev fields_part : Bool → Ended
+  fields_part b = if b then only_unbound (contents group.Structure schema h) else nothing
 
-      go : (b : Bool) → has_unbound schema ≡ b → IsLeft (body_part schema other false (Some h))
+  left_of : (other : Response) → IsLeft (body_part schema other false (Some h))
+  left_of other = subst (λ b. IsLeft (fields_part b)) (sym (is_read (has_payload schema) (has_unbound schema) (no_payload schema checked))) (go (has_unbound schema) refl)
+    where
+      is_read : (a b : Bool) → (b ≡ true → a ≡ false) → (not a && b && true) ≡ b
+      is_read true true none = let q : true ≡ false = none refl in absurd (cc q)
+      is_read true false none = refl
+      is_read false true none = refl
+      is_read false false none = refl
+
+      go : (b : Bool) → has_unbound schema ≡ b → IsLeft (fields_part b)
       go true e =
-          let none = no_payload schema checked e in
           let x = read protocol schema ws checked is.well_made is.typed e in
           record {
             writes = x.writes;
-            handed = subst (λ t. IsHanded (if t then only_unbound (contents group.Structure schema h) else nothing) x.writes) (sym (is_read (has_payload schema) (has_unbound schema) none e)) (fields_handed protocol schema ws checked is.well_made is.typed e holds h lawful holding);
+            handed = fields_handed protocol schema ws checked is.well_made is.typed e holds h lawful holding;
             in_index = x.in_index;
-            alone = λ some. (let q : true ≡ false = sym some ∙ none in absurd (cc q));
+            alone = λ some. (let q : true ≡ false = sym some ∙ no_payload schema checked e in absurd (cc q));
           }
-      go false e = record {
-        writes = [];
-        handed = subst (λ b. IsHanded b []) (sym (nothing_left (has_payload schema) (has_unbound schema) e)) (record { without_refusal = refl; members = tt });
-        in_index = none_free view 0 (members_of schema) e;
-        alone = λ some. refl;
-      }
-        where
-          nothing_left : (a b : Bool) → b ≡ false → (if not a && b && true then only_unbound (contents group.Structure schema h) else nothing) ≡ nothing
-          nothing_left true b e = refl
-          nothing_left false b e = ap (λ b. if b && true then only_unbound (contents group.Structure schema h) else nothing) e
+      go false e = record { writes = []; handed = record { without_refusal = refl; members = tt }; in_index = none_free view 0 (members_of schema) e; alone = λ some. refl }
 
   -- So the response, or one with another body that has the same for its members, hands out the normal form.
   pub all_back : (other : Response) (policy : NonUtf8HeaderHandling) → ((j : ℕ) (m : Schema) → slice_get (members_of schema) j ≡ Some m → route m other ≡ route m response) → HandsOut (handed schema other h false policy) (answer_view schema ws)

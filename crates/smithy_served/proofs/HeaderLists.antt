@@ -1,5 +1,5 @@
 -- A header is read as the list that its text was written of.
-use Rattle.smithy_served.proofs.Common.{is_element_plain, tokens_of, HttpError, header_format, or_parse_refusal, scalar_of_element, elements, read_scalar, all_read, list_by, value_by_kind, value_within, write_by, value_read, SerdeError, tokens-listed, times_are_read, listed, spelled_wire, Bool, Header, Held, List, Ok, Option, Result, Scalar, Schema, ShapeType, Some, TimestampFormat, Value, Write, Writes, [], and_parts, ap, each, element_of, element_text, false, first, if◌then◌else◌, is_none, list_of, map, no_writes, not, one_kind, option_map, option_map_or, refl, same_format, same_kind, settled_elements, subst, sym, texts, then_give, then_try, true, unwrap_or, wire, write, writes_of, ℕ, ℤ, ◌&&◌, ◌||◌, ◌∙◌, ◌∷◌, ◌≡◌, ◌≢◌, is_flat, AreItems, HaveFormat, each_first, one_format_or_none, fits_in_range}
+use Rattle.smithy_served.proofs.Common.{is_element_plain, tokens_of, HttpError, header_format, or_parse_refusal, scalar_of_element, elements, read_scalar, all_read, list_by, value_by_kind, value_within, write_by, value_read, SerdeError, tokens-listed, times_are_read, listed, spelled_wire, Bool, Header, Held, List, Ok, Option, Result, Scalar, Schema, ShapeType, Some, TimestampFormat, Value, Write, Writes, [], and_parts, ap, each, element_of, element_text, false, if◌then◌else◌, is_none, list_of, map, no_writes, not, one_kind, option_map, option_map_or, refl, same_format, same_kind, settled_elements, subst, sym, texts, then_give, then_try, true, unwrap_or, wire, write, writes_of, ℕ, ℤ, ◌&&◌, ◌||◌, ◌∙◌, ◌∷◌, ◌≡◌, ◌≢◌, is_flat, AreItems, HaveFormat, each_first, one_format_or_none, fits_in_range}
 use Rattle.smithy_types.specs.declared.date_time.Format.TheVariants.{HttpDate}
 use Rattle.smithy_ids.specs.declared.shape_type.ShapeType.TheVariants as kind
 use Rattle.smithy_http.specs.DateLists.{dates_of}

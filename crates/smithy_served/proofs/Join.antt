@@ -1,6 +1,5 @@
 -- Where each member is handed out as its part of the normal form, so are all, before what is left of the body.
 use Rattle.smithy_served.proofs.Common.{Response, Ended, routed, with_route, Route, handed_body, handed_out, passed_over, refused, route, write_by, AreReadAs, AllByRecursion, Bool, Held, List, None, Option, Schema, Some, Value, Write, [], ap, arith, body, cond, cons_option, enumerate_from, false, filter, length, list_any, option_map, or_right, refl, subst, sym, true, ℕ, ◌++◌, ◌+◌, ◌||◌, ◌∷◌, ◌≡◌, ◌≤◌, given, from_bool}
-use Rattle.smithy_serde.specs.Held as held
 use Rattle.smithy_served.proofs.MemberHanded.{HandsSame}
 use Rattle.smithy_served.proofs.Merge.{made_from}
 

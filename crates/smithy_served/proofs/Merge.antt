@@ -1,5 +1,5 @@
 -- The writes of two kinds of members, each in index order, merge into those of all members.
-use Rattle.smithy_served.proofs.Common.{AreIndexed, writes, is_response_bound, in_order, position_of, put_by, joined, write_by, Bool, List, None, Option, Schema, Some, Value, Write, [], ap, cons_option, false, if◌then◌else◌, inl, inr, list_any, not, option_map, option_or, refl, sym, true, ℕ, ◌++◌, ◌+◌, ◌||◌, ◌∙◌, ◌∷◌, ◌≡◌, ◌⊎◌}
+use Rattle.smithy_served.proofs.Common.{AreIndexed, writes, is_response_bound, in_order, position_of, put_by, write_by, Bool, List, None, Option, Schema, Some, Value, Write, [], ap, cons_option, false, if◌then◌else◌, inl, inr, list_any, not, option_map, option_or, refl, sym, true, ℕ, ◌++◌, ◌+◌, ◌||◌, ◌∙◌, ◌∷◌, ◌≡◌, ◌⊎◌}
 use Rattle.smithy_recovery.proofs.Merging as merging
 
 -- the writes of members by their positions

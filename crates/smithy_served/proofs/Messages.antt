@@ -1,7 +1,7 @@
 -- What a checked output says of its responses: where each member stands, that their headers tell members apart, and that one payload, or the unbound members, are the body.
-use Rattle.smithy_served.proofs.Common.{member-in, IsCheckedOutput, has_response_body_member, is_response_bound_once, response_payload_kind, as_output, Source, in_body, in_header, in_payload, in_prefix, in_status, source_at, source_of, Traits, is_response_bound, AllByRecursion, Binding, Bool, List, None, Option, Schema, Some, and_from, and_parts, ap, are_distinct, arith, binding_at, binding_of, each, false, filter, filter_map, find, has_at_most_one, has_sound_headers, has_unbound_member, headers, is_bound, is_outside_body, is_payload, is_some, is_sound_payload, is_text_map, leb-true, length, list_all, list_any, map, members_of, members_with, nat_eq, nat_le, not, option_map, payload_kind, refl, slice_get, starts_with, str_to_ascii_lowercase, subst, sym, to_header, to_label, to_payload, to_prefix, true, ℕ, ◌&&◌, ◌+◌, ◌==◌, ◌||◌, ◌∙◌, ◌≡◌, ◌≤◌, all_apply, all_from_test, HasOwnNames, IsSoundMessage, members_by_position, find_same, length-map, list_all-from_AllPass, from_bool, slice_get-map, is_token, to_body}
+use Rattle.smithy_served.proofs.Common.{member-in, IsCheckedOutput, has_response_body_member, is_response_bound_once, response_payload_kind, as_output, Source, in_body, in_header, in_payload, in_prefix, in_status, source_at, source_of, Traits, is_response_bound, AllByRecursion, Binding, Bool, List, None, Option, Schema, Some, and_from, and_parts, ap, are_distinct, arith, binding_at, binding_of, false, filter, filter_map, find, has_at_most_one, has_sound_headers, has_unbound_member, is_bound, is_outside_body, is_payload, is_some, is_sound_payload, is_text_map, leb-true, length, list_all, list_any, map, members_of, members_with, nat_eq, nat_le, not, option_map, payload_kind, refl, slice_get, starts_with, str_to_ascii_lowercase, subst, sym, to_header, to_label, to_payload, to_prefix, true, ℕ, ◌&&◌, ◌+◌, ◌==◌, ◌||◌, ◌∙◌, ◌≡◌, ◌≤◌, all_apply, all_from_test, HasOwnNames, IsSoundMessage, members_by_position, find_same, length-map, list_all-from_AllPass, from_bool, slice_get-map, is_token, to_body}
 use Rattle.smithy_binding.specs.declared.direction.Direction.TheVariants as direction
-use Rattle.smithy_served.proofs.Alike.{find-map, filter-map, filter_map-map, any-map, members-out}
+use Rattle.smithy_served.proofs.Alike.{option_map-map, find-map, filter-map, filter_map-map, any-map, members-out}
 
 pub names_out : (schema : Schema) → IsCheckedOutput schema → HasOwnNames schema
 names_out schema checked = record { cited = checked.cited; names = checked.names }
@@ -103,13 +103,9 @@ sound_output schema checked = record {
         ap (λ ms. option_map (λ (m : Schema). m.node.kind) (find (λ m. is_payload (binding_of m)) ms)) (members-out schema)
         ∙ ap (option_map (λ (m : Schema). m.node.kind)) (find-map (λ m. is_payload (binding_of m)) as_output (members_of schema))
         ∙ ap (λ o. option_map (λ (m : Schema). m.node.kind) (option_map as_output o)) (find_same (λ m. is_payload (binding_of (as_output m))) (λ m. m.node.traits.http_payload) (members_of schema) each)
-        ∙ kind_out (find (λ m. m.node.traits.http_payload) (members_of schema))
+        ∙ option_map-map (λ (m : Schema). m.node.kind) as_output (find (λ m. m.node.traits.http_payload) (members_of schema))
       where
         each : AllByRecursion (λ m. is_payload (binding_of (as_output m)) ≡ m.node.traits.http_payload) (members_of schema)
         each =
             all_apply (λ m. is_response_bound_once m ≡ true) (λ m. is_payload (binding_of (as_output m)) ≡ m.node.traits.http_payload) (members_of schema) payload_out
             (all_from_test is_response_bound_once (members_of schema) (list_all-from_AllPass is_response_bound_once (members_of schema) checked.bound_once))
-
-        kind_out : (o : Option Schema) → option_map (λ (m : Schema). m.node.kind) (option_map as_output o) ≡ option_map (λ (m : Schema). m.node.kind) o
-        kind_out None = refl
-        kind_out (Some m) = refl

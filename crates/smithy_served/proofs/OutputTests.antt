@@ -1,5 +1,5 @@
 -- The fields of typed outputs as tests: an output that passes all of them is typed.
-use Rattle.smithy_served.proofs.Common.{◌≡◌, refl, ℕ, codes, Bool, true, false, not, ◌||◌, List, [], ◌∷◌, Option, Some, None, is_none, is_some, option_and_then, list_all, AllByRecursion, Schema, Write, are_in_range, doc_of, firsts, document_value, prefixes, as_output, Protocol, code_write, is_shaped_write, is_shallow, answer_fault, IsTypedOutput, bodied, is_shaped_payload, is_typed_header, has_code, writes_defaults, begins_no_default, all_from_test}
+use Rattle.smithy_served.proofs.Common.{◌≡◌, refl, ℕ, codes, Bool, true, false, not, ◌||◌, List, [], ◌∷◌, is_none, is_some, option_and_then, list_all, AllByRecursion, Schema, Write, are_in_range, doc_of, firsts, document_value, prefixes, as_output, Protocol, code_write, is_shaped_write, is_shallow, answer_fault, IsTypedOutput, bodied, is_shaped_payload, is_typed_header, has_code, writes_defaults, begins_no_default, all_from_test}
 use Rattle.std.specs.Bool.{IsTrue}
 use Rattle.smithy_served.proofs.Alike.{none_is}
 

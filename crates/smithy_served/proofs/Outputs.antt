@@ -86,9 +86,13 @@ pub every_place_is_checked : checked_output every_place ≡ true
 unfolding served_on_literals
 every_place_is_checked = refl
 
--- a list whose node has no element node, a header with a default's name, and a prefix of one
-abbrev bare_list : Schema
-bare_list = structure_of 1 (member 0 (codes "Items") kind.List no_traits ∷ [])
+-- a list whose node has no element node, in the object of the body or as a payload; a payload of bytes;
+-- a header with a default's name, and a prefix of one
+abbrev bare_list : Traits → Schema
+bare_list traits = structure_of 1 (member 0 (codes "Items") kind.List traits ∷ [])
+
+abbrev bytes_output : Schema
+bytes_output = structure_of 1 (member 0 (codes "Body") kind.Blob payload ∷ [])
 
 abbrev typed_header : Schema
 typed_header = structure_of 2 (member 0 (codes "Type") kind.String (header (codes "Content-Type")) ∷ member 1 (codes "Name") kind.String no_traits ∷ [])
@@ -96,10 +100,12 @@ typed_header = structure_of 2 (member 0 (codes "Type") kind.String (header (code
 abbrev wide_prefix : Schema
 wide_prefix = structure_of 1 (with_entries 1 1 (member 0 (codes "Meta") kind.Map (prefix_map (codes "Content-"))) ∷ string_node ∷ [])
 
--- an output with each binding that is typed, and for each reason one that is not, with the field that it fails
+-- outputs that are typed, with each binding, and for each reason one that is not, with the field that it fails
 abbrev typed_rows : List (Schema × List Write × List (List ℕ))
 typed_rows =
     (every_place, output (codes "\"x\"") ((codes "K", codes "v") ∷ []) 201, [])
+    ∷ (bytes_output, to bytes_output 0 (scalar (blob (codes "abc"))) ∷ [], [])
+    ∷ (every_place, to every_place 2 (number 2147483648) ∷ output (codes "x") [] 200, codes "in_range" ∷ [])
     -- white space at the end of a header and of an entry, and a key that stands twice
     ∷ (every_place, output (codes " x") [] 200, codes "header_values" ∷ [])
     ∷ (every_place, output (codes "x") ((codes "k", codes "v ") ∷ []) 200, codes "header_values" ∷ [])
@@ -107,7 +113,8 @@ typed_rows =
     -- a code that is no status, and one that is not written
     ∷ (every_place, output (codes "x") [] 99, codes "conforming" ∷ [])
     ∷ (every_place, to every_place 5 (word (codes "a")) ∷ [], codes "code" ∷ [])
-    ∷ (bare_list, to bare_list 0 (elements (word (codes "a") ∷ [])) ∷ [], codes "unbound_shaped" ∷ [])
+    ∷ (bare_list no_traits, to (bare_list no_traits) 0 (elements (word (codes "a") ∷ [])) ∷ [], codes "unbound_shaped" ∷ [])
+    ∷ (bare_list payload, to (bare_list payload) 0 (elements (word (codes "a") ∷ [])) ∷ [], codes "payload_shaped" ∷ [])
     ∷ (typed_header, to typed_header 1 (word (codes "a")) ∷ [], codes "defaults" ∷ [])
     ∷ (wide_prefix, to wide_prefix 0 (string_map []) ∷ [], codes "prefixed" ∷ [])
     ∷ []
@@ -115,9 +122,6 @@ typed_rows =
 pub each_reason : map (λ r. failing json r.0 r.1) typed_rows ≡ map (λ r. r.2) typed_rows
 unfolding served_on_literals
 each_reason = refl
-
-abbrev bytes_output : Schema
-bytes_output = structure_of 1 (member 0 (codes "Body") kind.Blob payload ∷ [])
 
 -- outputs with their normal forms
 abbrev view_rows : List (Schema × List Write × List Write)

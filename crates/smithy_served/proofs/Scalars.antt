@@ -1,7 +1,6 @@
 -- A header is read as the scalar that its text was written of.
 use Rattle.smithy_served.proofs.Common.{standard, one_text_of, begins_with_white_space, ends_with_white_space, HttpError, are_empty, has_nothing, is_plain_text, decoded_text, header_format, item_of_text, no_value, one_of, one_token, or_parse_refusal, scalar_of_header, text_of_header, time_of_header, read_scalar, is_in_width, is_scalar_in_range, value_by_kind, value_within, value_read, Width, byte, integer, long, short, SerdeError, is_trimmed, times_are_read, listed, is_wire_of, spelled_wire, text_of_bytes, text_of_wire, unwired, scalar_wire, has_narrow_coefficient, is_big_decimal, is_signed_digits, Bool, Err, Header, Held, List, None, Ok, Option, Result, Scalar, Schema, ShapeType, Some, TimestampFormat, Value, [], and_parts, ap, base64, codes, cond, false, fits, if◌then◌else◌, is_in_range, is_none, is_some, is_utf8, not, then_some, option_and_then, option_map, refl, same_kind, scalar_kind, sym, text_of_key, then_give, then_try, true, wire, ℕ, ℤ, ◌&&◌, ◌||◌, ◌∙◌, ◌∷◌, ◌≡◌, ◌≢◌, is_flat, taken, IsUtf8-from_is_utf8, ok_or, chars, trim, fits_in_range}
 use Rattle.base64.specs.GeneralPurpose.{decoded_of}
-use Rattle.smithy_types.specs.Timestamps.{timestamp_text}
 use Rattle.smithy_ids.specs.declared.shape_type.ShapeType.TheVariants as kind
 use Rattle.smithy_http.specs.declared.error.HttpError.TheVariants as error
 use Rattle.smithy_serde.specs.Held as held
