@@ -1,5 +1,5 @@
 -- Worked rows of outputs: which are typed, what one fails where it is not, and normal forms.
-use Rattle.smithy_served.proofs.Common.{range_with_len, option_map_or, ◌≡◌, refl, ℕ, codes, true, List, [], ◌∷◌, ◌++◌, map, flat_map, Option, Some, None, pos, ShapeType, Schema, Node, Table, Traits, no_traits, bare_node, member_at, Label, Value, Write, scalar, text, blob, list, label_of, writes_of, checked_output, Protocol, answer_view}
+use Rattle.smithy_served.proofs.Common.{zero, suc, range_with_len, option_map_or, ◌≡◌, refl, ℕ, codes, true, List, [], ◌∷◌, ◌++◌, map, flat_map, Option, Some, None, pos, ShapeType, Schema, Node, Table, Traits, no_traits, bare_node, member_at, Label, Value, Write, scalar, text, blob, list, label_of, writes_of, checked_output, Protocol, answer_view}
 use Rattle.smithy_ids.specs.declared.shape_type.ShapeType.TheVariants as kind
 use Rattle.smithy_serde.specs.Values as value
 use Rattle.smithy_document.specs.JsonText.{json_text}
@@ -86,10 +86,17 @@ pub every_place_is_checked : checked_output every_place ≡ true
 unfolding served_on_literals
 every_place_is_checked = refl
 
--- a list whose node has no element node, in the object of the body or as a payload; a payload of bytes;
+-- a list whose node has no element node, in the object of the body or as a payload; lists of lists without an end; a payload of bytes;
 -- a header with a default's name, and a prefix of one
 abbrev bare_list : Traits → Schema
 bare_list traits = structure_of 1 (member 0 (codes "Items") kind.List traits ∷ [])
+
+abbrev deep_list : Schema
+deep_list = structure_of 1 (with_element 1 (member 0 (codes "Lists") kind.List no_traits) ∷ with_element 1 (Some (bare_node (codes "ex#Lists") kind.List)) ∷ [])
+
+abbrev nested : ℕ → Value
+nested zero = elements []
+nested (suc levels) = elements (nested levels ∷ [])
 
 abbrev bytes_output : Schema
 bytes_output = structure_of 1 (member 0 (codes "Body") kind.Blob payload ∷ [])
@@ -115,6 +122,7 @@ typed_rows =
     ∷ (every_place, to every_place 5 (word (codes "a")) ∷ [], codes "code" ∷ [])
     ∷ (bare_list no_traits, to (bare_list no_traits) 0 (elements (word (codes "a") ∷ [])) ∷ [], codes "unbound_shaped" ∷ [])
     ∷ (bare_list payload, to (bare_list payload) 0 (elements (word (codes "a") ∷ [])) ∷ [], codes "payload_shaped" ∷ [])
+    ∷ (deep_list, to deep_list 0 (nested 100) ∷ [], codes "shallow" ∷ [])
     ∷ (typed_header, to typed_header 1 (word (codes "a")) ∷ [], codes "defaults" ∷ [])
     ∷ (wide_prefix, to wide_prefix 0 (string_map []) ∷ [], codes "prefixed" ∷ [])
     ∷ []
