@@ -1,5 +1,5 @@
 -- The writes of two kinds of members, each in index order, merge into those of all members.
-use Rattle.smithy_served.proofs.Common.{◌≡◌, refl, sym, ◌∙◌, ap, ℕ, Bool, true, false, ◌⊎◌, inl, inr, List, [], ◌∷◌, ◌++◌, Option, Some, None, if◌then◌else◌, option_or, Schema, is_response_bound, in_order, position_of, put_by, Value, Write, AreIndexed, writes}
+use Rattle.smithy_served.proofs.Common.{AreIndexed, writes, is_response_bound, in_order, position_of, put_by, write_by, Bool, List, None, Option, Schema, Some, Value, Write, [], ap, cons_option, false, if◌then◌else◌, inl, inr, list_any, not, option_map, option_or, refl, sym, true, ℕ, ◌++◌, ◌+◌, ◌||◌, ◌∙◌, ◌∷◌, ◌≡◌, ◌⊎◌}
 use Rattle.smithy_recovery.proofs.Merging as merging
 
 -- the writes of members by their positions
@@ -34,6 +34,12 @@ merged v ms us index ordered =
     joined true (Some v) = refl
     joined false o = refl
 
--- writes of members in index order stay as they are
-pub made_ordered : (v : ℕ → Schema → Option Value) (k : ℕ) (ms : List Schema) → AreIndexed k ms → in_order (made_from v k ms) ≡ made_from v k ms
-made_ordered v k ms index = merging.ordered (λ p. v p.0 p.1) k ms index
+-- nothing is made of others where there are none
+pub none_free : (v : ℕ → Schema → Option Value) (k : ℕ) (ms : List Schema) → list_any (λ m. not (is_response_bound m)) ms ≡ false → [] ≡ made_from (free_part v) k ms
+none_free v k [] none = refl
+none_free v k (m ∷ ms) none = go (is_response_bound m) none (none_free v (k + 1) ms)
+  where
+    go : (b : Bool) → (not b || list_any (λ m. not (is_response_bound m)) ms) ≡ false → (list_any (λ m. not (is_response_bound m)) ms ≡ false → [] ≡ made_from (free_part v) (k + 1) ms)
+        → [] ≡ cons_option (option_map (write_by m) (if b then None else v k m)) (made_from (free_part v) (k + 1) ms)
+    go true e rest = rest e
+    go false e rest = absurd (cc e)

@@ -1,6 +1,7 @@
 -- The fields of typed outputs as tests: an output that passes all of them is typed.
-use Rattle.smithy_served.proofs.Common.{◌≡◌, refl, ℕ, codes, Bool, true, false, not, ◌||◌, List, [], ◌∷◌, Option, Some, None, is_none, is_some, option_and_then, list_all, AllByRecursion, Schema, Write, are_in_range, doc_of, firsts, document_value, prefixes, as_output, Protocol, code_write, is_shaped_write, is_shallow, answer_fault, IsTypedOutput, bodied, is_shaped_payload, is_typed_header, has_code, writes_defaults, begins_no_default, all_from_test}
+use Rattle.smithy_served.proofs.Common.{◌≡◌, refl, ℕ, codes, Bool, true, false, not, ◌||◌, List, [], ◌∷◌, is_none, is_some, option_and_then, list_all, AllByRecursion, Schema, Write, are_in_range, doc_of, firsts, document_value, prefixes, as_output, Protocol, code_write, is_shaped_write, is_shallow, answer_fault, IsTypedOutput, bodied, is_shaped_payload, is_typed_header, has_code, writes_defaults, begins_no_default, all_from_test}
 use Rattle.std.specs.Bool.{IsTrue}
+use Rattle.smithy_served.proofs.Alike.{none_is}
 
 -- the tests under the names of their fields
 abbrev tests : Protocol → Schema → List Write → List (List ℕ × Bool)
@@ -31,16 +32,12 @@ passed [] e = tt
 passed ((name, true) ∷ ts) e = (refl, passed ts e)
 passed ((name, false) ∷ ts) e = absurd (cc e)
 
-none : {X : Type 0} (o : Option X) → is_none o ≡ true → o ≡ None
-none None e = refl
-none (Some x) e = absurd (cc e)
-
 pub typed_if_nothing_fails : (protocol : Protocol) (schema : Schema) (ws : List Write) → failing protocol schema ws ≡ [] → IsTypedOutput protocol schema ws
 typed_if_nothing_fails protocol schema ws e =
     let t = passed (tests protocol schema ws) e in
     record {
       in_range = t.0;
-      conforming = none _ t.1.0;
+      conforming = none_is _ t.1.0;
       unbound_shaped = all_from_test is_shaped_write _ t.1.1.0;
       payload_shaped = all_from_test is_shaped_payload _ t.1.1.1.0;
       shallow = t.1.1.1.1.0;

@@ -1,5 +1,5 @@
 -- Worked rows of outputs: which are typed, what one fails where it is not, and normal forms.
-use Rattle.smithy_served.proofs.Common.{range_with_len, option_map_or, ◌≡◌, refl, ℕ, codes, true, List, [], ◌∷◌, ◌++◌, map, flat_map, Option, Some, None, pos, ShapeType, Schema, Node, Table, Traits, no_traits, bare_node, member_at, Label, Value, Write, scalar, text, blob, list, label_of, writes_of, checked_output, Protocol, answer_view}
+use Rattle.smithy_served.proofs.Common.{zero, suc, range_with_len, option_map_or, ◌≡◌, refl, ℕ, codes, true, List, [], ◌∷◌, ◌++◌, map, flat_map, Option, Some, None, pos, ShapeType, Schema, Node, Table, Traits, no_traits, bare_node, member_at, Label, Value, Write, scalar, text, blob, list, label_of, writes_of, checked_output, Protocol, answer_view}
 use Rattle.smithy_ids.specs.declared.shape_type.ShapeType.TheVariants as kind
 use Rattle.smithy_serde.specs.Values as value
 use Rattle.smithy_document.specs.JsonText.{json_text}
@@ -86,71 +86,64 @@ pub every_place_is_checked : checked_output every_place ≡ true
 unfolding served_on_literals
 every_place_is_checked = refl
 
-pub every_place_is_typed : failing json every_place (output (codes "\"x\"") ((codes "K", codes "v") ∷ []) 201) ≡ []
-unfolding served_on_literals
-every_place_is_typed = refl
+-- a list whose node has no element node, in the object of the body or as a payload; lists of lists without an end; a payload of bytes;
+-- a header with a default's name, and a prefix of one
+abbrev bare_list : Traits → Schema
+bare_list traits = structure_of 1 (member 0 (codes "Items") kind.List traits ∷ [])
 
--- each reason for not being typed
+abbrev deep_list : Schema
+deep_list = structure_of 1 (with_element 1 (member 0 (codes "Lists") kind.List no_traits) ∷ with_element 1 (Some (bare_node (codes "ex#Lists") kind.List)) ∷ [])
 
-pub white_space_in_a_header : failing json every_place (output (codes " x") [] 200) ≡ codes "header_values" ∷ []
-unfolding served_on_literals
-white_space_in_a_header = refl
-
-pub white_space_in_an_entry : failing json every_place (output (codes "x") ((codes "k", codes "v ") ∷ []) 200) ≡ codes "header_values" ∷ []
-unfolding served_on_literals
-white_space_in_an_entry = refl
-
-pub key_twice : failing json every_place (output (codes "x") ((codes "k", codes "v") ∷ (codes "k", codes "w") ∷ []) 200) ≡ codes "header_values" ∷ []
-unfolding served_on_literals
-key_twice = refl
-
-pub no_status : failing json every_place (output (codes "x") [] 99) ≡ codes "conforming" ∷ []
-unfolding served_on_literals
-no_status = refl
-
-pub code_unwritten : failing json every_place (to every_place 5 (word (codes "a")) ∷ []) ≡ codes "code" ∷ []
-unfolding served_on_literals
-code_unwritten = refl
-
--- a list whose node has no element node
-abbrev bare_list : Schema
-bare_list = structure_of 1 (member 0 (codes "Items") kind.List no_traits ∷ [])
-
-pub body_not_shaped : failing json bare_list (to bare_list 0 (elements (word (codes "a") ∷ [])) ∷ []) ≡ codes "unbound_shaped" ∷ []
-unfolding served_on_literals
-body_not_shaped = refl
-
-abbrev typed_header : Schema
-typed_header = structure_of 2 (member 0 (codes "Type") kind.String (header (codes "Content-Type")) ∷ member 1 (codes "Name") kind.String no_traits ∷ [])
-
-pub default_unwritten : failing json typed_header (to typed_header 1 (word (codes "a")) ∷ []) ≡ codes "defaults" ∷ []
-unfolding served_on_literals
-default_unwritten = refl
-
-abbrev wide_prefix : Schema
-wide_prefix = structure_of 1 (with_entries 1 1 (member 0 (codes "Meta") kind.Map (prefix_map (codes "Content-"))) ∷ string_node ∷ [])
-
-pub prefix_of_a_default : failing json wide_prefix (to wide_prefix 0 (string_map []) ∷ []) ≡ codes "prefixed" ∷ []
-unfolding served_on_literals
-prefix_of_a_default = refl
-
--- normal forms
-
-pub view_of_every_place : answer_view every_place (output (codes "x") ((codes "K", codes "v") ∷ []) 201)
-    ≡ to every_place 0 (number 201) ∷ to every_place 1 (word (codes "x")) ∷ to every_place 3 (strings (codes "b" ∷ codes "c d" ∷ []))
-    ∷ to every_place 4 (string_map ((codes "k", codes "v") ∷ [])) ∷ to every_place 5 (word (codes "e")) ∷ []
-unfolding served_on_literals
-view_of_every_place = refl
-
--- an empty text stands as a header, an empty list does not, and the map is there in any case
-pub view_of_little : answer_view every_place (to every_place 3 (strings []) ∷ to every_place 1 (word []) ∷ [])
-    ≡ to every_place 1 (word []) ∷ to every_place 4 (string_map []) ∷ []
-unfolding served_on_literals
-view_of_little = refl
+abbrev nested : ℕ → Value
+nested zero = elements []
+nested (suc levels) = elements (nested levels ∷ [])
 
 abbrev bytes_output : Schema
 bytes_output = structure_of 1 (member 0 (codes "Body") kind.Blob payload ∷ [])
 
-pub empty_payload : answer_view bytes_output (to bytes_output 0 (scalar (blob [])) ∷ []) ≡ []
+abbrev typed_header : Schema
+typed_header = structure_of 2 (member 0 (codes "Type") kind.String (header (codes "Content-Type")) ∷ member 1 (codes "Name") kind.String no_traits ∷ [])
+
+abbrev wide_prefix : Schema
+wide_prefix = structure_of 1 (with_entries 1 1 (member 0 (codes "Meta") kind.Map (prefix_map (codes "Content-"))) ∷ string_node ∷ [])
+
+-- outputs that are typed, with each binding, and for each reason one that is not, with the field that it fails
+abbrev typed_rows : List (Schema × List Write × List (List ℕ))
+typed_rows =
+    (every_place, output (codes "\"x\"") ((codes "K", codes "v") ∷ []) 201, [])
+    ∷ (bytes_output, to bytes_output 0 (scalar (blob (codes "abc"))) ∷ [], [])
+    ∷ (every_place, to every_place 2 (number 2147483648) ∷ output (codes "x") [] 200, codes "in_range" ∷ [])
+    -- white space at the end of a header and of an entry, and a key that stands twice
+    ∷ (every_place, output (codes " x") [] 200, codes "header_values" ∷ [])
+    ∷ (every_place, output (codes "x") ((codes "k", codes "v ") ∷ []) 200, codes "header_values" ∷ [])
+    ∷ (every_place, output (codes "x") ((codes "k", codes "v") ∷ (codes "k", codes "w") ∷ []) 200, codes "header_values" ∷ [])
+    -- a code that is no status, and one that is not written
+    ∷ (every_place, output (codes "x") [] 99, codes "conforming" ∷ [])
+    ∷ (every_place, to every_place 5 (word (codes "a")) ∷ [], codes "code" ∷ [])
+    ∷ (bare_list no_traits, to (bare_list no_traits) 0 (elements (word (codes "a") ∷ [])) ∷ [], codes "unbound_shaped" ∷ [])
+    ∷ (bare_list payload, to (bare_list payload) 0 (elements (word (codes "a") ∷ [])) ∷ [], codes "payload_shaped" ∷ [])
+    ∷ (deep_list, to deep_list 0 (nested 100) ∷ [], codes "shallow" ∷ [])
+    ∷ (typed_header, to typed_header 1 (word (codes "a")) ∷ [], codes "defaults" ∷ [])
+    ∷ (wide_prefix, to wide_prefix 0 (string_map []) ∷ [], codes "prefixed" ∷ [])
+    ∷ []
+
+pub each_reason : map (λ r. failing json r.0 r.1) typed_rows ≡ map (λ r. r.2) typed_rows
 unfolding served_on_literals
-empty_payload = refl
+each_reason = refl
+
+-- outputs with their normal forms
+abbrev view_rows : List (Schema × List Write × List Write)
+view_rows = (
+  every_place,
+  output (codes "x") ((codes "K", codes "v") ∷ []) 201,
+  to every_place 0 (number 201) ∷ to every_place 1 (word (codes "x")) ∷ to every_place 3 (strings (codes "b" ∷ codes "c d" ∷ []))
+      ∷ to every_place 4 (string_map ((codes "k", codes "v") ∷ [])) ∷ to every_place 5 (word (codes "e")) ∷ [],
+)
+    -- an empty text stands as a header, an empty list does not, and the map is there in any case
+    ∷ (every_place, to every_place 3 (strings []) ∷ to every_place 1 (word []) ∷ [], to every_place 1 (word []) ∷ to every_place 4 (string_map []) ∷ [])
+    ∷ (bytes_output, to bytes_output 0 (scalar (blob [])) ∷ [], [])
+    ∷ []
+
+pub each_view : map (λ r. answer_view r.0 r.1) view_rows ≡ map (λ r. r.2) view_rows
+unfolding served_on_literals
+each_view = refl
