@@ -1,6 +1,8 @@
 pub mod Answering
+pub mod AwsAnswers
 pub mod AwsBodies
 pub mod Gateway
+pub mod GetItem
 pub mod GetObject
 pub mod LenientText
 pub mod Members
@@ -9,4 +11,5 @@ pub mod RoundTrip
 pub mod Routed
 pub mod Serving
 pub mod Telling
+pub mod UpdateConfiguration
 pub mod WayBack

@@ -1,20 +1,19 @@
 // Bodies as AWS's protocols have them.
-ghost use Rattle.std.specs.Prelude.{◌≡◌, false, IfOk, IfSome, IsErr};
+ghost use Rattle.std.specs.Prelude.{IfOk, IfSome};
 ghost use Rattle.smithy_schema.specs.References.{schema_of};
 ghost use Rattle.smithy_serde.specs.StructValues.{members_of};
-ghost use Rattle.smithy_binding.specs.Checked.{checked_input as checked};
-ghost use Rattle.smithy_wire.specs.WireNames.{stands};
-ghost use Rattle.uses.specs.AwsBodies.{AwsAnswers, ComesFromBody, IsAwsBody};
+ghost use Rattle.smithy_binding.specs.Refusing.{Answers};
+ghost use Rattle.uses.specs.AwsBodies.{aws_request, ComesFromBody, IsAwsBody};
 
 use crate::documents::structure_in;
 use crate::requests::unplaced;
-use smithy_binding::{HttpBindingProtocol, checked_input};
+use smithy_aws::RestJson1Input;
 use smithy_document::DiscriminatedDocumentExt;
 use smithy_http::Request;
 use smithy_schema::SchemaRef;
 use smithy_serde::{OmitFlags, SerdeError, SerializableStruct, StructValue, ValueReader};
 use smithy_types::{Blob, DiscriminatedDocument, NoSettings};
-use smithy_wire::{Side, WireJson, names_stand, wire_json_is_lawful};
+use smithy_wire::{Side, WireJson, names_stand};
 use std::alloc::Global;
 
 /// The JSON body of an input as restJson1 has it, with its names in JSON; None where names don't stand in requests by the
@@ -35,24 +34,20 @@ pub fn aws_body(
 }
 
 /// The request of an input as restJson1 has it: by its binding traits, its body with names in JSON, or the first fault. It is
-/// refused where no request can be placed by the schema, and where names don't stand in requests by it. Takes memory.
+/// refused where no request is made by the schema. For many inputs of one schema the `RestJson1Input` is made once. Takes memory.
 pub fn aws_request(
     alloc: Global,
     schema: SchemaRef<'_>,
-    input: &StructValue<'_>,
+    input: StructValue<'_>,
     endpoint: &str,
     omit: OmitFlags,
 ) -> Result<Request, SerdeError>
-    ensures answer { AwsAnswers (schema_of schema.entry) (members_of input.now) endpoint.now omit result }
-    ensures refused { checked (schema_of schema.entry) ≡ false → IsErr result }
-    ensures unnamed { stands Side.Request (schema_of schema.entry) ≡ false → IsErr result }
+    ensures { Answers result (aws_request (schema_of schema.entry) (members_of input.entry) endpoint.now omit) }
 {
-    if !checked_input(alloc, schema)? || !names_stand(alloc, schema, Side::Request)? {
-        return Err(unplaced(alloc));
+    match RestJson1Input::new(alloc, schema)? {
+        Some(by) => by.request(alloc, input, endpoint, omit),
+        None => Err(unplaced(alloc)),
     }
-    let protocol = HttpBindingProtocol::rest_json(WireJson::of_input(schema, true));
-    wire_json_is_lawful(protocol.codec());
-    protocol.serialize_request(alloc, input, schema, endpoint, omit)
 }
 
 /// The structure that a body is by the JSON of a node: of the body of writes that follow the reader's node, their normal form. It

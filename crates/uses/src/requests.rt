@@ -4,8 +4,10 @@ ghost use Rattle.smithy_json.specs.JsonView.{view};
 ghost use Rattle.smithy_schema.specs.References.{schema_of};
 ghost use Rattle.smithy_serde.specs.StructValues.{members_of};
 ghost use Rattle.smithy_binding.specs.Checked.{checked_input as checked};
+ghost use Rattle.smithy_binding.specs.Refusing.{Says};
 ghost use Rattle.smithy_job.specs.Jobs.{job};
 ghost use Rattle.smithy_job.specs.Tables.{ReadsAs};
+ghost use Rattle.uses.specs.AwsBodies.{unplaced};
 ghost use Rattle.uses.specs.Answering.{RestAnswers, RpcAnswers, AnswersJob};
 
 use crate::lenient_json::{LenientJson, lenient_is_lawful};
@@ -20,7 +22,9 @@ use smithy_serde::{OmitFlags, SerdeError, StructValue};
 use std::alloc::Global;
 
 // The refusal of a schema that no request can be placed by.
-pub(crate) fn unplaced(alloc: Global) -> SerdeError {
+pub(crate) fn unplaced(alloc: Global) -> SerdeError
+    ensures { Says result unplaced }
+{
     SerdeError::invalid_input(alloc, "no request can be placed by the schema")
 }
 

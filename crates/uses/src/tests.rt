@@ -1,7 +1,9 @@
 // Each use on its happy path. The texts are those of the worked examples and of the protocol's public description.
 mod aws_bodies;
 mod columns;
+mod get_item;
 mod responses;
+mod update_configuration;
 
 use crate::get_object::INPUT;
 use crate::lenient_json::LenientJson;

@@ -28,7 +28,7 @@ fn a_body_has_names_in_json(rt: HostRuntime) -> Result<(), Fail> {
     let schema = table.get(place).expect(&rt, "no node");
     let mut input = StructValue::new(alloc, &table, place);
     input.push(ID, ShapeValue::text(alloc, "a")?)?;
-    let request = aws_request(alloc, schema, &input, "", OmitFlags::KEEP_ALL)?;
+    let request = aws_request(alloc, schema, input, "", OmitFlags::KEEP_ALL)?;
     assert_eq!(rt; request.uri(), "/things");
     assert_eq!(rt; request.headers().get("content-length"), Some("10"));
     assert_eq!(rt; request.body().as_slice(), b"{\"ID\":\"a\"}".as_slice());
