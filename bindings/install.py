@@ -38,10 +38,12 @@ def archives():
 
 def install(folder):
     """Lays the library out below the folder, and gives its folder of archives."""
-    library, allocator = archives()
     include, lib = folder / "include", folder / "lib"
     for it in (include, lib / "pkgconfig"):
         it.mkdir(parents=True, exist_ok=True)
+        if not os.access(it, os.W_OK):
+            sys.exit(f"{it} can't be written to")
+    library, allocator = archives()
     shutil.copy(HERE / "c" / "smithy_bind.h", include)
     shutil.copy(HERE / "c" / "smithy_bind.pc", lib / "pkgconfig")
     for it in (library, allocator):
