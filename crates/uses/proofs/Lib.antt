@@ -1,3 +1,5 @@
+pub mod AwsAnswering
+pub mod AwsRequests
 pub mod GatewayLemmas
 pub mod GetObjectSchema
 pub mod JobLemmas

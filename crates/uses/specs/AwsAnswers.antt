@@ -3,12 +3,15 @@ use Rattle.std.specs.Prelude.{ℕ, Bool, true, false, codes, Option, Some, None,
 use Rattle.smithy_types.specs.Results.{then_give, then_try}
 use Rattle.smithy_http.specs.Responses.{Response}
 use Rattle.smithy_http.specs.declared.non_utf8.NonUtf8HeaderHandling.TheVariants.{Reject}
+use Rattle.smithy_registry.specs.declared.composed.ComposedRegistry.{ComposedRegistry}
 use Rattle.smithy_schema.specs.Nodes.{Table, at_place}
+use Rattle.smithy_model.specs.declared.table.ModelTable.{ModelTable}
 use Rattle.smithy_serde.specs.ValueReading.{structure_of}
 use Rattle.smithy_serde.specs.Values.{Value}
 use Rattle.smithy_serde.specs.declared.error.SerdeError.{SerdeError}
 use Rattle.smithy_serde.specs.declared.error.SerdeError.TheVariants.{InvalidInput}
 use Rattle.smithy_aws.specs.BodyValues.{aws_json_value}
+use Rattle.smithy_aws.specs.ErrorShapes.{error_in}
 use Rattle.smithy_aws.specs.ResponseValues.{floored, rest_json1_value, taken}
 use Rattle.uses.specs.declared.answers.Answered.{Answered}
 use Rattle.uses.specs.declared.answers.Answered.TheVariants as answered
@@ -35,10 +38,10 @@ abbrev pub rest_value : Table → ℕ → Bool → Response → Result Value Ser
 rest_value table place is_error r =
     then_try (ok_or (option_and_then (taken is_error) (at_place table place)) unread) λ s. rest_json1_value (floored s) r Reject
 
--- the answer of an operation, whose error, or none, was found in the response
-abbrev pub rest_answer : Table → ℕ → Response → Result (Option ℕ) SerdeError → Result (Option ℕ × Value) SerdeError
-rest_answer table output r found =
-    then_try found (answer_by (rest_value table output false r) λ error. rest_value table error true r)
+-- the answer of an operation, by its output, or by the one of these errors that the response names
+abbrev pub rest_answer : {R : Type 0} {g : _} → Table → ℕ → ComposedRegistry R g → Response → Result (Option ℕ × Value) SerdeError
+rest_answer table output errors r =
+    then_try (error_in errors r) (answer_by (rest_value table output false r) λ error. rest_value table error true r)
 
 -- ---- AWS JSON 1.0 and 1.1
 
@@ -46,7 +49,7 @@ rest_answer table output r found =
 abbrev pub body_value : Table → ℕ → Response → Result Value SerdeError
 body_value table place r = then_try (ok_or (at_place table place) unread) λ n. aws_json_value true n r
 
--- the answer of an operation, whose output and errors are of two tables
-abbrev pub body_answer : Table → ℕ → Table → Response → Result (Option ℕ) SerdeError → Result (Option ℕ × Value) SerdeError
-body_answer outputs output errors r found =
-    then_try found (answer_by (body_value outputs output r) λ error. body_value errors error r)
+-- the answer of an operation, whose errors are of a table of their own
+abbrev pub body_answer : {R : Type 0} {g : _} → ModelTable → Table → ComposedRegistry R g → Response → Result (Option ℕ × Value) SerdeError
+body_answer output table errors r =
+    then_try (error_in errors r) (answer_by (body_value output.table output.index.0 r) λ error. body_value table error r)

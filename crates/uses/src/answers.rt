@@ -1,6 +1,5 @@
 // What a response of AWS's JSON protocols is of an operation: its output, or one of its errors, found by the code in the message.
 ghost use Rattle.std.specs.Prelude.{Some};
-ghost use Rattle.smithy_aws.specs.ErrorShapes.{error_in};
 ghost use Rattle.smithy_serde.specs.ReadCalls.{Gives};
 ghost use Rattle.smithy_serde.specs.Refusals.{IsRefusal};
 ghost use Rattle.smithy_serde.specs.ValueReading.{structure_of};
@@ -60,8 +59,7 @@ pub fn rest_answer<'t>(
     output: SchemaIndex,
     errors: ComposedRegistry<'_, ValueReader<'t>>,
 ) -> Result<Answered<'t>, SerdeError>
-    ensures { Gives answered_view
-        (Some (rest_answer table.now output.0 response.now (error_in errors.entry response.now))) result }
+    ensures { Gives answered_view (Some (rest_answer table.now output.0 errors.entry response.now)) result }
 {
     match response_error(alloc, response, errors)? {
         None => {
@@ -98,8 +96,7 @@ pub fn body_answer<'t>(
     table: &'t Schemas,
     errors: ComposedRegistry<'_, ValueReader<'t>>,
 ) -> Result<Answered<'t>, SerdeError>
-    ensures { Gives answered_view (Some (body_answer output.now.table output.now.index.0 table.now
-        response.now (error_in errors.entry response.now))) result }
+    ensures { Gives answered_view (Some (body_answer output.now table.now errors.entry response.now)) result }
 {
     match response_error(alloc, response, errors)? {
         None => {

@@ -2,12 +2,9 @@
 ghost use Rattle.std.specs.Prelude.{◌≡◌, codes};
 ghost use Rattle.smithy_ids.specs.ShapeIdParts.{parts_of};
 ghost use Rattle.smithy_json.specs.JsonView.{view};
-ghost use Rattle.smithy_schema.specs.References.{schema_of};
-ghost use Rattle.smithy_serde.specs.StructValues.{members_of};
-ghost use Rattle.smithy_binding.specs.Refusing.{Answers};
 ghost use Rattle.smithy_job.specs.Jobs.{job};
 ghost use Rattle.smithy_job.specs.Tables.{ReadsAs};
-ghost use Rattle.uses.specs.GetItem.{get_item_request, AnswersGetItem};
+ghost use Rattle.uses.specs.GetItem.{AnswersGetItem, AnswersInput};
 
 use smithy_aws::{AwsJson, AwsJsonVersion};
 use smithy_http::Request;
@@ -49,8 +46,7 @@ pub fn get_item_request(
     endpoint: &str,
     omit: OmitFlags,
 ) -> Result<Request, SerdeError>
-    ensures { Answers result
-        (get_item_request (schema_of schema.entry) (members_of input.entry) endpoint.now omit) }
+    ensures { AnswersInput schema.entry input.entry endpoint.now omit result }
 {
     let call = AwsJson {
         version: AwsJsonVersion::V1_0,
