@@ -16,6 +16,9 @@ const OPERATION: &str = "com.amazonaws.dynamodb#GetItem";
 
 const OUTPUT: &str = "com.amazonaws.dynamodb#GetItemOutput";
 
+const REFUSAL: &[u8] =
+    br#"{"__type":"com.amazonaws.dynamodb.v20120810#ResourceNotFoundException","message":"no such table"}"#;
+
 const NOT_FOUND: &str = "com.amazonaws.dynamodb#ResourceNotFoundException";
 
 #[test]
@@ -57,20 +60,18 @@ fn an_item_is_read_and_an_error_found(rt: HostRuntime) -> Result<(), Fail> {
     let errors = errors.or(&service);
 
     let found = message(alloc, 200, br#"{"Item":{"Year":{"N":"1992"}}}"#)?;
-    match body_answer(alloc, &found, &output, &missing.table, errors)? {
-        Answered::Output(item) => assert_eq!(rt; item.schema().full_name(), OUTPUT),
-        Answered::Error(_, _) => return Err(Fail::new("an error")),
-    }
+    let answer = body_answer(alloc, &found, &output, &missing.table, errors)?;
+    let Answered::Output(item) = &answer else {
+        return Err(Fail::new("no output"));
+    };
+    assert_eq!(rt; item.schema().full_name(), OUTPUT);
 
-    let body =
-        br#"{"__type":"com.amazonaws.dynamodb.v20120810#ResourceNotFoundException","message":"no such table"}"#;
-    let refused = message(alloc, 400, body)?;
-    match body_answer(alloc, &refused, &output, &missing.table, errors)? {
-        Answered::Output(_) => return Err(Fail::new("an output")),
-        Answered::Error(place, error) => {
-            assert!(rt; place == missing.index);
-            assert_eq!(rt; text_named(&error, "message"), Some("no such table"));
-        }
-    }
+    let refused = message(alloc, 400, REFUSAL)?;
+    let answer = body_answer(alloc, &refused, &output, &missing.table, errors)?;
+    let Answered::Error(place, error) = &answer else {
+        return Err(Fail::new("no error"));
+    };
+    assert!(rt; *place == missing.index);
+    assert_eq!(rt; text_named(error, "message"), Some("no such table"));
     Ok(())
 }

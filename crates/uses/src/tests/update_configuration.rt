@@ -60,12 +60,12 @@ fn an_output_has_a_time_of_a_text(rt: HostRuntime) -> Result<(), Fail> {
     let table = update_configuration_table(alloc)?;
     let body = br#"{"id":"c-1234","created":"2020-07-28T14:40:04.573Z","name":"first","arn":"a"}"#;
     let answer = answered(alloc, &table, 200, Headers::new(alloc), body)?;
-    let Answered::Output(output) = answer else {
+    let Answered::Output(output) = &answer else {
         return Err(Fail::new("no output"));
     };
-    assert_eq!(rt; text_named(&output, "Id"), Some("c-1234"));
-    assert_eq!(rt; text_named(&output, "Name"), Some("first"));
-    assert_eq!(rt; seconds_in(&output), Some(1_595_947_204));
+    assert_eq!(rt; text_named(output, "Id"), Some("c-1234"));
+    assert_eq!(rt; text_named(output, "Name"), Some("first"));
+    assert_eq!(rt; seconds_in(output), Some(1_595_947_204));
     Ok(())
 }
 
@@ -77,17 +77,14 @@ fn a_response_names_its_error(rt: HostRuntime) -> Result<(), Fail> {
     headers.try_insert("x-amzn-ErrorType", "NotFoundException")?;
     let body = br#"{"errorAttribute":"configuration-id","message":"no such configuration"}"#;
     let answer = answered(alloc, &table, 404, headers, body)?;
-    let Answered::Error(place, error) = answer else {
+    let Answered::Error(place, error) = &answer else {
         return Err(Fail::new("no error"));
     };
-    assert!(rt; place == NOT_FOUND);
+    assert!(rt; *place == NOT_FOUND);
     assert_eq!(rt;
-        text_named(&error, "ErrorAttribute"),
+        text_named(error, "ErrorAttribute"),
         Some("configuration-id")
     );
-    assert_eq!(rt;
-        text_named(&error, "Message"),
-        Some("no such configuration")
-    );
+    assert_eq!(rt; text_named(error, "Message"), Some("no such configuration"));
     Ok(())
 }

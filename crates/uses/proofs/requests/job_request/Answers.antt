@@ -16,5 +16,5 @@ returns-in_err-table c =
 
 pub returns : goal.returns
 returns c =
-    job_answered (job (view c.args.value.now)) c.in_ok-table.field-0 (schema_of c.in-Some.schema) (members_of c.with_writes-input.result) c.rest_request.result
+    job_answered AnswersJob (job (view c.args.value.now)) c.in_ok-table.field-0 (schema_of c.in-Some.schema) (members_of c.with_writes-input.result) c.rest_request.result
     c.in_ok-table.ensures c.in-Some.ensures.node (search rules) c.rest_request.ensures.answer
