@@ -7,12 +7,12 @@ use Rattle.uses.proofs.answers.rest_answer.Goals as goal
 pub returns-in_err-response_error : goal.returns-in_err-response_error
 returns-in_err-response_error c =
     not_found (error_in c.args.errors c.args.response.now) (rest_value c.args.table.now c.args.output.0 false c.args.response.now) (λ error. rest_value c.args.table.now error true c.args.response.now)
-    _ c.from_residual.result (search rules) c.in_err-response_error.ensures
+    c.in_err-response_error.field-0.0 c.from_residual.result (search rules) c.in_err-response_error.ensures
 
 pub returns-in_err-value-in-None : goal.returns-in_err-value-in-None
 returns-in_err-value-in-None c =
     output_refused (error_in c.args.errors c.args.response.now) (rest_value c.args.table.now c.args.output.0 false c.args.response.now) (λ error. rest_value c.args.table.now error true c.args.response.now)
-    (rw c.in-None.is at c.in_ok-response_error.ensures) _ c.from_residual-in_err-value-in-None.result (search rules) c.in_err-value-in-None.ensures
+    (rw c.in-None.is at c.in_ok-response_error.ensures) c.in_err-value-in-None.field-0.0 c.from_residual-in_err-value-in-None.result (search rules) c.in_err-value-in-None.ensures
 
 pub returns-in_ok-value-in-None : goal.returns-in_ok-value-in-None
 returns-in_ok-value-in-None c =
@@ -22,7 +22,7 @@ returns-in_ok-value-in-None c =
 pub returns-in_err-value-in-Some : goal.returns-in_err-value-in-Some
 returns-in_err-value-in-Some c =
     error_refused (error_in c.args.errors c.args.response.now) (rest_value c.args.table.now c.args.output.0 false c.args.response.now) (λ error. rest_value c.args.table.now error true c.args.response.now)
-    c.in-Some.error (rw c.in-Some.is at c.in_ok-response_error.ensures) _ c.from_residual-in_err-value-in-Some.result (search rules) c.in_err-value-in-Some.ensures
+    c.in-Some.error (rw c.in-Some.is at c.in_ok-response_error.ensures) c.in_err-value-in-Some.field-0.0 c.from_residual-in_err-value-in-Some.result (search rules) c.in_err-value-in-Some.ensures
 
 pub returns-in_ok-value-in-Some : goal.returns-in_ok-value-in-Some
 returns-in_ok-value-in-Some c =
