@@ -4,27 +4,27 @@ use Rattle.uses.specs.AwsAnswers.{rest_value}
 use Rattle.uses.proofs.AwsAnswering.{error_refused, error_told, not_found, output_refused, output_told}
 use Rattle.uses.proofs.answers.rest_answer.Goals as goal
 
-pub returns-in_err-error : goal.returns-in_err-error
-returns-in_err-error c =
+pub returns-in_err-response_error : goal.returns-in_err-response_error
+returns-in_err-response_error c =
     not_found (error_in c.args.errors c.args.response.now) (rest_value c.args.table.now c.args.output.0 false c.args.response.now) (λ error. rest_value c.args.table.now error true c.args.response.now)
-    _ c.from_residual.result (search rules) c.in_err-error.ensures
+    c.in_err-response_error.field-0.0 c.from_residual.result (search rules) c.in_err-response_error.ensures
 
-pub returns-in_err-value : goal.returns-in_err-value
-returns-in_err-value c =
+pub returns-in_err-value-in-None : goal.returns-in_err-value-in-None
+returns-in_err-value-in-None c =
     output_refused (error_in c.args.errors c.args.response.now) (rest_value c.args.table.now c.args.output.0 false c.args.response.now) (λ error. rest_value c.args.table.now error true c.args.response.now)
-    (rw c.in-None.is at c.in_ok-error.ensures) _ c.from_residual-in_err-value.result (search rules) c.in_err-value.ensures
+    (rw c.in-None.is at c.in_ok-response_error.ensures) c.in_err-value-in-None.field-0.0 c.from_residual-in_err-value-in-None.result (search rules) c.in_err-value-in-None.ensures
 
-pub returns-in-None : goal.returns-in-None
-returns-in-None c =
+pub returns-in_ok-value-in-None : goal.returns-in_ok-value-in-None
+returns-in_ok-value-in-None c =
     output_told (error_in c.args.errors c.args.response.now) (rest_value c.args.table.now c.args.output.0 false c.args.response.now) (λ error. rest_value c.args.table.now error true c.args.response.now)
-    (rw c.in-None.is at c.in_ok-error.ensures) c.in_ok-value.value c.in_ok-value.ensures
+    (rw c.in-None.is at c.in_ok-response_error.ensures) c.in_ok-value-in-None.value c.in_ok-value-in-None.ensures
 
-pub returns-in_err-value-2 : goal.returns-in_err-value-2
-returns-in_err-value-2 c =
+pub returns-in_err-value-in-Some : goal.returns-in_err-value-in-Some
+returns-in_err-value-in-Some c =
     error_refused (error_in c.args.errors c.args.response.now) (rest_value c.args.table.now c.args.output.0 false c.args.response.now) (λ error. rest_value c.args.table.now error true c.args.response.now)
-    c.in-Some.error (rw c.in-Some.is at c.in_ok-error.ensures) _ c.from_residual-in_err-value-2.result (search rules) c.in_err-value-2.ensures
+    c.in-Some.error (rw c.in-Some.is at c.in_ok-response_error.ensures) c.in_err-value-in-Some.field-0.0 c.from_residual-in_err-value-in-Some.result (search rules) c.in_err-value-in-Some.ensures
 
-pub returns-in-Some : goal.returns-in-Some
-returns-in-Some c =
+pub returns-in_ok-value-in-Some : goal.returns-in_ok-value-in-Some
+returns-in_ok-value-in-Some c =
     error_told (error_in c.args.errors c.args.response.now) (rest_value c.args.table.now c.args.output.0 false c.args.response.now) (λ error. rest_value c.args.table.now error true c.args.response.now)
-    c.in-Some.error (rw c.in-Some.is at c.in_ok-error.ensures) c.in_ok-value-2.value c.in_ok-value-2.ensures
+    c.in-Some.error (rw c.in-Some.is at c.in_ok-response_error.ensures) c.in_ok-value-in-Some.value c.in_ok-value-in-Some.ensures
