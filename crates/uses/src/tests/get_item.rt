@@ -6,7 +6,6 @@ use smithy_model::{Asked, schema_of_operation};
 use smithy_registry::TypeRegistry;
 use smithy_serde::{SerializableStruct, ValueReader};
 use smithy_types::Blob;
-use std::alloc::Global;
 use std::test::Fail;
 
 const JOB: &str =
@@ -40,11 +39,6 @@ fn an_item_is_asked_for(rt: HostRuntime) -> Result<(), Fail> {
     Ok(())
 }
 
-fn message(alloc: Global, status: u16, body: &[u8]) -> Result<Response, Fail> {
-    let body = Blob::new(alloc, body)?;
-    Ok(Response::new(status, Headers::new(alloc), Some(body)))
-}
-
 #[test]
 fn an_item_is_read_and_an_error_found(rt: HostRuntime) -> Result<(), Fail> {
     let alloc = rt.alloc();
@@ -59,14 +53,16 @@ fn an_item_is_read_and_an_error_found(rt: HostRuntime) -> Result<(), Fail> {
     let service = TypeRegistry::new(alloc);
     let errors = errors.or(&service);
 
-    let found = message(alloc, 200, br#"{"Item":{"Year":{"N":"1992"}}}"#)?;
+    let body = Blob::new(alloc, br#"{"Item":{"Year":{"N":"1992"}}}"#)?;
+    let found = Response::new(200, Headers::new(alloc), Some(body));
     let answer = body_answer(alloc, &found, &output, &missing.table, errors)?;
     let Answered::Output(item) = &answer else {
         return Err(Fail::new("no output"));
     };
     assert_eq!(rt; item.schema().full_name(), OUTPUT);
 
-    let refused = message(alloc, 400, REFUSAL)?;
+    let body = Blob::new(alloc, REFUSAL)?;
+    let refused = Response::new(400, Headers::new(alloc), Some(body));
     let answer = body_answer(alloc, &refused, &output, &missing.table, errors)?;
     let Answered::Error(place, error) = &answer else {
         return Err(Fail::new("no error"));

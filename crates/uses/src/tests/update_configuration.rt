@@ -41,17 +41,14 @@ fn seconds_in(value: &StructValue<'_>) -> Option<i64> {
 fn answered<'t>(
     alloc: Global,
     table: &'t Schemas,
-    status: u16,
-    headers: Headers,
-    body: &[u8],
+    response: &Response,
 ) -> Result<Answered<'t>, Fail> {
     let Some(error) = table.get(NOT_FOUND) else {
         return Err(Fail::new("no node"));
     };
     let errors = error_registry(alloc, error, ValueReader::new(table, NOT_FOUND))?;
     let service = TypeRegistry::new(alloc);
-    let response = Response::new(status, headers, Some(Blob::new(alloc, body)?));
-    Ok(rest_answer(alloc, &response, table, OUTPUT, errors.or(&service))?)
+    Ok(rest_answer(alloc, response, table, OUTPUT, errors.or(&service))?)
 }
 
 #[test]
@@ -59,7 +56,8 @@ fn an_output_has_a_time_of_a_text(rt: HostRuntime) -> Result<(), Fail> {
     let alloc = rt.alloc();
     let table = update_configuration_table(alloc)?;
     let body = br#"{"id":"c-1234","created":"2020-07-28T14:40:04.573Z","name":"first","arn":"a"}"#;
-    let answer = answered(alloc, &table, 200, Headers::new(alloc), body)?;
+    let response = Response::new(200, Headers::new(alloc), Some(Blob::new(alloc, body)?));
+    let answer = answered(alloc, &table, &response)?;
     let Answered::Output(output) = &answer else {
         return Err(Fail::new("no output"));
     };
@@ -76,7 +74,8 @@ fn a_response_names_its_error(rt: HostRuntime) -> Result<(), Fail> {
     let mut headers = Headers::new(alloc);
     headers.try_insert("x-amzn-ErrorType", "NotFoundException")?;
     let body = br#"{"errorAttribute":"configuration-id","message":"no such configuration"}"#;
-    let answer = answered(alloc, &table, 404, headers, body)?;
+    let response = Response::new(404, headers, Some(Blob::new(alloc, body)?));
+    let answer = answered(alloc, &table, &response)?;
     let Answered::Error(place, error) = &answer else {
         return Err(Fail::new("no error"));
     };
